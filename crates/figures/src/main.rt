@@ -1,0 +1,10 @@
+// Runs the figures of document 01 that are tested by running, and those that its list lacks, and writes what comes out.
+// The file `stdout` has what should come out, taken from the documents by hand.
+mod text;
+mod walks;
+
+fn main() {
+    walks::marked();
+    walks::further();
+    walks::refusals();
+}

@@ -1,0 +1,6 @@
+pub mod Parts
+pub mod Order
+pub mod Rounding
+pub mod Sums
+pub mod Machine
+pub mod Basics

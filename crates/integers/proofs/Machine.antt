@@ -1,0 +1,99 @@
+-- Machine integers in proofs. A signed local is its bits: `toZ w` reads them and `ofZ w` writes them.
+-- In order: bits that are 0; ranges; lists filled from the front. Assumes nothing.
+use mathlib.Core.Path.{_≡_, refl, sym, ap, subst, _∙_}
+use mathlib.Core.Logic.{_≢_}
+use mathlib.Core.Bool.{Bool, true, false}
+use mathlib.Core.List.{List, [], _∷_, _++_}
+use Prim.Native.Nat.{ℕ, zero, suc, _+_, _-_, _^_, _≤_, _<_}
+use native.Mathlib.Nat.{not-suc-le-zero, le-of-suc-le-suc}
+use native.Mathlib.Numerals.{add-one}
+use native.Mathlib.Omega.{arith}
+use borrow.Author.Tests.{eq-eqb, ne-eqb}
+use lib.Dec.{T, eqb, leb}
+use lib.Pow.{pow-pos}
+use lib.ListN.{length, getD, set, take, drop}
+use lib.IntN.{ℤ, pos, negsuc, natAbs}
+use lib.Signed.{mag}
+use mir.Syntax.{Width}
+use mir.Val.{SFits, hbits, toZ, ofZ}
+use mir.Facts.{toZ-ofZ, toZ-pos, sfits-widen}
+use Rattle.integers.specs.Sums.{tabulate}
+
+-- ---- bits that are 0
+
+pub zero-of-natAbs : (z : ℤ) → natAbs z ≡ 0 → z ≡ pos 0
+zero-of-natAbs (pos n) e = ap pos e
+zero-of-natAbs (negsuc n) e = absurd (omega arith)
+
+pub zero-of-bits : (w : Width) {z : ℤ} → SFits w z → ofZ w z ≡ 0 → natAbs z ≡ 0
+zero-of-bits w {z} f e = ap natAbs (sym (toZ-ofZ f) ∙ ap (toZ w) e ∙ toZ-pos w (pow-pos (hbits w)))
+
+-- a test of the bits against 0 is a test of the magnitude
+pub eqb-of-bits-zero : (w : Width) {z : ℤ} → SFits w z → ofZ w z ≡ 0 → eqb (natAbs z) 0 ≡ true
+eqb-of-bits-zero w f e = eq-eqb _ 0 (zero-of-bits w f e)
+
+pub eqb-of-bits-nonzero : (w : Width) (z : ℤ) → (ofZ w z ≡ 0 → ⊥) → eqb (natAbs z) 0 ≡ false
+eqb-of-bits-nonzero w z h = ne-eqb (natAbs z) 0 (λ e. h (ap (ofZ w) (zero-of-natAbs z e)))
+
+-- ---- ranges
+
+mag-le : (z : ℤ) → mag z ≤ natAbs z
+mag-le (pos n) = omega arith
+mag-le (negsuc n) = omega arith
+
+-- a magnitude below half the width's power fits the width
+pub sfits-of-natAbs : (w : Width) {z : ℤ} {b : ℕ} → natAbs z ≤ b → b < 2 ^ hbits w → SFits w z
+sfits-of-natAbs w {z} {b} h k = record { sfits = omega (arith, mag-le z) }
+
+-- an element that was read out of an array: its range is the bound that the read gives
+pub read-given : (w : Width) (z : ℤ) → mag z < 2 ^ hbits w → toZ w (ofZ w z) ≡ z
+read-given w z h = toZ-ofZ (record { sfits = h })
+
+-- a number read from its bits, cast to a wider signed width and read again: `read-wide w32 w64 tt f`
+pub read-wide : (w w′ : Width) {z : ℤ} → T (leb (hbits w) (hbits w′)) → SFits w z → toZ w′ (ofZ w′ (toZ w (ofZ w z))) ≡ z
+read-wide w w′ t f = ap (λ (x : ℤ). toZ w′ (ofZ w′ x)) (toZ-ofZ f) ∙ toZ-ofZ (sfits-widen t f)
+
+-- ---- a list filled from the front: the first i elements are f 0 up to f (i - 1), the rest is as it was
+
+pub filled : (f : ℕ → ℤ) (i : ℕ) (xs : List ℤ) → List ℤ
+filled f i xs = tabulate i f ++ drop i xs
+
+pub filled-none : (f : ℕ → ℤ) (xs : List ℤ) → filled f 0 xs ≡ xs
+unfolding filled
+filled-none f xs = refl
+
+filled-suc : (f : ℕ → ℤ) (i : ℕ) (xs : List ℤ) → i < length xs → set (filled f i xs) i (f i) ≡ filled f (suc i) xs
+unfolding filled
+filled-suc f i [] h = absurd (not-suc-le-zero h)
+filled-suc f zero (x ∷ xs) h = refl
+filled-suc f (suc i) (x ∷ xs) h = ap (λ (l : List ℤ). f 0 ∷ l) (filled-suc (λ j. f (suc j)) i xs (le-of-suc-le-suc h))
+
+pub filled-more : (f : ℕ → ℤ) (i : ℕ) (xs : List ℤ) → i < length xs → set (filled f i xs) i (f i) ≡ filled f (i + 1) xs
+filled-more f i xs h = subst (λ (k : ℕ). set (filled f i xs) i (f i) ≡ filled f k xs) (sym (add-one i)) (filled-suc f i xs h)
+
+pub length-filled : (f : ℕ → ℤ) (i : ℕ) (xs : List ℤ) → i ≤ length xs → length (filled f i xs) ≡ length xs
+unfolding filled
+length-filled f zero xs h = refl
+length-filled f (suc i) [] h = absurd (not-suc-le-zero h)
+length-filled f (suc i) (x ∷ xs) h = ap suc (length-filled (λ j. f (suc j)) i xs (le-of-suc-le-suc h))
+
+-- a whole list filled
+pub filled-all : (f : ℕ → ℤ) (i : ℕ) (xs : List ℤ) → length xs ≡ i → filled f i xs ≡ tabulate i f
+unfolding filled
+filled-all f zero [] e = refl
+filled-all f zero (x ∷ xs) e = absurd (omega arith)
+filled-all f (suc i) [] e = absurd (omega arith)
+filled-all f (suc i) (x ∷ xs) e = ap (λ (l : List ℤ). f 0 ∷ l) (filled-all (λ j. f (suc j)) i xs (omega arith))
+
+pub length-tabulate : (n : ℕ) (f : ℕ → ℤ) → length (tabulate n f) ≡ n
+length-tabulate zero f = refl
+length-tabulate (suc n) f = ap suc (length-tabulate n (λ i. f (suc i)))
+
+pub getD-tabulate : (n : ℕ) (f : ℕ → ℤ) (i : ℕ) (d : ℤ) → i < n → getD (tabulate n f) i d ≡ f i
+getD-tabulate zero f i d h = absurd (not-suc-le-zero h)
+getD-tabulate (suc n) f zero d h = refl
+getD-tabulate (suc n) f (suc i) d h = getD-tabulate n (λ j. f (suc j)) i d (le-of-suc-le-suc h)
+
+pub tabulate-cong : (n : ℕ) {f g : ℕ → ℤ} → ((i : ℕ) → i < n → f i ≡ g i) → tabulate n f ≡ tabulate n g
+tabulate-cong zero e = refl
+tabulate-cong (suc n) {f} {g} e = λ j. e 0 (native.Mathlib.Nat.zero-lt-suc n) j ∷ tabulate-cong n {f = λ i. f (suc i)} {g = λ i. g (suc i)} (λ i h. e (suc i) (Prim.Native.Nat.suc-le-suc h)) j

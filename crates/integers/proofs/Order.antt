@@ -1,0 +1,125 @@
+-- Laws of ℤ that later proofs cite by name: the ring, the order, tests of order, magnitude, distance.
+-- Each is a line by `le!` and `eq!` of `Parts`. Assumes nothing.
+use mathlib.Core.Path.{_≡_, refl, sym, ap, subst, _∙_}
+use mathlib.Core.Bool.{Bool, true, false, not}
+use Prim.Native.Nat.{ℕ, zero, suc, _+_, _*_, _≤_, _<_}
+use native.Mathlib.Nat.{mul-le-mul, mul-le-mul-left, mul-le-mul-right, le-refl, le-trans}
+use native.Mathlib.Omega.{arith}
+use borrow.Author.Tests.{ltb-true}
+use lib.Dec.{T, ltb, leb}
+use lib.IntN.{ℤ, pos, negsuc, negℤ, natAbs, _+ℤ_, _-ℤ_, _*ℤ_}
+use lib.Signed.{leZ, ltZ, ltZ-no}
+use Rattle.integers.specs.Whole.{_⩽_, Near}
+use Rattle.integers.proofs.Parts.{pp, nn, v, #, _⊕_, _⊖_, _⊗_, le!, eq!, le?, eq?, abs!, near!, near?, natAbs-parts, parts-of-le}
+
+-- ---- the ring
+
+pub mulℤ-assoc : (a b c : ℤ) → a *ℤ b *ℤ c ≡ a *ℤ (b *ℤ c)
+mulℤ-assoc a b c = eq! (v a ⊗ v b ⊗ v c) (v a ⊗ (v b ⊗ v c)) (omega arith)
+
+pub mulℤ-add : (a b c : ℤ) → a *ℤ (b +ℤ c) ≡ a *ℤ b +ℤ a *ℤ c
+mulℤ-add a b c = eq! (v a ⊗ (v b ⊕ v c)) (v a ⊗ v b ⊕ v a ⊗ v c) (omega arith)
+
+pub mulℤ-left-comm : (a b c : ℤ) → a *ℤ (b *ℤ c) ≡ b *ℤ (a *ℤ c)
+mulℤ-left-comm a b c = eq! (v a ⊗ (v b ⊗ v c)) (v b ⊗ (v a ⊗ v c)) (omega arith)
+
+pub addℤ-swap : (a b c d : ℤ) → (a +ℤ b) +ℤ (c +ℤ d) ≡ (a +ℤ c) +ℤ (b +ℤ d)
+addℤ-swap a b c d = eq! ((v a ⊕ v b) ⊕ (v c ⊕ v d)) ((v a ⊕ v c) ⊕ (v b ⊕ v d)) (omega arith)
+
+-- ---- the order
+
+pub ⩽-refl : (a : ℤ) → a ⩽ a
+⩽-refl a = le! (v a) (v a) (omega arith)
+
+pub ⩽-of-eq : {a b : ℤ} → a ≡ b → a ⩽ b
+⩽-of-eq {a} {b} e = le! (v a) (v b) (omega (arith, eq? (v a) (v b) e))
+
+pub ⩽-trans : {a b c : ℤ} → a ⩽ b → b ⩽ c → a ⩽ c
+⩽-trans {a} {b} {c} h k = le! (v a) (v c) (omega (arith, le? (v a) (v b) h, le? (v b) (v c) k))
+
+pub ⩽-antisymm : {a b : ℤ} → a ⩽ b → b ⩽ a → a ≡ b
+⩽-antisymm {a} {b} h k = eq! (v a) (v b) (omega (arith, le? (v a) (v b) h, le? (v b) (v a) k))
+
+pub ⩽-add : {a b c d : ℤ} → a ⩽ b → c ⩽ d → a +ℤ c ⩽ b +ℤ d
+⩽-add {a} {b} {c} {d} h k = le! (v a ⊕ v c) (v b ⊕ v d) (omega (arith, le? (v a) (v b) h, le? (v c) (v d) k))
+
+pub pos-⩽ : {m n : ℕ} → m ≤ n → pos m ⩽ pos n
+pos-⩽ {m} {n} h = le! (# m) (# n) (omega arith)
+
+pub ⩽-pos : {m n : ℕ} → pos m ⩽ pos n → m ≤ n
+⩽-pos {m} {n} h = omega (arith, le? (# m) (# n) h)
+
+pub ⩽-scale : (k : ℕ) {a b : ℤ} → a ⩽ b → pos k *ℤ a ⩽ pos k *ℤ b
+⩽-scale k {a} {b} h = le! (# k ⊗ v a) (# k ⊗ v b) (omega (arith, mul-le-mul-left k (le? (v a) (v b) h)))
+
+-- what is scaled by a number above 0 has the order that it had before
+pub ⩽-unscale : (k : ℕ) {a b : ℤ} → pos (suc k) *ℤ a ⩽ pos (suc k) *ℤ b → a ⩽ b
+⩽-unscale k {a} {b} h = le! (v a) (v b) (cancel k (omega (arith, le? (# (suc k) ⊗ v a) (# (suc k) ⊗ v b) h)))
+  where
+    cancel : (k : ℕ) {m n : ℕ} → suc k * m ≤ suc k * n → m ≤ n
+    cancel k h = native.Mathlib.Nat.le-of-mul-le-mul-left h (native.Mathlib.Nat.zero-lt-suc k)
+
+-- ---- tests of order, as a branch leaves them
+
+pub le-of-ltZ-false : (a b : ℤ) → ltZ a b ≡ false → b ⩽ a
+le-of-ltZ-false a b e = ltZ-no (subst (λ (t : Bool). T (not t)) (sym e) tt)
+
+pub lt-of-ltZ : (a b : ℤ) → ltZ a b ≡ true → a +ℤ pos 1 ⩽ b
+lt-of-ltZ (pos a) (pos b) e = le! (# a ⊕ # 1) (# b) (omega (arith, ltb-true a b e))
+lt-of-ltZ (pos a) (negsuc b) e = let z : _≡_ {A = ℕ} 0 1 = cc in absurd (omega arith)
+lt-of-ltZ (negsuc a) (pos b) e = le! (v (negsuc a) ⊕ # 1) (# b) (omega arith)
+lt-of-ltZ (negsuc a) (negsuc b) e = le! (v (negsuc a) ⊕ # 1) (v (negsuc b)) (omega (arith, ltb-true b a e))
+
+-- below 0 and from 0 on
+pub negative-is : (x : ℤ) → ltZ x (pos 0) ≡ true → (a : ℕ) × (x ≡ negsuc a)
+negative-is (pos n) e = absurd (omega (arith, ltb-true n 0 e))
+negative-is (negsuc n) e = (n, refl)
+
+pub natural-is : (x : ℤ) → ltZ x (pos 0) ≡ false → (a : ℕ) × (x ≡ pos a)
+natural-is (pos n) e = (n, refl)
+natural-is (negsuc n) e = let z : _≡_ {A = ℕ} 0 1 = cc in absurd (omega arith)
+
+-- ---- magnitude
+
+natAbs-negpos : (n : ℕ) → natAbs (negℤ (pos n)) ≡ n
+natAbs-negpos zero = refl
+natAbs-negpos (suc n) = refl
+
+pub natAbs-mul : (a b : ℤ) → natAbs (a *ℤ b) ≡ natAbs a * natAbs b
+natAbs-mul (pos a) (pos b) = refl
+natAbs-mul (pos a) (negsuc b) = natAbs-negpos (a * suc b)
+natAbs-mul (negsuc a) (pos b) = natAbs-negpos (suc a * b)
+natAbs-mul (negsuc a) (negsuc b) = refl
+
+pub natAbs-neg : (a : ℤ) → natAbs (negℤ a) ≡ natAbs a
+natAbs-neg (pos n) = natAbs-negpos n
+natAbs-neg (negsuc n) = refl
+
+pub natAbs-add : (a b : ℤ) → natAbs (a +ℤ b) ≤ natAbs a + natAbs b
+natAbs-add a b =
+    abs! (v a ⊕ v b) (natAbs a + natAbs b) (omega (arith, natAbs-parts a, natAbs-parts b)) (omega (arith, natAbs-parts a, natAbs-parts b))
+
+pub ⩽-natAbs : (a : ℤ) → a ⩽ pos (natAbs a)
+⩽-natAbs a = le! (v a) (# (natAbs a)) (omega (arith, natAbs-parts a))
+
+-- ---- distance
+
+pub near-of-eq : {a b : ℤ} → a ≡ b → Near a b 0
+near-of-eq {a} {b} e = near! (v a) (v b) 0 (omega (arith, eq? (v a) (v b) e)) (omega (arith, eq? (v a) (v b) e))
+
+pub near-mono : {a b : ℤ} {d e : ℕ} → d ≤ e → Near a b d → Near a b e
+near-mono h k = record { within = le-trans (k .within) h }
+
+pub near-trans : {a b c : ℤ} {d e : ℕ} → Near a b d → Near b c e → Near a c (d + e)
+near-trans {a} {b} {c} {d} {e} h k = near! (v a) (v c) (d + e) (omega (arith, near? (v a) (v b) d h, near? (v b) (v c) e k)) (omega (arith, near? (v a) (v b) d h, near? (v b) (v c) e k))
+
+pub near-add : {a b a′ b′ : ℤ} {d e : ℕ} → Near a b d → Near a′ b′ e → Near (a +ℤ a′) (b +ℤ b′) (d + e)
+near-add {a} {b} {a′} {b′} {d} {e} h k = near! (v a ⊕ v a′) (v b ⊕ v b′) (d + e) (omega (arith, near? (v a) (v b) d h, near? (v a′) (v b′) e k)) (omega (arith, near? (v a) (v b) d h, near? (v a′) (v b′) e k))
+
+pub near-scale : (k : ℕ) {a b : ℤ} {e : ℕ} → Near a b e → Near (pos k *ℤ a) (pos k *ℤ b) (k * e)
+near-scale k {a} {b} {e} h = near! (# k ⊗ v a) (# k ⊗ v b) (k * e) (omega (arith, mul-le-mul-left k (near? (v a) (v b) e h .0))) (omega (arith, mul-le-mul-left k (near? (v a) (v b) e h .1)))
+
+-- a distance times a number of at most a given magnitude
+pub near-times : (m : ℤ) {a b : ℤ} {d e : ℕ} → natAbs m ≤ d → Near a b e → Near (m *ℤ a) (m *ℤ b) (d * e)
+near-times m {a} {b} {d} {e} h k =
+    record { within = subst (λ (z : ℤ). natAbs z ≤ d * e) (eq! (v m ⊗ (v a ⊖ v b)) (v m ⊗ v a ⊖ v m ⊗ v b) (omega arith)) (subst (λ (x : ℕ). x ≤ d * e) (sym (natAbs-mul m (a -ℤ b))) (mul-le-mul h (k .within))) }

@@ -1,0 +1,72 @@
+-- Laws of the two roundings of `Whole`: what a rounded quotient times its divisor is, and by how much it misses.
+-- In order: `floorDiv`; `ceilDiv`; `ceilDivℕ`. Each holds for every divisor above 0. Assumes nothing.
+use mathlib.Core.Path.{_≡_, refl, sym, ap, subst, _∙_}
+use mathlib.Core.Bool.{Bool, true, false, cond}
+use Prim.Native.Nat.{ℕ, zero, suc, _+_, _*_, _-_, _/_, _%_, _≤_, _<_}
+use native.Mathlib.Nat.{mul-le-mul-left, div-add-mod', mod-lt, lt-of-mul-lt-mul-left}
+use native.Mathlib.Omega.{arith}
+use borrow.Author.Tests.{eqb-true}
+use lib.Dec.{eqb}
+use lib.IntN.{ℤ, pos, negsuc, negℤ, natAbs, _+ℤ_, _-ℤ_, _*ℤ_}
+use Rattle.integers.specs.Whole.{_⩽_, Near, floorDiv, ceilDiv, ceilDivℕ, isMultiple, fraction}
+use Rattle.integers.proofs.Parts.{v, #, neg, _⊕_, _⊖_, _⊗_, le!, eq!, le?, eq?, near!, near?}
+use Rattle.integers.proofs.Order.{natAbs-neg, near-of-eq, near-mono}
+
+-- the quotient and the remainder of a natural number
+divides : (a m : ℕ) → a ≡ a / m * m + a % m
+divides a m = sym (div-add-mod' a m)
+
+-- ---- rounded toward minus infinity
+
+pub floorDiv-le : (a : ℤ) (m : ℕ) → 0 < m → pos m *ℤ floorDiv a m ⩽ a
+floorDiv-le (pos a) m h = le! (# m ⊗ # (a / m)) (# a) (omega (arith, divides a m))
+floorDiv-le (negsuc a) m h = le! (# m ⊗ v (negsuc (a / m))) (v (negsuc a)) (omega (arith, divides a m, mod-lt a h))
+
+pub floorDiv-lt : (a : ℤ) (m : ℕ) → 0 < m → a +ℤ pos 1 ⩽ pos m *ℤ floorDiv a m +ℤ pos m
+floorDiv-lt (pos a) m h = le! (# a ⊕ # 1) (# m ⊗ # (a / m) ⊕ # m) (omega (arith, divides a m, mod-lt a h))
+floorDiv-lt (negsuc a) m h = le! (v (negsuc a) ⊕ # 1) (# m ⊗ v (negsuc (a / m)) ⊕ # m) (omega (arith, divides a m))
+
+-- a multiple is the divisor times its quotient
+multiple-of : (a m : ℕ) → 0 < m → suc a % m ≡ 0 → suc a ≡ m * suc (a / m)
+multiple-of a m h e =
+    let whole : suc a ≡ m * (suc a / m) = omega (arith, divides (suc a) m) in
+    let above : a / m < suc a / m = lt-of-mul-lt-mul-left m (omega (arith, divides a m)) in
+    let below : suc a / m < suc (suc (a / m)) = lt-of-mul-lt-mul-left m (omega (arith, divides a m, mod-lt a h)) in
+    let same : suc a / m ≡ suc (a / m) = omega arith in
+    whole ∙ ap (λ (k : ℕ). m * k) same
+
+pub floorDiv-of-multiple : (a : ℤ) (m : ℕ) → 0 < m → isMultiple a m ≡ true → a ≡ pos m *ℤ floorDiv a m
+floorDiv-of-multiple (pos a) m h e = eq! (# a) (# m ⊗ # (a / m)) (omega (arith, divides a m, eqb-true (a % m) 0 e))
+floorDiv-of-multiple (negsuc a) m h e = eq! (v (negsuc a)) (# m ⊗ v (negsuc (a / m))) (omega (arith, multiple-of a m h (eqb-true (suc a % m) 0 e)))
+
+-- Rounding down misses by less than the divisor, and by nothing at a multiple.
+pub near-floorDiv : (a : ℤ) (m : ℕ) → 0 < m → Near a (pos m *ℤ floorDiv a m) (m * fraction a m)
+near-floorDiv a m h = cases (isMultiple a m) refl
+  where
+    cases : (b : Bool) → isMultiple a m ≡ b → Near a (pos m *ℤ floorDiv a m) (m * cond b 0 1)
+    cases true e = near-mono (omega arith) (near-of-eq (floorDiv-of-multiple a m h e))
+    cases false e =
+        near! (v a) (# m ⊗ v (floorDiv a m)) (m * 1)
+        (omega (arith, le? (v a ⊕ # 1) (# m ⊗ v (floorDiv a m) ⊕ # m) (floorDiv-lt a m h)))
+        (omega (arith, le? (# m ⊗ v (floorDiv a m)) (v a) (floorDiv-le a m h)))
+
+-- ---- rounded up
+
+pub ceilDiv-le : (a : ℤ) (m : ℕ) → 0 < m → a ⩽ pos m *ℤ ceilDiv a m
+ceilDiv-le a m h =
+    let q = floorDiv (negℤ a) m in
+    le! (v a) (# m ⊗ neg (v q)) (omega (arith, le? (# m ⊗ v q) (neg (v a)) (floorDiv-le (negℤ a) m h)))
+
+fraction-neg : (a : ℤ) (m : ℕ) → fraction (negℤ a) m ≡ fraction a m
+fraction-neg a m = ap (λ (n : ℕ). cond (eqb (n % m) 0) 0 1) (natAbs-neg a)
+
+-- Rounding up misses by less than the divisor, and by nothing at a multiple.
+pub ceilDiv-near : (a : ℤ) (m : ℕ) → 0 < m → pos m *ℤ ceilDiv a m ⩽ a +ℤ pos (m * fraction a m)
+ceilDiv-near a m h =
+    let q = floorDiv (negℤ a) m in
+    let f = fraction (negℤ a) m in
+    le! (# m ⊗ neg (v q)) (v a ⊕ # (m * fraction a m))
+    (omega (arith, near? (neg (v a)) (# m ⊗ v q) (m * f) (near-floorDiv (negℤ a) m h), ap (λ (k : ℕ). m * k) (fraction-neg a m)))
+
+pub ceilDivℕ-le : (a m : ℕ) → 0 < m → a ≤ m * ceilDivℕ a m
+ceilDivℕ-le a m h = omega (arith, divides (a + (m - 1)) m, mod-lt (a + (m - 1)) h)

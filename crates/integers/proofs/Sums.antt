@@ -1,0 +1,259 @@
+-- Laws of sums, dot products, largest values and tests over all places (`specs.Sums`).
+-- In order: sums in ℤ; sums in ℕ; a count beyond which all is 0; the largest; tests; matrices. Assumes nothing.
+use mathlib.Core.Path.{_≡_, refl, sym, ap, ap₂, subst, _∙_}
+use mathlib.Core.Bool.{Bool, true, false, _&&_}
+use Prim.Native.Nat.{ℕ, zero, suc, _+_, _*_, _-_, _≤_, _<_, max}
+use native.Mathlib.Nat.{le-refl, lt-of-lt-of-le}
+use native.Mathlib.Numerals.{add-one}
+use native.Mathlib.Decide.{decLt}
+use native.Mathlib.Omega.{arith}
+use lib.IntN.{ℤ, pos, negsuc, natAbs, _+ℤ_, _-ℤ_, _*ℤ_, +ℤ-idl, +ℤ-idr, *ℤ-zero}
+use Rattle.integers.specs.Whole.{_⩽_, Near}
+use Rattle.integers.specs.Sums.{sum, sumℕ, maxℕ, allBelow, dot, dotℕ, times, transposed}
+use Rattle.integers.proofs.Parts.{v, #, _⊕_, _⊖_, _⊗_, le!, eq!, le?, eq?}
+use Rattle.integers.proofs.Order.{⩽-refl, ⩽-add, near-add, near-of-eq, near-times, addℤ-swap, mulℤ-add, mulℤ-left-comm}
+
+wider : {i n : ℕ} → i < n → i < suc n
+wider h = omega arith
+
+here : (n : ℕ) → n < suc n
+here n = le-refl (suc n)
+
+-- ---- sums in ℤ
+
+pub sum-zero : (f : ℕ → ℤ) → sum 0 f ≡ pos 0
+unfolding sum
+sum-zero f = refl
+
+pub sum-suc : (n : ℕ) (f : ℕ → ℤ) → sum (suc n) f ≡ sum n f +ℤ f n
+unfolding sum
+sum-suc n f = refl
+
+pub sum-cong : (n : ℕ) {f g : ℕ → ℤ} → ((i : ℕ) → i < n → f i ≡ g i) → sum n f ≡ sum n g
+unfolding sum
+sum-cong zero e = refl
+sum-cong (suc n) e = ap₂ _+ℤ_ (sum-cong n (λ i h. e i (wider h))) (e n (here n))
+
+pub sum-add : (n : ℕ) (f g : ℕ → ℤ) → sum n (λ i. f i +ℤ g i) ≡ sum n f +ℤ sum n g
+unfolding sum
+sum-add zero f g = refl
+sum-add (suc n) f g = ap (λ (z : ℤ). z +ℤ (f n +ℤ g n)) (sum-add n f g) ∙ addℤ-swap (sum n f) (sum n g) (f n) (g n)
+
+pub sum-scale : (n : ℕ) (c : ℤ) (f : ℕ → ℤ) → sum n (λ i. c *ℤ f i) ≡ c *ℤ sum n f
+unfolding sum
+sum-scale zero c f = sym (*ℤ-zero c)
+sum-scale (suc n) c f = ap (λ (z : ℤ). z +ℤ c *ℤ f n) (sum-scale n c f) ∙ sym (mulℤ-add c (sum n f) (f n))
+
+pub sum-none : (n : ℕ) → sum n (λ i. pos 0) ≡ pos 0
+unfolding sum
+sum-none zero = refl
+sum-none (suc n) = ap (λ (z : ℤ). z +ℤ pos 0) (sum-none n)
+
+-- a sum of sums, in either order
+pub sum-swap : (n m : ℕ) (f : ℕ → ℕ → ℤ) → sum n (λ i. sum m (λ j. f i j)) ≡ sum m (λ j. sum n (λ i. f i j))
+unfolding sum
+sum-swap zero m f = sym (sum-none m)
+sum-swap (suc n) m f = ap (λ (z : ℤ). z +ℤ sum m (λ j. f n j)) (sum-swap n m f) ∙ sym (sum-add m (λ j. sum n (λ i. f i j)) (λ j. f n j))
+
+-- the first place taken out
+pub sum-first : (n : ℕ) (f : ℕ → ℤ) → sum (suc n) f ≡ f 0 +ℤ sum n (λ i. f (suc i))
+unfolding sum
+sum-first zero f = +ℤ-idl (f 0) ∙ sym (+ℤ-idr (f 0))
+sum-first (suc n) f =
+    ap (λ (z : ℤ). z +ℤ f (suc n)) (sum-first n f)
+    ∙ eq! (v (f 0) ⊕ v (sum n (λ i. f (suc i))) ⊕ v (f (suc n))) (v (f 0) ⊕ (v (sum n (λ i. f (suc i))) ⊕ v (f (suc n)))) (omega arith)
+
+pub sum-⩽ : (n : ℕ) {f g : ℕ → ℤ} → ((i : ℕ) → i < n → f i ⩽ g i) → sum n f ⩽ sum n g
+unfolding sum
+sum-⩽ zero h = ⩽-refl (pos 0)
+sum-⩽ (suc n) h = ⩽-add (sum-⩽ n (λ i l. h i (wider l))) (h n (here n))
+
+pub near-sum : (n : ℕ) {f g : ℕ → ℤ} {e : ℕ → ℕ} → ((i : ℕ) → i < n → Near (f i) (g i) (e i)) → Near (sum n f) (sum n g) (sumℕ n e)
+unfolding sum sumℕ
+near-sum zero h = near-of-eq refl
+near-sum (suc n) h = near-add (near-sum n (λ i l. h i (wider l))) (h n (here n))
+
+-- ---- sums in ℕ
+
+pub sumℕ-zero : (f : ℕ → ℕ) → sumℕ 0 f ≡ 0
+unfolding sumℕ
+sumℕ-zero f = refl
+
+pub sumℕ-suc : (n : ℕ) (f : ℕ → ℕ) → sumℕ (suc n) f ≡ sumℕ n f + f n
+unfolding sumℕ
+sumℕ-suc n f = refl
+
+pub sumℕ-cong : (n : ℕ) {f g : ℕ → ℕ} → ((i : ℕ) → i < n → f i ≡ g i) → sumℕ n f ≡ sumℕ n g
+unfolding sumℕ
+sumℕ-cong zero e = refl
+sumℕ-cong (suc n) e = ap₂ _+_ (sumℕ-cong n (λ i h. e i (wider h))) (e n (here n))
+
+pub sumℕ-none : (n : ℕ) → sumℕ n (λ i. 0) ≡ 0
+unfolding sumℕ
+sumℕ-none zero = refl
+sumℕ-none (suc n) = ap (λ (k : ℕ). k + 0) (sumℕ-none n)
+
+pub sumℕ-scale : (n c : ℕ) (f : ℕ → ℕ) → sumℕ n (λ i. c * f i) ≡ c * sumℕ n f
+unfolding sumℕ
+sumℕ-scale zero c f = omega arith
+sumℕ-scale (suc n) c f = omega (arith, sumℕ-scale n c f)
+
+pub sumℕ-le : (n : ℕ) {f g : ℕ → ℕ} → ((i : ℕ) → i < n → f i ≤ g i) → sumℕ n f ≤ sumℕ n g
+unfolding sumℕ
+sumℕ-le zero h = le-refl 0
+sumℕ-le (suc n) h = omega (arith, sumℕ-le n (λ i l. h i (wider l)), h n (here n))
+
+-- each term at most c
+pub sumℕ-bound : (n c : ℕ) {f : ℕ → ℕ} → ((i : ℕ) → i < n → f i ≤ c) → sumℕ n f ≤ n * c
+unfolding sumℕ
+sumℕ-bound zero c h = omega arith
+sumℕ-bound (suc n) c h = omega (arith, sumℕ-bound n c (λ i l. h i (wider l)), h n (here n))
+
+pub sumℕ-first : (n : ℕ) (f : ℕ → ℕ) → sumℕ (suc n) f ≡ f 0 + sumℕ n (λ i. f (suc i))
+unfolding sumℕ
+sumℕ-first zero f = omega arith
+sumℕ-first (suc n) f = omega (arith, sumℕ-first n f)
+
+pub pos-sumℕ : (n : ℕ) (f : ℕ → ℕ) → pos (sumℕ n f) ≡ sum n (λ i. pos (f i))
+unfolding sum sumℕ
+pos-sumℕ zero f = refl
+pos-sumℕ (suc n) f = ap (λ (z : ℤ). z +ℤ pos (f n)) (pos-sumℕ n f)
+
+-- the magnitude of a sum is at most the sum of bounds on the magnitudes
+pub natAbs-sum : (n : ℕ) (f : ℕ → ℤ) (b : ℕ → ℕ) → ((i : ℕ) → i < n → natAbs (f i) ≤ b i) → natAbs (sum n f) ≤ sumℕ n b
+unfolding sum sumℕ
+natAbs-sum zero f b h = le-refl 0
+natAbs-sum (suc n) f b h =
+    omega (arith, Rattle.integers.proofs.Order.natAbs-add (sum n f) (f n), natAbs-sum n f b (λ i l. h i (wider l)), h n (here n))
+
+-- ---- a count beyond which all is 0: the loops run to 6, the definitions to n
+
+plus-zero : (n : ℕ) → n + 0 ≡ n
+plus-zero n = omega arith
+
+plus-suc : (n m : ℕ) → n + suc m ≡ suc (n + m)
+plus-suc n m = omega arith
+
+at-least : (n m : ℕ) → n ≤ n + m
+at-least n m = omega arith
+
+last-below : (n m : ℕ) → n + m < n + suc m
+last-below n m = omega arith
+
+pub sum-beyond : (n m : ℕ) (f : ℕ → ℤ) → ((i : ℕ) → n ≤ i → i < n + m → f i ≡ pos 0) → sum (n + m) f ≡ sum n f
+sum-beyond n zero f h = ap (λ (k : ℕ). sum k f) (plus-zero n)
+sum-beyond n (suc m) f h =
+    ap (λ (k : ℕ). sum k f) (plus-suc n m)
+    ∙ sum-suc (n + m) f
+    ∙ ap₂ _+ℤ_ (sum-beyond n m f (λ i l k. h i l (lt-of-lt-of-le k (omega arith)))) (h (n + m) (at-least n m) (last-below n m))
+    ∙ +ℤ-idr (sum n f)
+
+pub sumℕ-beyond : (n m : ℕ) (f : ℕ → ℕ) → ((i : ℕ) → n ≤ i → i < n + m → f i ≡ 0) → sumℕ (n + m) f ≡ sumℕ n f
+sumℕ-beyond n zero f h = ap (λ (k : ℕ). sumℕ k f) (plus-zero n)
+sumℕ-beyond n (suc m) f h =
+    ap (λ (k : ℕ). sumℕ k f) (plus-suc n m)
+    ∙ sumℕ-suc (n + m) f
+    ∙ ap₂ _+_ (sumℕ-beyond n m f (λ i l k. h i l (lt-of-lt-of-le k (omega arith)))) (h (n + m) (at-least n m) (last-below n m))
+    ∙ plus-zero (sumℕ n f)
+
+pub maxℕ-beyond : (n m : ℕ) (f : ℕ → ℕ) → ((i : ℕ) → n ≤ i → i < n + m → f i ≡ 0) → maxℕ (n + m) f ≡ maxℕ n f
+unfolding maxℕ
+maxℕ-beyond n zero f h = ap (λ (k : ℕ). maxℕ k f) (plus-zero n)
+maxℕ-beyond n (suc m) f h =
+    let z : max (maxℕ n f) 0 ≡ maxℕ n f = omega arith in
+    ap (λ (k : ℕ). maxℕ k f) (plus-suc n m)
+    ∙ ap₂ max (maxℕ-beyond n m f (λ i l k. h i l (lt-of-lt-of-le k (omega arith)))) (h (n + m) (at-least n m) (last-below n m))
+    ∙ z
+
+-- ---- the largest
+
+pub maxℕ-suc : (n : ℕ) (f : ℕ → ℕ) → maxℕ (suc n) f ≡ max (maxℕ n f) (f n)
+unfolding maxℕ
+maxℕ-suc n f = refl
+
+pub maxℕ-cong : (n : ℕ) {f g : ℕ → ℕ} → ((i : ℕ) → i < n → f i ≡ g i) → maxℕ n f ≡ maxℕ n g
+unfolding maxℕ
+maxℕ-cong zero e = refl
+maxℕ-cong (suc n) e = ap₂ max (maxℕ-cong n (λ i h. e i (wider h))) (e n (here n))
+
+pub le-maxℕ : (n : ℕ) (f : ℕ → ℕ) (i : ℕ) → i < n → f i ≤ maxℕ n f
+unfolding maxℕ
+le-maxℕ zero f i h = absurd (omega arith)
+le-maxℕ (suc n) f i h = elim (decLt i n) [ yes l ↦ omega (arith, le-maxℕ n f i l) | no g ↦ last (omega (arith, g)) ]
+  where
+    last : i ≡ n → f i ≤ max (maxℕ n f) (f n)
+    last e = subst (λ (k : ℕ). f k ≤ max (maxℕ n f) (f n)) (sym e) (omega arith)
+
+pub maxℕ-le : (n c : ℕ) {f : ℕ → ℕ} → ((i : ℕ) → i < n → f i ≤ c) → maxℕ n f ≤ c
+unfolding maxℕ
+maxℕ-le zero c h = omega arith
+maxℕ-le (suc n) c h = omega (arith, maxℕ-le n c (λ i l. h i (wider l)), h n (here n))
+
+-- ---- tests over all places
+
+pub allBelow-suc : (n : ℕ) (f : ℕ → Bool) → allBelow (suc n) f ≡ allBelow n f && f n
+unfolding allBelow
+allBelow-suc n f = refl
+
+and-false-left : (a b : Bool) → a ≡ false → a && b ≡ false
+and-false-left a b e = ap (λ (t : Bool). t && b) e
+
+and-false-right : (a b : Bool) → b ≡ false → a && b ≡ false
+and-false-right true b e = e
+and-false-right false b e = refl
+
+and-true : (a b : Bool) → a && b ≡ true → (a ≡ true) × (b ≡ true)
+and-true true b e = (refl, e)
+and-true false b e = (e, let z : _≡_ {A = ℕ} 0 1 = cc in absurd (omega arith))
+
+-- holds so far and here: holds one further
+pub allBelow-more : (n : ℕ) (f : ℕ → Bool) → allBelow n f ≡ true → f n ≡ true → allBelow (n + 1) f ≡ true
+unfolding allBelow
+allBelow-more n f h k = subst (λ (m : ℕ). allBelow m f ≡ true) (sym (add-one n)) (ap₂ _&&_ h k)
+
+-- fails here: fails
+pub allBelow-fails : (n : ℕ) (f : ℕ → Bool) (i : ℕ) → i < n → f i ≡ false → allBelow n f ≡ false
+unfolding allBelow
+allBelow-fails zero f i h e = absurd (omega arith)
+allBelow-fails (suc n) f i h e =
+    elim (decLt i n) [ yes l ↦ and-false-left (allBelow n f) (f n) (allBelow-fails n f i l e) | no g ↦ and-false-right (allBelow n f) (f n) (subst (λ (k : ℕ). f k ≡ false) (omega (arith, g)) e) ]
+
+pub allBelow-at : (n : ℕ) (f : ℕ → Bool) → allBelow n f ≡ true → (i : ℕ) → i < n → f i ≡ true
+unfolding allBelow
+allBelow-at zero f t i h = absurd (omega arith)
+allBelow-at (suc n) f t i h =
+    let both = and-true (allBelow n f) (f n) t in
+    elim (decLt i n) [ yes l ↦ allBelow-at n f (both .0) i l | no g ↦ subst (λ (k : ℕ). f k ≡ true) (omega (arith, g)) (both .1) ]
+
+pub allBelow-intro : (n : ℕ) (f : ℕ → Bool) → ((i : ℕ) → i < n → f i ≡ true) → allBelow n f ≡ true
+unfolding allBelow
+allBelow-intro zero f h = refl
+allBelow-intro (suc n) f h = ap₂ _&&_ (allBelow-intro n f (λ i l. h i (wider l))) (h n (here n))
+
+-- ---- matrices
+
+-- The direction meets the matrix times the state as the transpose times the direction meets the state.
+pub dot-times : (n : ℕ) (m : ℕ → ℕ → ℤ) (r x : ℕ → ℤ) → dot n r (times n m x) ≡ dot n (transposed n m r) x
+dot-times n m r x =
+    sum-cong n (λ p h. sym (sum-scale n (r p) (λ i. m p i *ℤ x i)))
+    ∙ sum-swap n n (λ p i. r p *ℤ (m p i *ℤ x i))
+    ∙ sum-cong n (λ i h. sum-cong n (λ p l. turned p i) ∙ sum-scale n (x i) (λ p. m p i *ℤ r p) ∙ eq! (v (x i) ⊗ v (transposed n m r i)) (v (transposed n m r i) ⊗ v (x i)) (omega arith))
+  where
+    turned : (p i : ℕ) → r p *ℤ (m p i *ℤ x i) ≡ x i *ℤ (m p i *ℤ r p)
+    turned p i = eq! (v (r p) ⊗ (v (m p i) ⊗ v (x i))) (v (x i) ⊗ (v (m p i) ⊗ v (r p))) (omega arith)
+
+pub dot-cong : (n : ℕ) {a b x y : ℕ → ℤ} → ((i : ℕ) → i < n → a i ≡ b i) → ((i : ℕ) → i < n → x i ≡ y i) → dot n a x ≡ dot n b y
+dot-cong n e f = sum-cong n (λ i h. ap₂ _*ℤ_ (e i h) (f i h))
+
+pub dot-scale : (n : ℕ) (c : ℤ) (a x : ℕ → ℤ) → dot n a (λ i. c *ℤ x i) ≡ c *ℤ dot n a x
+dot-scale n c a x = sum-cong n (λ i h. mulℤ-left-comm (a i) c (x i)) ∙ sum-scale n c (λ i. a i *ℤ x i)
+
+pub dot-add : (n : ℕ) (a x y : ℕ → ℤ) → dot n a (λ i. x i +ℤ y i) ≡ dot n a x +ℤ dot n a y
+dot-add n a x y = sum-cong n (λ i h. mulℤ-add (a i) (x i) (y i)) ∙ sum-add n (λ i. a i *ℤ x i) (λ i. a i *ℤ y i)
+
+-- Directions near each other meet a point of bounded coordinates in values near each other.
+pub near-dot : (n : ℕ) (a b x : ℕ → ℤ) (e w : ℕ → ℕ) → ((i : ℕ) → i < n → Near (a i) (b i) (e i)) → ((i : ℕ) → i < n → natAbs (x i) ≤ w i) → Near (dot n a x) (dot n b x) (sumℕ n (λ i. w i * e i))
+near-dot n a b x e w h k = near-sum n (λ i l. turned i (near-times (x i) (k i l) (h i l)))
+  where
+    turned : (i : ℕ) → Near (x i *ℤ a i) (x i *ℤ b i) (w i * e i) → Near (a i *ℤ x i) (b i *ℤ x i) (w i * e i)
+    turned i = subst (λ (z : ℤ). Near (x i *ℤ a i) (x i *ℤ b i) (w i * e i) → Near z (b i *ℤ x i) (w i * e i)) (lib.IntN.*ℤ-comm (x i) (a i)) (subst (λ (z : ℤ). Near (x i *ℤ a i) (x i *ℤ b i) (w i * e i) → Near (x i *ℤ a i) z (w i * e i)) (lib.IntN.*ℤ-comm (x i) (b i)) (λ t. t))

@@ -1,0 +1,37 @@
+-- Whole numbers as document 01 uses them: an order, the two roundings of a quotient, and distance. Definitions only.
+-- The numbers are the library's ℤ (`lib.IntN`); sums, products and `natAbs`, the magnitude, are the library's too.
+-- Assumes nothing.
+use Prim.Native.Nat.{ℕ, _+_, _-_, _/_, _%_, _≤_}
+use mathlib.Core.Bool.{Bool, cond}
+use lib.Dec.{eqb}
+use lib.IntN.{ℤ, pos, negℤ, natAbs, _-ℤ_}
+use lib.Signed.{_≤ℤ_, shrZ}
+
+-- The library's order `_≤ℤ_`, which binds tighter than a sum, at the usual precedence.
+infix 4 _⩽_
+abbrev pub _⩽_ : ℤ → ℤ → Type 0
+a ⩽ b = a ≤ℤ b
+
+-- a / m rounded toward minus infinity, for negative a too.
+abbrev pub floorDiv : ℤ → ℕ → ℤ
+floorDiv a m = shrZ a m
+
+-- a / m rounded up.
+abbrev pub ceilDiv : ℤ → ℕ → ℤ
+ceilDiv a m = negℤ (floorDiv (negℤ a) m)
+
+-- The same of a natural number.
+abbrev pub ceilDivℕ : ℕ → ℕ → ℕ
+ceilDivℕ a m = (a + (m - 1)) / m
+
+-- a is a multiple of m.
+abbrev pub isMultiple : ℤ → ℕ → Bool
+isMultiple a m = eqb (natAbs a % m) 0
+
+-- "plus 1 if .. isn't a multiple": 0 where a is a multiple of m, else 1.
+abbrev pub fraction : ℤ → ℕ → ℕ
+fraction a m = cond (isMultiple a m) 0 1
+
+-- a and b are at most e apart.
+pub record Near (a b : ℤ) (e : ℕ) : Type 0 where
+  pub within : natAbs (a -ℤ b) ≤ e

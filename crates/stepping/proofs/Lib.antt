@@ -1,0 +1,3 @@
+pub mod SpareFigure
+pub mod Beyond
+pub mod Stands

@@ -1,0 +1,46 @@
+-- `stepping::column::times_add` meets its contract: the product and the sum are far inside an i64. Assumes nothing.
+use Rattle.integers.proofs.Basics.{_≡_, refl, sym, ap, ap₂, subst, _∙_, Bool, true, false, ℕ, suc, _+_, _*_, _-_, _≤_, _<_, arith, add-one, needs, length, getD, set, ℤ, pos, negsuc, natAbs, _+ℤ_, _-ℤ_, _*ℤ_, w32, w64, Fits, SFits, toZ, ofZ, toZ-ofZ}
+use mir.Facts.{sfits-widen}
+use native.Mathlib.Nat.{mul-le-mul}
+use lib.Dec.{lit<}
+use Rattle.integers.proofs.Order.{natAbs-mul, natAbs-add}
+use Rattle.integers.proofs.Machine.{sfits-of-natAbs, read-wide}
+use Rattle.stepping.proofs.column.times_add.Statement.{statement}
+use Rattle.stepping.proofs.column.times_add.Tie as tie
+
+module _ (c : tie.Start) where
+  wide : SFits w64 (c .args .a)
+  wide = sfits-widen tt (c .fits .a)
+
+  read-a : toZ w64 (ofZ w64 (toZ w32 (ofZ w32 (c .args .a)))) ≡ c .args .a
+  read-a = read-wide w32 w64 tt (c .fits .a)
+
+  product-small : natAbs (c .args .a *ℤ c .args .b) ≤ 131072 * 1073741824
+  product-small = subst (λ (k : ℕ). k ≤ 131072 * 1073741824) (sym (natAbs-mul (c .args .a) (c .args .b))) (mul-le-mul (c .pre .entry-small) (c .pre .value-small))
+
+  product : SFits w64 (c .args .a *ℤ c .args .b)
+  product = sfits-of-natAbs w64 product-small (lit< tt)
+
+  product-is : toZ w64 (ofZ w64 (toZ w32 (ofZ w32 (c .args .a)))) *ℤ toZ w64 (ofZ w64 (c .args .b)) ≡ c .args .a *ℤ c .args .b
+  product-is = ap₂ _*ℤ_ read-a (toZ-ofZ (c .fits .b))
+
+  total : SFits w64 (c .args .sum +ℤ c .args .a *ℤ c .args .b)
+  total = sfits-of-natAbs w64 {b = 6 * (131072 * 1073741824)} (omega (arith, natAbs-add (c .args .sum) (c .args .a *ℤ c .args .b), product-small, c .pre .sum-small)) (lit< tt)
+
+  total-is : toZ w64 (ofZ w64 (c .args .sum)) +ℤ toZ w64 (ofZ w64 (toZ w64 (ofZ w64 (toZ w32 (ofZ w32 (c .args .a)))) *ℤ toZ w64 (ofZ w64 (c .args .b)))) ≡ c .args .sum +ℤ c .args .a *ℤ c .args .b
+  total-is = ap₂ _+ℤ_ (toZ-ofZ (c .fits .sum)) (ap (λ (z : ℤ). toZ w64 (ofZ w64 z)) product-is ∙ toZ-ofZ product)
+
+cast-result : tie.Need-cast-result
+cast-result c = subst (SFits w64) (sym (toZ-ofZ (c .fits .a))) (wide c)
+
+mul-result : tie.Need-mul-result
+mul-result c = subst (SFits w64) (sym (product-is c)) (product c)
+
+add-result : tie.Need-add-result
+add-result c = subst (SFits w64) (sym (total-is c)) (total c)
+
+returns : tie.Need-returns
+returns c = ap (λ (z : ℤ). toZ w64 (ofZ w64 z)) (total-is c) ∙ toZ-ofZ (total c)
+
+pub times-add-spec : {M : Type 1} → statement M
+times-add-spec = tie.close (tie.spec cast-result mul-result add-result returns)

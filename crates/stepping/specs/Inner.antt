@@ -1,0 +1,25 @@
+-- What the inner functions ask of each other and leave, after `step` has tested its arguments. Definitions only; no public
+-- contract cites them. Assumes nothing.
+use mathlib.Core.Path.{_≡_}
+use mathlib.Core.List.{List}
+use Prim.Native.Nat.{ℕ, _*_, _≤_, _<_}
+use lib.IntN.{ℤ, pos, natAbs}
+use Rattle.integers.specs.Sums.{vector, magnitudes, matrix, tabulate}
+use Rattle.stepping.specs.Limits.{entryLimit, growthLimit}
+use Rattle.stepping.specs.Recurrence.{nextR, nextE}
+
+-- A product of a tested entry and a tested value can be added to a sum of at most five such.
+pub record TimesAdd (sum a b : ℤ) : Type 0 where
+  pub sum-small : natAbs sum ≤ 5 * (entryLimit * growthLimit)
+  pub entry-small : natAbs a ≤ entryLimit
+  pub value-small : natAbs b ≤ growthLimit
+
+-- Entries and values within their limits.
+pub record Bounded (m xs : List ℤ) : Type 0 where
+  pub entries : (k : ℕ) → k < 36 → natAbs (vector m k) ≤ entryLimit
+  pub values : (i : ℕ) → i < 6 → natAbs (vector xs i) ≤ growthLimit
+
+-- r and e one step on, all six coordinates.
+pub record Advanced (m r e r′ e′ : List ℤ) : Type 0 where
+  pub direction : r′ ≡ tabulate 6 (nextR 6 (matrix m) (vector r))
+  pub errors : e′ ≡ tabulate 6 (λ i. pos (nextE 6 (matrix m) (vector r) (magnitudes e) i))

@@ -1,0 +1,4 @@
+pub mod Limits
+pub mod Recurrence
+pub mod Refusals
+pub mod Inner

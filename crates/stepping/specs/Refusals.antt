@@ -1,0 +1,89 @@
+-- Document 01, "Refusals by place", the row "stepping, set routines": when the stepping arithmetic answers number 11, and
+-- what its routines answer and leave. Definitions only. Stored arrays are lists of six or, for a matrix, six rows of six.
+-- Assumes nothing.
+use mathlib.Core.Path.{_≡_}
+use mathlib.Core.List.{List}
+use mathlib.Core.Bool.{Bool, cond, not, _&&_, _||_}
+use Prim.Native.Nat.{ℕ, _/_, _%_}
+use lib.Dec.{eqb, leb, ltb}
+use lib.IntN.{ℤ, pos, natAbs}
+use lib.Signed.{nonNeg}
+use Rattle.integers.specs.Sums.{vector, magnitudes, matrix, allBelow, tabulate}
+use Rattle.stepping.specs.Limits.{growthLimit, entryLimit}
+use Rattle.stepping.specs.Recurrence.{firstR, firstE, nextR, nextE, growthSum, spare}
+use Rattle.stepping.specs.declared.Stepped.{Stepped}
+use Rattle.stepping.specs.declared.Stepped.the-variants.{Sum, Refused}
+use Rattle.stepping.specs.declared.Spare.{Spare}
+use Rattle.stepping.specs.declared.Spare.the-variants.{Bits, NoSpare}
+
+-- "Limits": "n 1 to 6".
+abbrev pub dimensionOk : ℕ → Bool
+dimensionOk n = leb 1 n && leb n 6
+
+-- "a nonzero value beyond n": none, of six.
+abbrev pub zeroBeyond : ℕ → List ℤ → Bool
+zeroBeyond n xs = allBelow 6 (λ i. ltb i n || eqb (magnitudes xs i) 0)
+
+-- "e below 0": none, of six.
+abbrev pub nonNegative : List ℤ → Bool
+nonNegative xs = allBelow 6 (λ i. nonNeg (vector xs i))
+
+-- "n, matrix .. as for the sweep": each entry of the n by n matrix within its limit, the others zero.
+abbrev pub entriesOk : List ℤ → Bool
+entriesOk xs = allBelow 36 (λ k. leb (magnitudes xs k) entryLimit)
+
+abbrev pub zeroEntry : ℕ → ℕ → ℤ → Bool
+zeroEntry n k x = (ltb (k / 6) n && ltb (k % 6) n) || eqb (natAbs x) 0
+
+abbrev pub zeroAround : ℕ → List ℤ → Bool
+zeroAround n xs = allBelow 36 (λ k. zeroEntry n k (vector xs k))
+
+abbrev pub matrixOk : ℕ → List ℤ → Bool
+matrixOk n xs = entriesOk xs && zeroAround n xs
+
+-- A working direction that a routine takes, its growth sum apart.
+abbrev pub workingOk : ℕ → List ℤ → List ℤ → Bool
+workingOk n r e = dimensionOk n && (zeroBeyond n r && (zeroBeyond n e && nonNegative e))
+
+-- What `first` leaves: r(0) and e(0) of the direction d, six elements each.
+pub record First (d r e : List ℤ) : Type 0 where
+  pub direction : r ≡ tabulate 6 (firstR (vector d))
+  pub errors : e ≡ tabulate 6 (λ i. pos (firstE i))
+
+-- The growth sum of six coordinates, or a refusal where an e is below 0.
+abbrev pub largestAnswer : List ℤ → List ℤ → Stepped
+largestAnswer r e = cond (nonNegative e) (Sum (growthSum 6 (vector r) (magnitudes e))) Refused
+
+-- What `growth` answers: the growth sum of r and e.
+abbrev pub growthAnswer : ℕ → List ℤ → List ℤ → Stepped
+growthAnswer n r e = cond (workingOk n r e) (Sum (growthSum n (vector r) (magnitudes e))) Refused
+
+-- No condition of number 11 holds for a step.
+abbrev pub stepOk : ℕ → List ℤ → List ℤ → List ℤ → Bool
+stepOk n m r e = workingOk n r e && (leb (growthSum n (vector r) (magnitudes e)) growthLimit && matrixOk n m)
+
+-- The six elements of r and e after a step.
+abbrev pub steppedR : ℕ → List ℤ → List ℤ → List ℤ
+steppedR n m r = tabulate 6 (nextR n (matrix m) (vector r))
+
+abbrev pub steppedE : ℕ → List ℤ → List ℤ → List ℤ → List ℤ
+steppedE n m r e = tabulate 6 (λ i. pos (nextE n (matrix m) (vector r) (magnitudes e) i))
+
+-- What `step` answers and leaves: r and e as lent, r′ and e′ as left. Where it refuses, r and e keep every element.
+pub record Steps (n : ℕ) (m r e : List ℤ) (a : Stepped) (r′ e′ : List ℤ) : Type 0 where
+  pub answer : a ≡ cond (stepOk n m r e) (Sum (growthSum n (vector r′) (magnitudes e′))) Refused
+  pub direction : r′ ≡ cond (stepOk n m r e) (steppedR n m r) r
+  pub errors : e′ ≡ cond (stepOk n m r e) (steppedE n m r e) e
+
+-- What `spare_bits` answers: the spare figure of a sum from 1 to 1,073,741,824.
+abbrev pub spareAnswer : ℕ → Spare
+spareAnswer s = cond (leb 1 s && leb s growthLimit) (Bits (spare s)) NoSpare
+
+-- The document's number of an answer: 0 where nothing is refused.
+abbrev pub steppedNumber : Stepped → ℕ
+steppedNumber (Sum s) = 0
+steppedNumber Refused = 11
+
+abbrev pub spareNumber : Spare → ℕ
+spareNumber (Bits h) = 0
+spareNumber NoSpare = 11

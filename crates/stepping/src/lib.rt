@@ -1,0 +1,95 @@
+// The stepping arithmetic of document 01, "The recurrence": the first working direction of a direction, one step of it
+// with its errors, the growth sum and the spare figure.
+//
+// No public function has a `requires`. A working direction is six numbers r in units of 1/1,048,576 with six errors e;
+// what lies beyond the n coordinates is zero. A refusal is number 11, and leaves r and e as they were.
+mod column;
+mod refusals;
+
+pub use column::magnitude;
+ghost use mathlib.Core.Path.{_≡_};
+ghost use Prim.Native.Nat.{_+_, _≤_};
+ghost use lib.ListN.{length};
+ghost use lib.IntN.{pos};
+ghost use Rattle.integers.specs.Sums.{vector, tabulate};
+ghost use Rattle.stepping.specs.Recurrence.{firstR, firstE};
+ghost use Rattle.stepping.specs.Refusals.{growthAnswer, Steps, spareAnswer, First};
+
+// What a step or a growth sum answers: the growth sum, or number 11.
+pub enum Stepped {
+    Sum(u64),
+    Refused,
+}
+
+// What `spare_bits` answers: the spare figure, or number 11.
+pub enum Spare {
+    Bits(u32),
+    NoSpare,
+}
+
+// The first working direction of `direction`: r(0) and e(0).
+pub fn first(direction: &[i32; 6], r: &mut [i64; 6], e: &mut [i64; 6])
+    ensures { λ _. ⌜ First (now (direction .entry)) (now (r .exit)) (now (e .exit)) ⌝ }
+{
+    let mut scaled = [0i64; 6];
+    let mut i: usize = 0;
+    while i < 6 {
+        scaled[i] = column::scaled(direction[i]);
+        i += 1;
+    }
+    *r = scaled;
+    *e = [0i64; 6];
+}
+
+// The growth sum of r and e: the largest |r[i]| + e[i], exact for every value that an i64 can hold. Number 11 for n
+// outside 1 to 6, a nonzero value beyond n, or an e below 0.
+pub fn growth(n: usize, r: &[i64; 6], e: &[i64; 6]) -> Stepped
+    ensures { λ a. ⌜ a ≡ growthAnswer n (now (r .entry)) (now (e .entry)) ⌝ }
+{
+    if n < 1 {
+        return Stepped::Refused;
+    }
+    if 6 < n {
+        return Stepped::Refused;
+    }
+    if !refusals::zero_beyond(n, r) {
+        return Stepped::Refused;
+    }
+    if !refusals::zero_beyond(n, e) {
+        return Stepped::Refused;
+    }
+    refusals::largest_sum(r, e)
+}
+
+// One step: r and e of the next step by the transpose of the matrix, and the growth sum of what it left. Number 11, with r
+// and e as they were, for n outside 1 to 6, a matrix entry beyond its limit, a nonzero matrix, r or e value beyond n, an e
+// below 0, or a growth sum of r and e above 1,073,741,824.
+pub fn step(n: usize, matrix: &[i32; 36], r: &mut [i64; 6], e: &mut [i64; 6]) -> Stepped
+    ensures { λ a. ⌜ Steps n (now (matrix .entry)) (now (r .entry)) (now (e .entry)) a (now (r .exit)) (now (e .exit)) ⌝ }
+{
+    let Stepped::Sum(sum) = growth(n, r, e) else {
+        return Stepped::Refused;
+    };
+    if 1073741824 < sum {
+        return Stepped::Refused;
+    }
+    if !refusals::matrix_ok(n, matrix) {
+        return Stepped::Refused;
+    }
+    column::advance(matrix, r, e);
+    refusals::largest_sum(r, e)
+}
+
+// The spare figure of a largest sum from 1 to 1,073,741,824; number 11 for any other.
+pub fn spare_bits(largest: u64) -> Spare
+    ensures { λ a. ⌜ a ≡ spareAnswer largest ⌝ }
+{
+    if largest < 1 {
+        return Spare::NoSpare;
+    }
+    if 1073741824 < largest {
+        return Spare::NoSpare;
+    }
+    let less = (largest - 1) as u32;
+    Spare::Bits(u32::leading_zeros(less) - 2)
+}

@@ -1,0 +1,135 @@
+#!/usr/bin/env python3
+"""Compare a program with the exact one, on random files.
+
+    compare.py PROGRAM [--seed N] [--count N] [--accuracy-every N] [--save DIR]
+
+PROGRAM reads a file on standard input and writes its listing on standard output. Its output must
+be that of `exact`, byte by byte. Now and then, for an accepted model that is small enough, the
+accuracy rule is checked of the program's own figures against exact largest values. The first
+difference ends the comparison with status 1 and saves the file. The summary counts what was seen.
+"""
+
+from __future__ import annotations
+
+import argparse
+import collections
+import os
+import subprocess
+
+import exact
+import files
+import listings
+import models
+from layout import DEFAULT_STEPS, MAX_N, MAX_STEPS
+from listings import CLEAR, GROWTH, HIT, UNKNOWN, Growth, Refusal
+
+TIME_LIMIT = 10  # seconds for one file
+COST_LIMIT = 200_000  # products for one check of the accuracy rule
+
+
+def output_of(program: str, data: bytes) -> bytes:
+    """What the program writes for a file; a failure where it does not end well.
+
+    Document 01 names no status, so any is taken for a refused file, and 0 is asked with a listing.
+    """
+    try:
+        done = subprocess.run([program], input=data, capture_output=True, timeout=TIME_LIMIT)
+    except subprocess.TimeoutExpired:
+        raise files.Failure(f"no end within {TIME_LIMIT} seconds") from None
+    except OSError as error:
+        raise files.Failure(f"{program} cannot be run: {error.strerror}") from None
+    if done.returncode < 0:
+        raise files.Failure(f"ended by signal {-done.returncode}")
+    if done.returncode and not done.stdout.startswith(b"refused"):
+        raise files.Failure(f"status {done.returncode}")
+    return done.stdout
+
+
+def first_difference(expected: bytes, found: bytes) -> str:
+    """Where two outputs first differ, in words."""
+    pairs = zip(expected.splitlines(keepends=True), found.splitlines(keepends=True))
+    for number, (wanted, got) in enumerate(pairs, 1):
+        if wanted != got:
+            return f"output row {number}: expected {wanted!r}, found {got!r}"
+    return f"expected {len(expected)} bytes, found {len(found)}"
+
+
+class Counts:
+    """What kinds of reply were seen."""
+
+    def __init__(self) -> None:
+        self.seen: collections.Counter[str] = collections.Counter()
+
+    def add(self, told: listings.Listing | Refusal) -> None:
+        if isinstance(told, Refusal):
+            self.seen[f"refused {told.number}"] += 1
+            return
+        self.seen["accepted"] += 1
+        self.seen[f"n {told.n}"] += 1
+        self.seen[f"K {told.steps}"] += 1
+        for swept in told.directions:
+            self.seen["growth" if isinstance(swept, Growth) else "swept"] += 1
+        for said in told.guards:
+            self.seen[said.word] += 1
+
+    def summary(self) -> str:
+        def counted(prefix: str, names: list) -> str:
+            return " ".join(f"{name}:{self.seen[f'{prefix}{name}']}" for name in names)
+
+        return (
+            f"{self.seen['accepted']} accepted (n {counted('n ', list(range(1, MAX_N + 1)))},"
+            f" K {counted('K ', [DEFAULT_STEPS, MAX_STEPS])}),"
+            f" refused {counted('refused ', list(exact.REASONS))};"
+            f" directions {counted('', ['swept', 'growth'])};"
+            f" guards {counted('', [HIT, UNKNOWN, CLEAR, GROWTH])};"
+            f" accuracy rule checked on {self.seen['checked']} models"
+        )
+
+
+def compare(program: str, seed: int, count: int, accuracy_every: int, save: str) -> str:
+    """The summary of a comparison without a difference; the first difference is a failure."""
+    counts = Counts()
+    accepted = due = 0
+    for number in range(count):
+        data = models.file_of(seed, number)
+        expected = exact.listing(data).encode("ascii")
+        try:
+            found = output_of(program, data)
+            if found != expected:
+                raise files.Failure(first_difference(expected, found))
+            told = listings.parse(found.decode("ascii"))
+            counts.add(told)
+            if not isinstance(told, Refusal):
+                accepted += 1
+                model = exact.read_model(data)
+                if accepted > due and exact.check_cost(model) <= COST_LIMIT:
+                    exact.check_accuracy(model, told)
+                    counts.seen["checked"] += 1
+                    due = accepted + accuracy_every - 1
+        except (files.Failure, AssertionError) as problem:
+            path = os.path.join(save, f"difference-{seed}-{number}.bin")
+            files.write_bytes(path, data)
+            raise files.Failure(
+                f"file {number} of seed {seed}: {problem}\n{len(data)} bytes, saved as {path}"
+            ) from None
+    return f"{count} files of seed {seed} agree: {counts.summary()}"
+
+
+def main() -> None:
+    parser = argparse.ArgumentParser(description="Compare a program with the exact one.")
+    parser.add_argument("program", help="reads a file on standard input, writes its listing")
+    parser.add_argument("--seed", type=int, default=1)
+    parser.add_argument("--count", type=int, default=3_000)
+    parser.add_argument("--accuracy-every", type=int, default=5, metavar="N",
+                        help="check the accuracy rule of every N-th accepted model")
+    parser.add_argument("--save", default=".", metavar="DIR", help="where a differing file goes")
+    options = parser.parse_args()
+    program = os.path.abspath(options.program)
+    if not os.path.isfile(program) or not os.access(program, os.X_OK):
+        raise files.Failure(f"{options.program}: not a program that can be run")
+    every = max(1, options.accuracy_every)
+    print(compare(program, options.seed, options.count, every, options.save))
+
+
+if __name__ == "__main__":
+    files.run(main)

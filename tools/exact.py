@@ -1,0 +1,368 @@
+#!/usr/bin/env python3
+"""The exact program: slow, plain, and written from document 01 alone.
+
+In order: the reader of files; supports, reaches and the recurrence over whole numbers; the
+listing; and, apart from all of these, the exact largest values as fractions, by corners, with the
+check of the accuracy rule against them.
+
+    exact.py FILE            print the listing of a file (standard input without FILE, or for `-`)
+    exact.py --check FILE    and check the accuracy rule of what is printed
+"""
+
+from __future__ import annotations
+
+import argparse
+import itertools
+import sys
+from fractions import Fraction
+from operator import mul
+from typing import Collection, Iterator, Sequence
+
+import files
+import listings
+from layout import (
+    BODY_LENGTHS, BOX, CENTRE, DEFAULT_STEPS, DIRECTION, DIRECTION_UNIT, END, GROWTH_LIMIT, GUARD,
+    HEAD, INITIAL, INPUT, LOWER, MATRIX_UNIT, MAX_DIRECTION_ENTRY, MAX_DIRECTIONS, MAX_ENTRY,
+    MAX_GUARDS, MAX_N, MAX_POINTS, MAX_REACH, MAX_SPARE, MAX_STEPS, MIN_POINTS, POINT_KINDS,
+    READ_LIMIT, ROW, VERTEX, ZONOTOPE, Model, Set, Vector,
+)
+from listings import CLEAR, GROWTH, HIT, UNKNOWN, Growth, Listing, Refusal, Sweep, Verdict
+
+# "Refusals by place", in words.
+REASONS = {
+    1: "the file ends before the record does",
+    2: "unknown kind of record",
+    3: "a record of this kind is not allowed here",
+    4: f"n is not 1 to {MAX_N}, or the steps are not 0 to {MAX_STEPS}",
+    5: f"not the next row number, or an entry beyond {-MAX_ENTRY:,} to {MAX_ENTRY:,}",
+    6: f"the reach of the set passes {MAX_REACH:,}, or its upper corner is below its lower",
+    7: f"an entry beyond {-MAX_DIRECTION_ENTRY:,} to {MAX_DIRECTION_ENTRY:,}, or all entries zero",
+    8: "a guard on a direction that is not there",
+    9: "one generator, vertex, direction or guard too many",
+    10: "bytes follow the end",
+}
+
+
+# The file and its refusals
+
+
+class _Refused(Exception):
+    pass
+
+
+class _File:
+    """A place in a file, moved on record by record."""
+
+    def __init__(self, data: bytes) -> None:
+        self.data = data[:READ_LIMIT]
+        self.at = 0  # the next record's kind byte
+        self.start = 0  # the kind byte of the record whose body was taken last
+
+    def kind(self, allowed: Collection[int], full: Collection[int] = ()) -> int:
+        """The next kind, tested by 1, 2, 3 (not `allowed`) and 9 (of a list that is `full`)."""
+        if self.at == len(self.data):
+            raise _Refused(1, len(self.data))
+        kind = self.data[self.at]
+        if kind not in BODY_LENGTHS:
+            raise _Refused(2, self.at)
+        if kind not in allowed:
+            raise _Refused(3, self.at)
+        if kind in full:
+            raise _Refused(9, self.at)
+        return kind
+
+    def body(self) -> bytes:
+        """The next record's body, tested by 1; the place moves behind it."""
+        end = self.at + 1 + BODY_LENGTHS[self.data[self.at]]
+        if end > len(self.data):
+            raise _Refused(1, self.at)
+        body = self.data[self.at + 1 : end]
+        self.start, self.at = self.at, end
+        return body
+
+    def require(self, condition: bool, number: int) -> None:
+        """Refuse the record taken last by this number unless the condition holds."""
+        if not condition:
+            raise _Refused(number, self.start)
+
+
+def _signed(data: bytes) -> int:
+    return int.from_bytes(data, "little", signed=True)
+
+
+def _vector(data: bytes, n: int) -> Vector:
+    """The first n of the numbers of 4 bytes; those beyond n are ignored."""
+    return tuple(_signed(data[4 * i : 4 * i + 4]) for i in range(n))
+
+
+def _read_set(file: _File, part: int, n: int, later: set[int]) -> Set:
+    """One of the three forms of a set; `later` are the kinds that the next part starts with."""
+    firsts = {part + first: form for form, (first, _) in POINT_KINDS.items()}
+    form = firsts[file.kind(firsts)]
+    other = part + POINT_KINDS[form][1]
+    points: list[Vector] = []
+    while True:
+        points.append(_vector(file.body(), n))
+        in_reach = max(reach(Set(form, tuple(points)), n)) <= MAX_REACH
+        in_order = form != BOX or all(low <= high for low, high in zip(points[0], points[-1]))
+        file.require(in_reach and in_order, 6)
+        allowed = {other} if form != BOX or len(points) == 1 else set()
+        if len(points) >= MIN_POINTS[form]:
+            allowed |= later
+        full = {other} if len(points) == MAX_POINTS[form] else ()
+        if file.kind(allowed, full) != other:
+            return Set(form, tuple(points))
+
+
+def _read(file: _File) -> Model:
+    file.kind({HEAD})
+    body = file.body()
+    n, stated_steps = body[0], int.from_bytes(body[1:], "little")
+    file.require(1 <= n <= MAX_N and stated_steps <= MAX_STEPS, 4)
+    steps = DEFAULT_STEPS if stated_steps == 0 else stated_steps
+
+    matrix: list[Vector] = []
+    while len(matrix) < n:
+        file.kind({ROW})
+        body = file.body()
+        entries = _vector(body[1:], n)
+        in_limits = all(abs(entry) <= MAX_ENTRY for entry in entries)
+        file.require(body[0] == len(matrix) and in_limits, 5)
+        matrix.append(entries)
+
+    input_firsts = {INPUT + LOWER, INPUT + CENTRE, INPUT + VERTEX}
+    initial = _read_set(file, INITIAL, n, later=input_firsts)
+    input_ = _read_set(file, INPUT, n, later={DIRECTION})
+
+    directions: list[Vector] = []
+    allowed = {DIRECTION}
+    while file.kind(allowed, {DIRECTION} if len(directions) == MAX_DIRECTIONS else ()) == DIRECTION:
+        entries = _vector(file.body(), n)
+        in_limits = all(abs(entry) <= MAX_DIRECTION_ENTRY for entry in entries)
+        file.require(in_limits and any(entries), 7)
+        directions.append(entries)
+        allowed = {DIRECTION, GUARD, END}
+
+    guards: list[tuple[int, int]] = []
+    allowed = {GUARD, END}
+    while file.kind(allowed, {GUARD} if len(guards) == MAX_GUARDS else ()) == GUARD:
+        body = file.body()
+        file.require(body[0] < len(directions), 8)
+        guards.append((body[0], _signed(body[1:])))
+
+    file.body()
+    if file.at < len(file.data):
+        raise _Refused(10, file.at)
+    return Model(n, steps, tuple(matrix), initial, input_, tuple(directions), tuple(guards))
+
+
+def read_model(data: bytes) -> Model | Refusal:
+    """The model of a file, or the number and the offset of its refusal."""
+    try:
+        return _read(_File(data))
+    except _Refused as refused:
+        return Refusal(*refused.args)
+
+
+def refusal_message(name: str, data: bytes, refusal: Refusal) -> str:
+    """A refused file in words, for the person who named it."""
+    reason = REASONS[refusal.number] if data else "the file is empty"
+    if data and refusal.offset == 0 and data[0] != HEAD:
+        reason += f"; a packed model starts with byte {HEAD:02X}"
+    return f"{name}: refused {refusal.number} at {refusal.offset}: {reason}"
+
+
+# Sets and the recurrence
+
+
+def dot(a: Sequence[int], b: Sequence[int]) -> int:
+    return sum(map(mul, a, b))
+
+
+def support(set_: Set, r: Sequence[int]) -> int:
+    """The largest r · point over the set, by the formula of its form."""
+    if set_.form == BOX:
+        lower, upper = set_.points
+        return sum(x * (high if x > 0 else low) for x, low, high in zip(r, lower, upper))
+    if set_.form == ZONOTOPE:
+        centre, *generators = set_.points
+        return dot(centre, r) + sum(abs(dot(generator, r)) for generator in generators)
+    return max(dot(vertex, r) for vertex in set_.points)
+
+
+def reach(set_: Set, n: int) -> Vector:
+    """The set's largest |coordinate|, for each coordinate; also of a set that is still read."""
+    over = sum if set_.form == ZONOTOPE else max
+    return tuple(over(abs(point[i]) for point in set_.points) for i in range(n))
+
+
+def up(numerator: int, denominator: int) -> int:
+    """The quotient rounded up."""
+    return -(-numerator // denominator)
+
+
+def working(model: Model, direction: Vector) -> Iterator[tuple[list[int], list[int]]]:
+    """The working direction r(j) and its error e(j), for j = 0, 1, .. without end."""
+    r = [DIRECTION_UNIT * entry for entry in direction]
+    e = [0] * model.n
+    columns = list(zip(*model.matrix))
+    magnitudes = [[abs(entry) for entry in column] for column in columns]
+    while True:
+        yield r, e
+        sums = [dot(column, r) for column in columns]
+        e = [
+            up(dot(magnitude, e), MATRIX_UNIT) + (1 if total % MATRIX_UNIT else 0)
+            for magnitude, total in zip(magnitudes, sums)
+        ]
+        r = [total // MATRIX_UNIT for total in sums]  # // rounds toward minus infinity
+
+
+def sweep(model: Model, direction: Vector) -> Sweep | Growth:
+    """Spare figure, bounds and slacks of a direction, or the first step with growth."""
+    steps = []
+    largest = 0
+    for j, (r, e) in enumerate(itertools.islice(working(model, direction), model.steps + 1)):
+        largest = max(largest, *(abs(x) + y for x, y in zip(r, e)))
+        if largest > GROWTH_LIMIT:
+            return Growth(j)
+        steps.append((r, e))
+    spare = max(h for h in range(MAX_SPARE + 1) if 2**h * largest <= GROWTH_LIMIT)
+
+    initial_reach, input_reach = reach(model.initial, model.n), reach(model.input, model.n)
+    bounds, slacks = [], []
+    inputs = input_error = 0  # the sums over all j below k
+    for r, e in steps:
+        error = dot(e, initial_reach) + input_error
+        raw_bound = support(model.initial, r) + inputs + error
+        raw_slack = 2 * error
+        bounds.append(up(raw_bound, DIRECTION_UNIT))
+        slacks.append(up(raw_slack, DIRECTION_UNIT) + (1 if raw_bound % DIRECTION_UNIT else 0))
+        inputs += support(model.input, r)
+        input_error += dot(e, input_reach)
+    return Sweep(spare, tuple(bounds), tuple(slacks))
+
+
+def verdict(swept: Sweep | Growth, level: int) -> Verdict:
+    """What is said of a guard with this level, by the first-step rules."""
+    if isinstance(swept, Growth):
+        return Verdict(GROWTH, swept.step)
+    for step, (bound, slack) in enumerate(zip(swept.bounds, swept.slacks)):
+        if bound - slack >= level:
+            return Verdict(HIT, step)
+    for step, bound in enumerate(swept.bounds):
+        if bound >= level:
+            return Verdict(UNKNOWN, step)
+    return Verdict(CLEAR)
+
+
+def listing_of(model: Model) -> Listing:
+    """The listing of a model, as a value."""
+    sweeps = tuple(sweep(model, direction) for direction in model.directions)
+    guards = tuple(verdict(sweeps[number], level) for number, level in model.guards)
+    return Listing(model.n, model.steps, sweeps, guards)
+
+
+def listing(data: bytes) -> str:
+    """The whole text that the program `envelope` writes for a file."""
+    model = read_model(data)
+    return listings.write(model if isinstance(model, Refusal) else listing_of(model))
+
+
+# Exact largest values: no support formula, no working direction and no rounding from here on
+
+
+def corners(set_: Set) -> list[Vector]:
+    """Points of the set among which every linear function takes its largest value."""
+    if set_.form == BOX:
+        return sorted(set(itertools.product(*zip(*set_.points))))
+    if set_.form == ZONOTOPE:
+        centre, *generators = set_.points
+        points = {centre}
+        for generator in generators:
+            points = {
+                tuple(x + sign * y for x, y in zip(point, generator))
+                for point in points
+                for sign in (-1, 1)
+            }
+        return sorted(points)
+    return sorted(set(set_.points))
+
+
+def exact_values(model: Model) -> list[list[Fraction]]:
+    """The exact largest value of each direction at steps 0 to K.
+
+    A state is the image of the first state plus one image for each input, and each is chosen by
+    itself. So the largest value is the sum of the largest over the images of each set's corners.
+    The images go forward by the matrix, and after k moves are counted in 1 / 65,536^k.
+    """
+    states, inputs = corners(model.initial), corners(model.input)
+    driven = [Fraction(0)] * len(model.directions)
+    values: list[list[Fraction]] = [[] for _ in model.directions]
+    for k in range(model.steps + 1):
+        unit = MATRIX_UNIT**k
+        for number, direction in enumerate(model.directions):
+            largest = max(dot(direction, state) for state in states)
+            values[number].append(Fraction(largest, unit) + driven[number])
+            driven[number] += Fraction(max(dot(direction, point) for point in inputs), unit)
+        states, inputs = (
+            [tuple(dot(entries, point) for entries in model.matrix) for point in points]
+            for points in (states, inputs)
+        )
+    return values
+
+
+def check_cost(model: Model) -> int:
+    """About how many products `exact_values` takes."""
+    points = len(corners(model.initial)) + len(corners(model.input))
+    return points * model.n * (model.n + len(model.directions)) * (model.steps + 1)
+
+
+def check_accuracy(model: Model, told: Listing) -> None:
+    """Assert the accuracy rule of a listing's own figures, against the exact largest values."""
+    values = exact_values(model)
+    assert len(told.directions) == len(model.directions), "as many directions as the model"
+    assert len(told.guards) == len(model.guards), "as many guards as the model"
+    for number, (swept, exact) in enumerate(zip(told.directions, values)):
+        if isinstance(swept, Growth):
+            continue
+        assert len(swept.bounds) == model.steps + 1, f"direction {number}: steps 0 to K"
+        for k, (bound, slack) in enumerate(zip(swept.bounds, swept.slacks)):
+            place = f"direction {number} step {k}: exact {float(exact[k])}"
+            assert exact[k] <= bound, f"{place} passes bound {bound}"
+            assert exact[k] >= bound - slack, f"{place} is below bound {bound} - slack {slack}"
+    for index, ((number, level), said) in enumerate(zip(model.guards, told.guards)):
+        exact, swept = values[number], told.directions[number]
+        place = f"guard {index} level {level}: {said}"
+        if isinstance(swept, Growth):
+            assert said == Verdict(GROWTH, swept.step), place
+        elif said.word == HIT:
+            assert exact[said.step] >= level, place
+        elif said.word == UNKNOWN:
+            assert abs(exact[said.step] - level) <= swept.slacks[said.step], place
+        else:
+            assert said == Verdict(CLEAR), place
+            assert all(value < level for value in exact), place
+
+
+def main() -> int:
+    parser = argparse.ArgumentParser(description="Print the listing of a packed model.")
+    parser.add_argument("file", nargs="?", default="-", help="a packed model; - is standard input")
+    parser.add_argument("--check", action="store_true", help="also check the accuracy rule")
+    options = parser.parse_args()
+    data = files.read_bytes(options.file)
+    text = listing(data)
+    files.write_bytes(None, text.encode("ascii"))
+    model = read_model(data)
+    if isinstance(model, Refusal):
+        raise files.Failure(refusal_message(options.file, data, model))
+    if options.check:
+        try:
+            check_accuracy(model, listings.parse(text))
+        except AssertionError as error:
+            raise files.Failure(f"{options.file}: the accuracy rule fails: {error}") from None
+        print("the accuracy rule holds", file=sys.stderr)
+    return 0
+
+
+if __name__ == "__main__":
+    files.run(main)

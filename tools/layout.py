@@ -1,0 +1,126 @@
+"""The limits, the record layout and the model values of document 01, each stated once.
+
+In order: limits and units; record kinds and body lengths; sets and models; makers of records.
+The makers fill up to six entries with zeros and test nothing, so that wrong files can be made too.
+Not here: reading a file (`exact`).
+"""
+
+from __future__ import annotations
+
+import struct
+from dataclasses import dataclass
+from typing import Sequence
+
+Vector = tuple[int, ...]
+
+# "Limits" and "The three sets"
+MAX_N = 6
+MAX_STEPS = 256
+DEFAULT_STEPS = 60  # what a head that says 0 means
+MAX_ENTRY = 131_072
+MAX_REACH = 1_048_576
+MAX_DIRECTION_ENTRY = 1_000
+MAX_DIRECTIONS = 16
+MAX_GUARDS = 16
+MAX_GENERATORS = 8
+MAX_VERTICES = 16
+MIN_LEVEL, MAX_LEVEL = -(2**63), 2**63 - 1
+
+# "The recurrence"
+MATRIX_UNIT = 65_536
+DIRECTION_UNIT = 1_048_576
+GROWTH_LIMIT = 1_073_741_824
+MAX_SPARE = 10
+
+# "The file"
+READ_LIMIT = 2_048
+LONGEST_FILE = 1_521
+HEAD, ROW, DIRECTION, GUARD, END = 0x01, 0x02, 0x30, 0x40, 0xFF
+INITIAL, INPUT = 0x10, 0x20  # the kinds of a set's points are one of these plus one of the next
+LOWER, UPPER, CENTRE, GENERATOR, VERTEX = 0, 1, 2, 3, 4
+BODY_LENGTHS = {
+    HEAD: 3,
+    ROW: 25,
+    **{part + point: 24 for part in (INITIAL, INPUT) for point in range(5)},
+    DIRECTION: 24,
+    GUARD: 9,
+    END: 0,
+}
+
+BOX, ZONOTOPE, VERTICES = "box", "zonotope", "vertices"
+# The kind of a form's first point and that of the others.
+POINT_KINDS = {BOX: (LOWER, UPPER), ZONOTOPE: (CENTRE, GENERATOR), VERTICES: (VERTEX, VERTEX)}
+MIN_POINTS = {BOX: 2, ZONOTOPE: 2, VERTICES: 1}
+MAX_POINTS = {BOX: 2, ZONOTOPE: 1 + MAX_GENERATORS, VERTICES: MAX_VERTICES}
+
+
+@dataclass(frozen=True)
+class Set:
+    """A set's form and its points: lower and upper; centre and generators; or vertices."""
+
+    form: str
+    points: tuple[Vector, ...]
+
+
+@dataclass(frozen=True)
+class Model:
+    """A model without its unused entries: every vector has n entries."""
+
+    n: int
+    steps: int
+    matrix: tuple[Vector, ...]
+    initial: Set
+    input: Set
+    directions: tuple[Vector, ...]
+    guards: tuple[tuple[int, int], ...]  # direction number and level
+
+
+def _six(entries: Sequence[int]) -> bytes:
+    return struct.pack("<6i", *entries, *[0] * (MAX_N - len(entries)))
+
+
+def head(n: int, steps: int) -> bytes:
+    return struct.pack("<BBH", HEAD, n, steps)
+
+
+def row(number: int, entries: Sequence[int]) -> bytes:
+    return bytes([ROW, number]) + _six(entries)
+
+
+def point(kind: int, entries: Sequence[int]) -> bytes:
+    return bytes([kind]) + _six(entries)
+
+
+def direction(entries: Sequence[int]) -> bytes:
+    return point(DIRECTION, entries)
+
+
+def guard(number: int, level: int) -> bytes:
+    return struct.pack("<BBq", GUARD, number, level)
+
+
+def set_records(part: int, set_: Set) -> list[bytes]:
+    """The records of the initial set (part INITIAL) or the input set (part INPUT)."""
+    first, other = POINT_KINDS[set_.form]
+    return [
+        point(part + (other if index else first), entries)
+        for index, entries in enumerate(set_.points)
+    ]
+
+
+def records(model: Model, stated_steps: int | None = None) -> list[bytes]:
+    """The records of a model; `stated_steps` is what the head says where that is not K."""
+    return [
+        head(model.n, model.steps if stated_steps is None else stated_steps),
+        *(row(number, entries) for number, entries in enumerate(model.matrix)),
+        *set_records(INITIAL, model.initial),
+        *set_records(INPUT, model.input),
+        *map(direction, model.directions),
+        *(guard(number, level) for number, level in model.guards),
+        bytes([END]),
+    ]
+
+
+def encode(model: Model, stated_steps: int | None = None) -> bytes:
+    """The file of a model."""
+    return b"".join(records(model, stated_steps))

@@ -1,0 +1,374 @@
+#!/usr/bin/env python3
+"""Random models and files, the same for the same seed.
+
+In order: the parts of an accepted model; guards near the model's own bounds; values beyond a
+limit; damaged files. Most models have few steps and directions, so that checking them is quick.
+
+    models.py SEED NUMBER    write file NUMBER of that seed to standard output
+"""
+
+from __future__ import annotations
+
+import argparse
+import math
+import random
+import struct
+from dataclasses import replace
+from typing import Iterator
+
+import exact
+import files
+from layout import (
+    BODY_LENGTHS, BOX, DIRECTION, END, GUARD, HEAD, LONGEST_FILE, MATRIX_UNIT, MAX_DIRECTION_ENTRY,
+    MAX_DIRECTIONS, MAX_ENTRY, MAX_GUARDS, MAX_LEVEL, MAX_N, MAX_POINTS, MAX_REACH, MAX_STEPS,
+    MIN_LEVEL, READ_LIMIT, ROW, VERTICES, ZONOTOPE, Model, Set, Vector, head, point, records,
+)
+from listings import Growth
+
+I32_EXTREMES = (-(2**31), 2**31 - 1)
+
+# Matrix entry, direction entry and step at which |r| and |r| + e lie on two sides of the growth
+# limit (the first three) or of that limit halved several times, where the spare figure changes.
+EDGES = (
+    (75_922, 763, 2),
+    (82_784, 99, 10),
+    (99_334, 2, 15),
+    (81_325, 87, 5),
+    (99_334, 16, 5),
+    (107_523, 1, 7),
+    (84_567, 5, 10),
+    (66_721, 107, 10),
+    (66_725, 12, 16),
+)
+
+
+# Parts of an accepted model
+
+
+TEMPERS = (
+    *("calm",) * 3,  # magnitudes of a column sum to 1 at most
+    "turning",
+    "shuffled",  # each coordinate goes to another one unchanged: the largest sums that are swept
+    "cancelling",  # r stays small while e grows
+    "tiny",
+    "sparse",
+    "wide",
+    "extreme",
+    "edge",  # powers of two meet the growth limit, and ones beside them pass it by little
+)
+
+
+def _matrix(rng: random.Random, n: int, temper: str | None = None) -> tuple[Vector, ...]:
+    """A matrix of this temper, or of any."""
+    temper = temper or rng.choice(TEMPERS)
+    angle = rng.uniform(0.01, 1.5)
+    cos, sin = round(MATRIX_UNIT * math.cos(angle)), round(MATRIX_UNIT * math.sin(angle))
+    order = rng.sample(range(n), n)
+    scales = [rng.randint(60_000, MAX_ENTRY) for _ in range(n)]
+
+    def entry(i: int, j: int) -> int:
+        if temper == "calm":
+            return rng.randint(-MATRIX_UNIT // n, MATRIX_UNIT // n)
+        if temper == "turning":
+            other = i + 1 if i % 2 == 0 else i - 1
+            return cos if i == j else (sin, -sin)[i % 2] if j == other else 0
+        if temper == "shuffled":
+            return rng.choice((MATRIX_UNIT, -MATRIX_UNIT)) if j == order[i] else 0
+        if temper == "cancelling":
+            return (-1) ** i * scales[j]
+        if temper == "tiny":
+            return rng.randint(-3, 3)
+        if temper == "sparse":
+            return rng.choice((0, 0, rng.randint(-90_000, 90_000)))
+        if temper == "wide":
+            return rng.randint(-MAX_ENTRY, MAX_ENTRY)
+        if temper == "extreme":
+            return rng.choice((MAX_ENTRY, -MAX_ENTRY, MATRIX_UNIT, -MATRIX_UNIT, 1, -1, 0, 0))
+        return rng.choice((MAX_ENTRY, -MAX_ENTRY)) if i == j else rng.choice((0, 0, 0, 1, -1))
+
+    return tuple(tuple(entry(i, j) for j in range(n)) for i in range(n))
+
+
+def _edge(rng: random.Random, model: Model) -> Model:
+    """The model with one of EDGES in a coordinate, its first direction and its steps."""
+    entry, d, step = rng.choice(EDGES)
+    i = rng.randrange(model.n)
+    alone = tuple(1 if j == i else 0 for j in range(model.n))
+    return replace(
+        model,
+        steps=step,
+        matrix=tuple(
+            tuple(entry * x for x in alone) if j == i else other
+            for j, other in enumerate(model.matrix)
+        ),
+        directions=(tuple(d * x for x in alone), *model.directions[1:]),
+    )
+
+
+def _set(rng: random.Random, n: int, largest: bool = False) -> Set:
+    """A set in one of the three forms: of any size, or of the largest count and reach."""
+    form = rng.choice((BOX, ZONOTOPE, VERTICES))
+    scale = rng.choice((0, 1, 9, 100, 2_000, 50_000, MAX_REACH))
+    count = 2 if form == BOX else rng.choice((1, 2, 2, 3, 4, MAX_POINTS[form]))
+    if largest:
+        scale, count = MAX_REACH, MAX_POINTS[form]
+    if form == ZONOTOPE:
+        count = max(count, 2)
+        scale //= count
+    points = [[rng.randint(-scale, scale) for _ in range(n)] for _ in range(count)]
+    for i in range(n) if largest else rng.choice(((), (), (), (rng.randrange(n),))):
+        _stretch(points, form, rng.randrange(count), i, MAX_REACH)
+    if form == BOX:
+        points = [[f(pair) for pair in zip(*points)] for f in (min, max)]
+    return Set(form, tuple(map(tuple, points)))
+
+
+def _stretch(points: list[list[int]], form: str, index: int, i: int, reach: int) -> None:
+    """Give the set this reach in coordinate i, by its point of this index."""
+    others = sum(abs(p[i]) for p in points) - abs(points[index][i]) if form == ZONOTOPE else 0
+    sign = -1 if points[index][i] < 0 else 1
+    points[index][i] = sign * (reach - others)
+
+
+def _direction(rng: random.Random, n: int) -> Vector:
+    limit = rng.choice((1, 1, 3, 20, MAX_DIRECTION_ENTRY))
+    entries = [rng.randint(-limit, limit) for _ in range(n)]
+    if rng.random() < 0.3:
+        entries = [0] * n
+    entries[rng.randrange(n)] = rng.choice((-limit, limit))
+    return tuple(entries)
+
+
+def _level(rng: random.Random, swept: exact.Sweep | Growth) -> int:
+    """A level at, just below or just above a bound or a bound - slack; now and then any other."""
+    if isinstance(swept, Growth) or rng.random() < 0.1:
+        return rng.choice((MIN_LEVEL, MAX_LEVEL, 0, rng.randint(-(10**6), 10**6)))
+    top = swept.bounds.index(max(swept.bounds))
+    step = rng.choice((rng.randrange(len(swept.bounds)), top, top))
+    slack = rng.choice((0, swept.slacks[step]))
+    return swept.bounds[step] - slack + rng.choice((-1, 0, 0, 1))
+
+
+def _largest(rng: random.Random) -> Model:
+    """A model with every count, the sets' reaches and the steps at their limits."""
+    n = MAX_N
+    extreme = MAX_DIRECTION_ENTRY
+    return Model(
+        n=n,
+        steps=MAX_STEPS,
+        matrix=_matrix(rng, n, rng.choice(("shuffled", "calm"))),
+        initial=_set(rng, n, largest=True),
+        input=_set(rng, n, largest=True),
+        directions=tuple(
+            tuple(rng.choice((-extreme, extreme)) for _ in range(n)) for _ in range(MAX_DIRECTIONS)
+        ),
+        guards=(),
+    )
+
+
+def random_model(rng: random.Random) -> Model:
+    """An accepted model."""
+    n = rng.randint(1, MAX_N)
+    steps = rng.choice((1, 2, 3, 4, 6, 8, 11, 16)) if rng.random() < 0.95 else MAX_STEPS
+    many = rng.random() < 0.03 and steps < MAX_STEPS
+    count = MAX_DIRECTIONS if many else rng.choice((1, 1, 1, 2, 2, 3))
+    directions = [_direction(rng, n) for _ in range(count)]
+    if rng.random() < 0.1:
+        directions[-1] = directions[0]
+    model = Model(n, steps, _matrix(rng, n), _set(rng, n), _set(rng, n), tuple(directions), ())
+    choice = rng.random()
+    if choice < 0.03:
+        model = _edge(rng, model)
+    elif choice < 0.032:
+        model = _largest(rng)
+    return replace(model, guards=_guards(rng, model))
+
+
+def _guards(rng: random.Random, model: Model) -> tuple[tuple[int, int], ...]:
+    largest = len(model.directions) == MAX_DIRECTIONS
+    count = MAX_GUARDS if largest else rng.choice((0, 1, 2, 3, 4, 5, MAX_GUARDS))
+    numbers = [rng.randrange(len(model.directions)) for _ in range(count)]
+    sweeps = {number: exact.sweep(model, model.directions[number]) for number in set(numbers)}
+    return tuple((number, _level(rng, sweeps[number])) for number in numbers)
+
+
+# Files of accepted models
+
+
+def _stated(rng: random.Random, model: Model) -> list[bytes]:
+    """The records of a model, now and then with its steps left to the default."""
+    if model.steps < MAX_STEPS and len(model.directions) < 3 and rng.random() < 0.06:
+        return records(model, stated_steps=0)
+    return records(model)
+
+
+def _put(record: bytes, offset: int, form: str, value: int) -> bytes:
+    """A record with a number put in its place at an offset."""
+    data = bytearray(record)
+    struct.pack_into("<" + form, data, offset, value)
+    return bytes(data)
+
+
+def _first_entry(record: bytes) -> int | None:
+    """The offset of the first of six entries in a record that has them, told by its length."""
+    return {1 + BODY_LENGTHS[ROW]: 2, 1 + BODY_LENGTHS[DIRECTION]: 1}.get(len(record))
+
+
+def _with_rubbish(rng: random.Random, parts: list[bytes], n: int) -> list[bytes]:
+    """The records with any numbers in the entries beyond n, which the reader ignores."""
+    result = []
+    for record in parts:
+        first = _first_entry(record)
+        if first is not None:
+            for i in range(n, MAX_N):
+                value = rng.choice((*I32_EXTREMES, rng.randint(*I32_EXTREMES)))
+                record = _put(record, first + 4 * i, "i", value)
+        result.append(record)
+    return result
+
+
+# Values at and beyond the limits
+
+
+def _around(limit: int) -> tuple[int, ...]:
+    return (limit, limit + 1, -limit, -limit - 1, *I32_EXTREMES)
+
+
+def _strained(rng: random.Random, model: Model) -> list[bytes]:
+    """The records of a model with one value at its limit, beyond it by one, or far beyond."""
+    parts = records(model)
+    index = rng.choice((0, rng.randrange(len(parts) - 1), rng.randrange(len(parts) - 1)))
+    record = parts[index]
+    kind, first = record[0], _first_entry(record)
+    entry = None if first is None else first + 4 * rng.randrange(model.n)
+    if kind == HEAD:
+        n = rng.choice((0, 1, MAX_N, MAX_N + 1, 255, model.n))
+        parts[0] = head(n, rng.choice((0, 1, MAX_STEPS, MAX_STEPS + 1, 2**16 - 1, 3)))
+    elif kind == GUARD:
+        parts[index] = _put(record, 1, "B", rng.choice((len(model.directions), 255, 0)))
+    elif kind == ROW and rng.random() < 0.3:
+        parts[index] = _put(record, 1, "B", rng.choice((record[1] + 1, record[1] - 1 & 255, 255)))
+    elif kind == DIRECTION and rng.random() < 0.3:
+        parts[index] = point(kind, ())
+    else:
+        limit = {ROW: MAX_ENTRY, DIRECTION: MAX_DIRECTION_ENTRY}.get(kind, MAX_REACH)
+        parts[index] = _put(record, entry, "i", rng.choice(_around(limit)))
+    return parts
+
+
+def _overreaching(rng: random.Random, model: Model) -> list[bytes]:
+    """The records of a model, one set of which passes its reach or has crossed corners, by one."""
+    name = rng.choice(("initial", "input"))
+    set_ = getattr(model, name)
+    points = [list(p) for p in set_.points]
+    i = rng.randrange(model.n)
+    if set_.form == BOX and rng.random() < 0.5:
+        points[1][i] = points[0][i] - 1
+    else:
+        _stretch(points, set_.form, rng.randrange(len(points)), i, MAX_REACH + 1)
+    return records(replace(model, **{name: Set(set_.form, tuple(map(tuple, points)))}))
+
+
+def _crowded(rng: random.Random, model: Model) -> list[bytes]:
+    """The records of a model with one list at its largest count, or one beyond it."""
+    extra = rng.choice((0, 1))
+    what = rng.choice(("initial", "input", "directions", "guards"))
+    if what == "directions":
+        directions = [_direction(rng, model.n) for _ in range(MAX_DIRECTIONS + extra)]
+        model = replace(model, directions=tuple(directions))
+    elif what == "guards":
+        model = replace(model, guards=((0, rng.randint(-9, 9)),) * (MAX_GUARDS + extra))
+    else:
+        form = rng.choice((BOX, ZONOTOPE, VERTICES))
+        points = [[rng.randint(-9, 9) for _ in range(model.n)] for _ in range(MAX_POINTS[form])]
+        points = sorted(points) + [points[0]] * extra
+        model = replace(model, **{what: Set(form, tuple(map(tuple, points)))})
+    return records(model)
+
+
+# Damaged files
+
+
+def _disordered(rng: random.Random, model: Model) -> list[bytes]:
+    """The records of a model with one or two swapped, dropped, doubled, put elsewhere or new."""
+    parts = records(model)
+    for _ in range(rng.choice((1, 1, 2))):
+        how = rng.choice(("swap", "drop", "double", "move", "kind", "unknown"))
+        i, j = rng.randrange(len(parts)), rng.randrange(len(parts))
+        if how == "swap":
+            parts[i], parts[j] = parts[j], parts[i]
+        elif how == "drop" and len(parts) > 1:
+            del parts[i]
+        elif how == "double":
+            parts.insert(j, parts[i])
+        elif how == "move":
+            parts.insert(j, parts.pop(i))
+        else:
+            kinds = BODY_LENGTHS if how == "kind" else range(256)
+            parts[i] = bytes([rng.choice(list(kinds))]) + parts[i][1:]
+    return parts
+
+
+def _damaged(rng: random.Random, parts: list[bytes]) -> bytes:
+    """A file cut, with a byte changed, with bytes after its end, far too long, or of any bytes."""
+    data = b"".join(parts)
+    how = rng.choice(("cut", "stray", "change", "change", "change", "trail", "long", "random"))
+    if how == "cut":
+        return data[: rng.randrange(len(data) + 1)]
+    if how == "stray":  # some records and a kind byte alone
+        start = b"".join(parts[: rng.randrange(len(parts) + 1)])
+        return start + bytes([rng.choice(list(BODY_LENGTHS))])
+    if how == "change":
+        changed = bytearray(data)
+        changed[rng.randrange(len(data))] = rng.choice((rng.randrange(256), *BODY_LENGTHS))
+        return bytes(changed)
+    if how == "trail":
+        return data + rng.randbytes(rng.choice((1, 1, 2, 9, 30)))
+    if how == "long":
+        size = rng.choice((LONGEST_FILE, READ_LIMIT - 1, READ_LIMIT, READ_LIMIT + 1, 5_000))
+        filler = rng.choice((bytes(size), bytes([END]) * size, data * (size // len(data) + 1)))
+        return rng.choice((data, data[:-1])) + filler
+    return bytes([rng.choice(list(BODY_LENGTHS))]) + rng.randbytes(rng.randrange(300))
+
+
+def random_file(rng: random.Random) -> bytes:
+    """A file: of an accepted model, of one at or beyond a limit, or a damaged one."""
+    model = random_model(rng)
+    choice = rng.random()
+    if choice < 0.60:
+        parts = _stated(rng, model)
+    elif choice < 0.72:
+        parts = _strained(rng, model)
+    elif choice < 0.78:
+        parts = _overreaching(rng, model)
+    elif choice < 0.83:
+        parts = _crowded(rng, model)
+    elif choice < 0.91:
+        parts = _disordered(rng, model)
+    else:
+        return _damaged(rng, records(model))
+    if rng.random() < 0.3:
+        parts = _with_rubbish(rng, parts, model.n)
+    return b"".join(parts)
+
+
+def file_of(seed: int, number: int) -> bytes:
+    """File `number` of a seed's stream; it can be made again without those before it."""
+    return random_file(random.Random(f"{seed}/{number}"))
+
+
+def stream(seed: int, count: int) -> Iterator[bytes]:
+    """The first `count` files of a seed."""
+    return (file_of(seed, number) for number in range(count))
+
+
+def main() -> None:
+    parser = argparse.ArgumentParser(description="Write one random file to standard output.")
+    parser.add_argument("seed", type=int)
+    parser.add_argument("number", type=int)
+    options = parser.parse_args()
+    files.write_bytes(None, file_of(options.seed, options.number))
+
+
+if __name__ == "__main__":
+    files.run(main)

@@ -1,0 +1,268 @@
+#!/usr/bin/env python3
+"""Test files for a reader, with the reply that each must get.
+
+    readerfiles.py OUTDIR
+
+Writes the files 0001, 0002, .. and three texts: `names` (one in a row), `expected` (NAME: reply,
+which is `refused N at P` or `model N K`, by `exact`) and `about` (NAME: what the file is).
+The files and their order are always the same.
+"""
+
+from __future__ import annotations
+
+import argparse
+import os
+from dataclasses import replace
+from typing import Iterator
+
+import exact
+import files
+from layout import (
+    BODY_LENGTHS, BOX, CENTRE, DIRECTION, END, GENERATOR, GUARD, HEAD, INITIAL, INPUT, LOWER,
+    MAX_DIRECTION_ENTRY, MAX_DIRECTIONS, MAX_ENTRY, MAX_GUARDS, MAX_LEVEL, MAX_N, MAX_POINTS,
+    MAX_REACH, MAX_STEPS, MIN_POINTS, MIN_LEVEL, READ_LIMIT, ROW, UPPER, VERTEX, VERTICES, ZONOTOPE,
+    Model, Set, direction, encode, guard, head, point, records, row, set_records,
+)
+from listings import Refusal
+
+File = tuple[str, bytes]  # what it is, and its bytes
+
+FORMS = (BOX, ZONOTOPE, VERTICES)
+START = b""
+
+
+def made_set(form: str, n: int, count: int) -> Set:
+    """A set of this many points with small coordinates, each point larger than the one before."""
+    return Set(form, tuple(tuple(10 * p + i for i in range(n)) for p in range(count)))
+
+
+def made_model(form: str, n: int = 1, full: bool = False) -> Model:
+    """A model with both sets in this form, and with the least counts or the largest."""
+    count = MAX_POINTS[form] if full else MIN_POINTS[form]
+    points = made_set(form, n, count)
+    return Model(
+        n=n,
+        steps=MAX_STEPS if full else 1,
+        matrix=tuple(tuple(1_000 * i + j for j in range(n)) for i in range(n)),
+        initial=points,
+        input=points,
+        directions=tuple((d + 1,) * n for d in range(MAX_DIRECTIONS if full else 1)),
+        guards=tuple((d, 7 * d) for d in range(MAX_GUARDS if full else 0)),
+    )
+
+
+SAMPLE = Model(  # of document 01
+    n=1,
+    steps=3,
+    matrix=((32_768,),),
+    initial=Set(BOX, ((0,), (0,))),
+    input=Set(BOX, ((0,), (1,))),
+    directions=((1,),),
+    guards=((0, 1), (0, 2), (0, 3)),
+)
+# The file that is cut and changed everywhere.
+SMALL = replace(made_model(VERTICES), guards=((0, 2),))
+WIDE = replace(made_model(BOX, n=2), guards=((0, 5),))
+
+
+def places() -> dict[int, bytes]:
+    """For each kind a start of a file that ends just behind a record of that kind; 0 is none."""
+    rows = head(1, 3) + row(0, [32_768])
+    found = {0: START, HEAD: head(1, 3), ROW: rows}
+    for part, before in ((INITIAL, rows), (INPUT, rows + point(INITIAL + VERTEX, [5]))):
+        for form in FORMS:
+            first, *others = set_records(part, made_set(form, 1, MIN_POINTS[form]))
+            found[first[0]] = before + first
+            for other in others:
+                found[other[0]] = before + first + other
+    found[DIRECTION] = found[INPUT + UPPER] + direction([1])
+    found[GUARD] = found[DIRECTION] + guard(0, 2)
+    return found
+
+
+def accepted_files() -> Iterator[File]:
+    yield "the sample of document 01", encode(SAMPLE)
+    for form in FORMS:
+        yield f"shortest with {form}", encode(made_model(form))
+        yield f"longest with {form}", encode(made_model(form, MAX_N, full=True))
+    for n in range(2, MAX_N + 1):
+        yield f"n {n}", encode(made_model(ZONOTOPE, n))
+    yield "the head says 0 steps", encode(SAMPLE, stated_steps=0)
+    yield "steps at their limit", encode(replace(SAMPLE, steps=MAX_STEPS))
+    for sign in (1, -1):
+        yield "entry at its limit", encode(replace(SAMPLE, matrix=((sign * MAX_ENTRY,),)))
+        largest = sign * MAX_REACH
+        yield "reach at its limit", encode(replace(SAMPLE, input=Set(VERTICES, ((largest,),))))
+        extreme = sign * MAX_DIRECTION_ENTRY
+        yield "direction at its limit", encode(replace(SAMPLE, directions=((extreme,),)))
+    spread = Set(ZONOTOPE, ((-MAX_REACH + 7,), (4,), (-3,)))
+    yield "reach of a zonotope at its limit", encode(replace(SAMPLE, initial=spread))
+    yield "extreme levels", encode(replace(SAMPLE, guards=((0, MIN_LEVEL), (0, MAX_LEVEL))))
+    yield "a generator of zeros", encode(replace(SAMPLE, input=Set(ZONOTOPE, ((0,), (0,)))))
+    rubbish = [2**31 - 1, -(2**31), 1, -1, 0x01020304]
+    parts = [
+        head(1, 3),
+        row(0, [32_768, *rubbish]),
+        point(INITIAL + LOWER, [0, *rubbish]),
+        point(INITIAL + UPPER, [0, *rubbish[1:], 0]),
+        point(INPUT + VERTEX, [1, *rubbish]),
+        direction([1, *rubbish]),
+        bytes([END]),
+    ]
+    yield "any numbers beyond n", b"".join(parts)
+
+
+def order_files() -> Iterator[File]:
+    """Numbers 1, 2 and 3 at every place, each kind as its kind byte alone."""
+    unknown = (0x00, 0x03, 0x15, 0x25, 0x31, 0x41, 0xFE)
+    for index, (place, start) in enumerate(places().items()):
+        behind = f"after {place:02X}" if place else "at the start"
+        if place:
+            yield f"{place:02X} without its last byte", start[:-1]
+        yield f"{behind}: no byte", start
+        for kind in (unknown[index % len(unknown)], *BODY_LENGTHS):
+            yield f"{behind}: kind {kind:02X} alone", start + bytes([kind])
+    yield "after all rows: row n + 1", places()[ROW] + row(1, [0])
+    yield "after 11: a second upper corner", places()[INITIAL + UPPER] + point(INITIAL + UPPER, [9])
+    yield "a whole model after a head", head(1, 3) + encode(SAMPLE)
+
+
+def count_files() -> Iterator[File]:
+    """Number 9, for whole records and for kind bytes alone, and 3 before it."""
+    starts = places()
+    many = {
+        INITIAL + GENERATOR: starts[INITIAL + CENTRE] + point(INITIAL + GENERATOR, [1]) * 8,
+        INITIAL + VERTEX: starts[ROW] + point(INITIAL + VERTEX, [1]) * 16,
+        INPUT + GENERATOR: starts[INPUT + CENTRE] + point(INPUT + GENERATOR, [1]) * 8,
+        INPUT + VERTEX: starts[INITIAL + UPPER] + point(INPUT + VERTEX, [1]) * 16,
+        DIRECTION: starts[INPUT + UPPER] + direction([1]) * 16,
+        GUARD: starts[DIRECTION] + guard(0, 1) * 16,
+    }
+    for kind, start in many.items():
+        yield f"one {kind:02X} too many", start + bytes([kind]) + bytes(BODY_LENGTHS[kind])
+        yield f"one {kind:02X} too many, its kind alone", start + bytes([kind])
+        yield f"{kind:02X} at its largest count", start
+    yield "a 17th direction after a guard", many[DIRECTION] + guard(0, 1) + direction([1])
+
+
+def value_files() -> Iterator[File]:
+    """Numbers 4 to 8 and 10."""
+    for n, steps in ((0, 3), (7, 3), (255, 3), (1, 257), (1, 65_535), (0, 257)):
+        yield f"head {n} {steps}", head(n, steps) + b"".join(records(SAMPLE)[1:])
+
+    beyond = (MAX_ENTRY + 1, -MAX_ENTRY - 1, 2**31 - 1, -(2**31))
+    for entry in beyond:
+        yield f"entry {entry}", encode(replace(SAMPLE, matrix=((entry,),)))
+    yield "entry beyond its limit in the last column", encode(
+        replace(WIDE, matrix=((0, MAX_ENTRY + 1), (0, 0)))
+    )
+    for number in (1, 255):
+        yield f"first row is number {number}", head(1, 3) + row(number, [0])
+    for number in (0, 2):
+        yield f"second row is number {number}", head(2, 3) + row(0, [0, 0]) + row(number, [0, 0])
+
+    starts = places()
+    before = {INITIAL: starts[ROW], INPUT: starts[INITIAL + VERTEX]}
+    for part, start in before.items():
+        ahead = {
+            LOWER: start,
+            UPPER: start + point(part + LOWER, [0]),
+            CENTRE: start,
+            GENERATOR: start + point(part + CENTRE, [-1]),
+            VERTEX: start + point(part + VERTEX, [1]),
+        }
+        for which, so_far in ahead.items():
+            kind = part + which
+            largest = MAX_REACH if which == GENERATOR else MAX_REACH + 1
+            yield f"reach beyond its limit by one at {kind:02X}", so_far + point(kind, [largest])
+        yield f"crossed corners at {part + UPPER:02X}", ahead[UPPER] + point(part + UPPER, [-1])
+        least = -(2**31)
+        yield f"{part + VERTEX:02X} of {least}", start + point(part + VERTEX, [least])
+    wide_rows = b"".join(records(WIDE)[:3])
+    yield "corners crossed in the last coordinate", wide_rows + b"".join(
+        point(INITIAL + which, corner) for which, corner in ((LOWER, [0, 3]), (UPPER, [5, 2]))
+    )
+    yield "reach passed by a second generator", starts[INITIAL + CENTRE] + b"".join(
+        point(INITIAL + GENERATOR, [entry]) for entry in (MAX_REACH, 1)
+    )
+
+    for entries in ([MAX_DIRECTION_ENTRY + 1], [-MAX_DIRECTION_ENTRY - 1], [-(2**31)], [0], [0, 1]):
+        yield f"direction {entries}, n 1", starts[INPUT + UPPER] + direction(entries)
+    wide_sets = b"".join(records(WIDE)[:7])
+    yield "direction [0, 1001], n 2", wide_sets + direction([0, MAX_DIRECTION_ENTRY + 1])
+    yield "direction [0, 1], n 2", wide_sets + direction([0, 1]) + bytes([END])
+
+    for number in (1, 255):
+        yield f"guard on direction {number} of 1", starts[DIRECTION] + guard(number, 0)
+    yield "a wrong head without its last byte", head(7, 3)[:-1]
+    yield "a wrong row without its last byte", head(1, 3) + row(1, [2**31 - 1])[:-1]
+
+    sample = encode(SAMPLE)
+    for what, after in (
+        ("a zero byte", b"\0"),
+        ("a second end", bytes([END])),
+        ("itself again", sample),
+        ("as many bytes as are read", bytes(READ_LIMIT - len(sample))),
+        ("one byte more than is read", bytes(READ_LIMIT + 1 - len(sample))),
+        ("many bytes", bytes(5_000)),
+    ):
+        yield f"the sample, then {what}", sample + after
+    longest = encode(made_model(VERTICES, MAX_N, full=True))
+    yield "the longest file, then a byte", longest + b"\0"
+    yield "the longest file without its end", longest[:-1]
+
+
+def spoilt_files() -> Iterator[File]:
+    """Every cut of a good file, and each of its bytes changed."""
+    data = encode(SMALL)
+    yield "a good file", data
+    for length in range(len(data)):
+        yield f"its first {length} bytes", data[:length]
+    for offset in range(len(data)):
+        changed = bytes(255 - byte if i == offset else byte for i, byte in enumerate(data))
+        yield f"all bits changed of byte {offset}", changed
+
+
+def all_files() -> list[File]:
+    """All files, in their order."""
+    makers = (accepted_files, order_files, count_files, value_files, spoilt_files)
+    return [file for maker in makers for file in maker()]
+
+
+def reply(data: bytes) -> str:
+    """What the reader must say of a file."""
+    read = exact.read_model(data)
+    if isinstance(read, Refusal):
+        return f"refused {read.number} at {read.offset}"
+    return f"model {read.n} {read.steps}"
+
+
+def contents() -> dict[str, bytes]:
+    """All that is written, by name."""
+    made = {f"{number:04}": file for number, file in enumerate(all_files(), 1)}
+    texts = {
+        "names": [name for name in made],
+        "expected": [f"{name}: {reply(data)}" for name, (_, data) in made.items()],
+        "about": [f"{name}: {what}" for name, (what, _) in made.items()],
+    }
+    return {name: data for name, (_, data) in made.items()} | {
+        name: "".join(row + "\n" for row in rows).encode("ascii") for name, rows in texts.items()
+    }
+
+
+def main() -> None:
+    parser = argparse.ArgumentParser(description="Write test files for a reader.")
+    parser.add_argument("folder", metavar="OUTDIR")
+    options = parser.parse_args()
+    try:
+        os.makedirs(options.folder, exist_ok=True)
+    except OSError as error:
+        raise files.Failure(f"{options.folder}: cannot be made: {error.strerror}") from None
+    made = contents()
+    for name, data in made.items():
+        files.write_bytes(os.path.join(options.folder, name), data)
+    print(f"{made['names'].count(10)} files in {options.folder}")
+
+
+if __name__ == "__main__":
+    files.run(main)

@@ -1,0 +1,28 @@
+"""What the tests share: the way to the tools, small models and running a tool."""
+
+import os
+import subprocess
+import sys
+
+TOOLS = os.path.dirname(os.path.dirname(os.path.abspath(__file__)))
+sys.path.insert(0, TOOLS)
+
+from layout import BOX, Model, Set  # noqa: E402
+
+
+def box(*sides):
+    """The box with these lower and upper numbers, one pair for each coordinate."""
+    return Set(BOX, tuple(zip(*sides)))
+
+
+def single(entry, initial, input_, direction, steps, guards=()):
+    """A model of one coordinate, as document 01 writes its cases."""
+    levels = tuple((0, level) for level in guards)
+    return Model(1, steps, ((entry,),), box(initial), box(input_), ((direction,),), levels)
+
+
+def run_tool(name, *arguments, stdin=b"", cwd=None):
+    """Run a tool; what it wrote to standard output and to standard error, and its status."""
+    command = [sys.executable, os.path.join(TOOLS, name), *map(str, arguments)]
+    done = subprocess.run(command, input=stdin, capture_output=True, timeout=60, cwd=cwd)
+    return done.stdout, done.stderr.decode(), done.returncode

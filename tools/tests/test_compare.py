@@ -1,0 +1,73 @@
+"""Comparing: a right program agrees, and each kind of wrong one is told, with its file saved."""
+
+import os
+import stat
+import sys
+import tempfile
+import unittest
+from pathlib import Path
+
+from helpers import TOOLS, run_tool
+
+import exact
+import models
+
+
+class Compare(unittest.TestCase):
+    def setUp(self):
+        folder = tempfile.TemporaryDirectory()
+        self.addCleanup(folder.cleanup)
+        self.folder = Path(folder.name)
+
+    def program(self, body):
+        """A program of this Python text, with the listing of its input at hand as `text`."""
+        path = self.folder / "program"
+        path.write_text(
+            f"#!{sys.executable}\nimport os, sys\nsys.path.insert(0, {TOOLS!r})\nimport exact\n"
+            f"text = exact.listing(sys.stdin.buffer.read())\n{body}\n"
+        )
+        path.chmod(path.stat().st_mode | stat.S_IXUSR)
+        return path
+
+    def compare(self, body, *options):
+        return run_tool("compare.py", self.program(body), "--save", self.folder, *options)
+
+    def test_right_program(self):
+        out, said, status = self.compare("sys.stdout.write(text)", "--count", 12, "--seed", 3)
+        self.assertEqual((said, status), ("", 0))
+        self.assertEqual(out.count(b"\n"), 1)
+        replies = [exact.listing(data) for data in models.stream(3, 12)]
+        accepted = sum(reply.startswith("model") for reply in replies)
+        self.assertTrue(out.startswith(b"12 files of seed 3 agree: %d accepted" % accepted), out)
+
+    def test_wrong_output(self):
+        number = next(n for n in range(99) if "guard" in exact.listing(models.file_of(4, n)))
+        body = "sys.stdout.write(text.replace('guard', 'gate'))"
+        out, said, status = self.compare(body, "--seed", 4, "--count", 99)
+        self.assertEqual((out, status), (b"", 1))
+        self.assertIn(f"file {number} of seed 4", said)
+        self.assertIn("gate", said)
+        saved = self.folder / f"difference-4-{number}.bin"
+        self.assertIn(str(saved), said)
+        self.assertEqual(saved.read_bytes(), models.file_of(4, number))
+
+    def test_cut_output(self):
+        _, said, status = self.compare("sys.stdout.write(text[:-1])", "--count", 2)
+        self.assertEqual(status, 1)
+        self.assertIn("output row", said)
+
+    def test_crash(self):
+        body = "sys.stdout.write(text); sys.stdout.flush(); os.kill(os.getpid(), 9)"
+        _, said, status = self.compare(body, "--count", 2)
+        self.assertEqual(status, 1)
+        self.assertIn("signal 9", said)
+
+    def test_no_program(self):
+        for path in (self.folder, self.folder / "none", os.path.join(TOOLS, "tests", "helpers.py")):
+            _, said, status = run_tool("compare.py", path)
+            self.assertEqual(status, 1)
+            self.assertIn("not a program that can be run", said)
+
+
+if __name__ == "__main__":
+    unittest.main()

@@ -1,0 +1,367 @@
+"""The exact program against document 01's figures, and against runs counted one by one."""
+
+import itertools
+import tempfile
+import unittest
+from fractions import Fraction
+from pathlib import Path
+
+from helpers import box, run_tool, single
+
+import exact
+import listings
+import models
+from layout import (
+    BODY_LENGTHS, LONGEST_FILE, VERTICES, ZONOTOPE, Model, Set, direction, encode, guard, head,
+    point, row,
+)
+from listings import Growth, Listing, Refusal, Sweep, Verdict
+
+# Document 01's sample, byte by byte: n 1, steps 3; row 0; four corners; a direction; three guards.
+REST = "00" * 20  # entries 1 to 5
+SAMPLE = bytes.fromhex(
+    "01 01 0300"
+    f"02 00 00800000 {REST}"
+    f"10 00000000 {REST} 11 00000000 {REST}"
+    f"20 00000000 {REST} 21 01000000 {REST}"
+    f"30 01000000 {REST}"
+    "40 00 0100000000000000 40 00 0200000000000000 40 00 0300000000000000"
+    "FF"
+)
+SAMPLE_LISTING = """\
+model 1 3
+dir 0 spare 10
+0 0 0
+1 1 0
+2 2 1
+3 2 1
+guard 0 HIT 1
+guard 1 UNKNOWN 2
+guard 2 CLEAR
+"""
+
+
+def swept(model):
+    return exact.sweep(model, model.directions[0])
+
+
+class Figures(unittest.TestCase):
+    """The fourteen cases of document 01, the sample, and further figures worked by hand."""
+
+    def test_case_1(self):
+        told = swept(single(65_536, (2, 5), (-1, 1), 3, 2))
+        self.assertEqual((told.bounds, told.slacks), ((15, 18, 21), (0, 0, 0)))
+
+    def test_cases_2_and_3(self):
+        model = single(65_536, (2, 5), (-1, 1), 3, 2, guards=(21, 22))
+        self.assertEqual(exact.listing_of(model).guards, (Verdict("HIT", 2), Verdict("CLEAR")))
+
+    def test_case_4(self):
+        told = swept(single(32_768, (0, 100), (0, 0), 1, 3))
+        self.assertEqual((told.bounds, told.slacks), ((100, 50, 25, 13), (0, 0, 0, 1)))
+
+    def test_case_5(self):
+        model = single(1, (0, 100), (0, 0), 1, 2)
+        steps = list(itertools.islice(exact.working(model, (1,)), 3))
+        self.assertEqual([r for r, _ in steps], [[1_048_576], [16], [0]])
+        self.assertEqual(steps[2][1], [1])
+        self.assertEqual((swept(model).bounds, swept(model).slacks), ((100, 1, 1), (0, 1, 2)))
+
+    def test_case_6(self):
+        model = single(1, (0, 100), (0, 0), -1, 2)
+        *_, last = itertools.islice(exact.working(model, (-1,)), 3)
+        self.assertEqual(last, ([-1], [1]))
+        self.assertEqual(swept(model).bounds, (0, 0, 1))
+
+    def test_cases_7_and_8(self):
+        self.assertEqual(swept(single(131_072, (0, 0), (0, 0), 1, 10)).spare, 0)
+        self.assertEqual(swept(single(131_072, (0, 0), (0, 0), 1, 11)), Growth(11))
+
+    def test_case_9(self):
+        set_ = Set(ZONOTOPE, ((1, -2), (3, 1), (-1, 2)))
+        self.assertEqual((exact.support(set_, (1, 1)), exact.reach(set_, 2)), (4, (5, 5)))
+
+    def test_case_10(self):
+        self.assertEqual(exact.support(Set(VERTICES, ((0, 0), (4, 0), (0, 3))), (1, 2)), 6)
+
+    def test_case_11(self):
+        self.assertEqual(exact.support(box((-2, 1), (3, 4)), (-1, 1)), 6)
+
+    def test_case_12(self):
+        zero = box((0, 0), (0, 0))
+        rows = ((0, 65_536), (0, 0))
+        model = Model(2, 1, rows, box((0, 1), (7, 9)), zero, ((1, 0),), ())
+        self.assertEqual(swept(model).bounds[1], 9)
+
+    def test_case_13(self):
+        sets = box((0, 0)), box((0, 0))
+        for entry, number in ((1_000, None), (1_001, 7), (-1_001, 7)):
+            model = Model(1, 1, ((0,),), *sets, ((entry,),), ())
+            self.assertEqual(getattr(exact.read_model(encode(model)), "number", None), number)
+        for reach, number in ((1_048_576, None), (1_048_577, 6), (-1_048_577, 6)):
+            initial = Set(VERTICES, ((reach,),))
+            model = Model(1, 1, ((0,),), initial, sets[1], ((1,),), ())
+            self.assertEqual(getattr(exact.read_model(encode(model)), "number", None), number)
+
+    def test_case_14(self):
+        self.assertEqual(exact.listing(b""), "refused 1 at 0\n")
+
+    def test_sample(self):
+        self.assertEqual(len(SAMPLE), 186)
+        self.assertEqual(exact.listing(SAMPLE), SAMPLE_LISTING)
+
+    def test_growth_counts_e(self):
+        model = single(75_922, (0, 0), (0, 0), 763, 2)
+        *_, last = itertools.islice(exact.working(model, (763,)), 3)
+        self.assertEqual(last, ([2**30], [1]))
+        self.assertEqual(swept(model), Growth(2))
+        self.assertEqual(swept(single(75_922, (0, 0), (0, 0), 763, 1)).spare, 0)
+
+    def test_spare_counts_e(self):
+        self.assertEqual(swept(single(81_325, (0, 0), (0, 0), 87, 5)).spare, 1)
+
+    def test_e_is_rounded_up(self):
+        told = swept(single(3, (0, 1), (0, 0), 1, 3))
+        self.assertEqual((told.bounds, told.slacks), ((1, 1, 1, 1), (0, 1, 2, 2)))
+
+    def test_slack_is_doubled(self):
+        told = swept(single(3, (0, 600_000), (0, 0), 1, 2))
+        self.assertEqual((told.bounds, told.slacks), ((600_000, 28, 1), (0, 1, 3)))
+
+    def test_growth_listing(self):
+        """Direction 2,000 / 2 doubles past 2^30 at once: 1,000 is the most, and 2,000 > 1,024."""
+        model = single(131_072, (0, 0), (0, 0), 1_000, 3, guards=(5,))
+        text = "model 1 3\ndir 0 growth 1\nguard 0 GROWTH 1\n"
+        self.assertEqual(exact.listing(encode(model)), text)
+
+    def test_default_steps(self):
+        model = single(0, (0, 0), (0, 0), 1, 3)
+        text = exact.listing(encode(model, stated_steps=0))
+        self.assertTrue(text.startswith("model 1 60\n"))
+        self.assertTrue(text.endswith("\n60 0 0\n"))
+
+
+class Reader(unittest.TestCase):
+    """Numbers and offsets worked out from "The file" and "Refusals by place"."""
+
+    rows = head(1, 3) + row(0, [5])  # 30 bytes
+    sets = rows + point(0x14, [1]) + point(0x24, [1])  # 80 bytes
+    asked = sets + direction([1])  # 105 bytes
+
+    def refused(self, data, number, offset):
+        self.assertEqual(exact.read_model(data), Refusal(number, offset), data.hex())
+
+    def test_lengths(self):
+        self.assertEqual([len(part) for part in (self.rows, self.sets, self.asked)], [30, 80, 105])
+        self.assertEqual(sum(BODY_LENGTHS.values()), 3 + 25 + 10 * 24 + 24 + 9)
+
+    def test_kind_before_body(self):
+        self.refused(b"\x01", 1, 0)
+        self.refused(b"\x00", 2, 0)
+        self.refused(b"\x02", 3, 0)
+        self.refused(self.rows + b"\x02", 3, 30)  # row n + 1, though its body is cut
+        self.refused(self.rows + b"\x14", 1, 30)
+        self.refused(self.asked + direction([1]) * 15 + b"\x30", 9, 105 + 15 * 25)
+
+    def test_order_before_count(self):
+        many = self.asked + direction([1]) * 15 + guard(0, 1)
+        self.refused(many + direction([1]), 3, len(many))
+        corners = self.rows + point(0x10, [1]) + point(0x11, [1])
+        self.refused(corners + point(0x11, [1]), 3, 80)
+        self.refused(head(1, 3) + head(1, 3), 3, 4)
+
+    def test_parts_below_their_least_count(self):
+        self.refused(head(2, 3) + row(0, [5]) + point(0x14, [1]), 3, 30)
+        self.refused(self.rows + point(0x12, [1]) + point(0x24, [1]), 3, 55)
+        self.refused(self.rows + point(0x10, [1]) + point(0x24, [1]), 3, 55)
+        self.refused(self.sets + b"\xff", 3, 80)
+        self.refused(self.rows + direction([1]), 3, 30)
+
+    def test_counts(self):
+        for first, other, most in ((0x12, 0x13, 8), (0x14, 0x14, 15)):
+            full = self.rows + point(first, [1]) + point(other, [1]) * most
+            self.refused(full, 1, len(full))
+            self.refused(full + point(other, [1]), 9, len(full))
+        guards = self.asked + guard(0, 1) * 16
+        self.assertIsInstance(exact.read_model(guards + b"\xff"), Model)
+        self.refused(guards + guard(0, 1) + b"\xff", 9, 105 + 160)
+
+    def test_values(self):
+        self.refused(head(0, 3), 4, 0)
+        self.refused(head(7, 3), 4, 0)
+        self.refused(head(1, 257), 4, 0)
+        self.refused(head(1, 3) + row(1, [0]), 5, 4)
+        self.refused(head(1, 3) + row(0, [131_073]), 5, 4)
+        self.refused(head(1, 3) + row(0, [-(2**31)]), 5, 4)
+        self.refused(self.rows + point(0x10, [3]) + point(0x11, [2]), 6, 55)
+        self.refused(self.rows + point(0x12, [-9]) + point(0x13, [1_048_568]), 6, 55)
+        self.refused(self.sets + direction([0, 1]), 7, 80)
+        self.refused(self.asked + guard(1, 0), 8, 105)
+
+    def test_reach_of_a_zonotope_is_summed(self):
+        start = self.rows + point(0x12, [-1_048_570]) + point(0x13, [-6])
+        self.refused(start, 1, 80)
+        self.refused(start + point(0x13, [1]), 6, 80)
+
+    def test_corners_may_cross_beyond_n(self):
+        data = self.rows + point(0x10, [1, 5]) + point(0x11, [1, 4]) + point(0x24, [0])
+        self.assertIsInstance(exact.read_model(data + direction([1]) + b"\xff"), Model)
+
+    def test_bytes_after_the_end(self):
+        self.refused(self.asked + b"\xff\xff", 10, 106)
+        self.refused(self.asked + b"\xff" + bytes(5_000), 10, 106)
+
+    def test_entries_beyond_n_are_ignored(self):
+        junk = [7] * 5
+        data = head(1, 3) + row(0, [5, *junk]) + point(0x14, [1, *junk])
+        data += point(0x24, [1, *junk]) + direction([1, *junk]) + b"\xff"
+        self.assertEqual(exact.read_model(data), exact.read_model(self.asked + b"\xff"))
+
+    def test_longest_file(self):
+        points = Set(VERTICES, ((1,) * 6,) * 16)
+        model = Model(6, 256, ((0,) * 6,) * 6, points, points, ((1,) * 6,) * 16, ((15, 0),) * 16)
+        data = encode(model)
+        self.assertEqual((len(data), LONGEST_FILE), (1_521, 1_521))
+        self.assertEqual(exact.read_model(data), model)
+
+
+def values_by_runs(model):
+    """The exact largest values over all corner runs, each counted whole by the run's definition."""
+    largest = [[None] * (model.steps + 1) for _ in model.directions]
+
+    def visit(step, state):
+        for number, entries in enumerate(model.directions):
+            value = sum(d * x for d, x in zip(entries, state))
+            seen = largest[number][step]
+            largest[number][step] = value if seen is None else max(seen, value)
+        if step < model.steps:
+            moved = [
+                sum(Fraction(entry, 65_536) * x for entry, x in zip(entries, state))
+                for entries in model.matrix
+            ]
+            for chosen in inputs:
+                visit(step + 1, [x + u for x, u in zip(moved, chosen)])
+
+    inputs = exact.corners(model.input)
+    for state in exact.corners(model.initial):
+        visit(0, [Fraction(x) for x in state])
+    return largest
+
+
+class ExactValues(unittest.TestCase):
+    def test_corners(self):
+        self.assertEqual(exact.corners(box((0, 1), (7, 9))), [(0, 7), (0, 9), (1, 7), (1, 9)])
+        zonotope = Set(ZONOTOPE, ((1, -2), (3, 1), (-1, 2)))
+        self.assertEqual(exact.corners(zonotope), [(-3, -1), (-1, -5), (3, 1), (5, -3)])
+        self.assertEqual(exact.corners(Set(VERTICES, ((4, 0), (4, 0)))), [(4, 0)])
+
+    def test_case_4(self):
+        model = single(32_768, (0, 100), (0, 0), 1, 3)
+        self.assertEqual(exact.exact_values(model), [[100, 50, 25, Fraction(25, 2)]])
+
+    def test_sample(self):
+        values = exact.exact_values(exact.read_model(SAMPLE))
+        self.assertEqual(values, [[0, 1, Fraction(3, 2), Fraction(7, 4)]])
+
+    def test_against_all_corner_runs(self):
+        checked = 0
+        for data in models.stream(7, 400):
+            model = exact.read_model(data)
+            if isinstance(model, Refusal) or model.steps > 4:
+                continue
+            states, inputs = exact.corners(model.initial), exact.corners(model.input)
+            if len(states) * len(inputs) ** model.steps <= 300:
+                self.assertEqual(exact.exact_values(model), values_by_runs(model))
+                checked += 1
+        self.assertGreater(checked, 20)
+
+    def test_accuracy_of_random_models(self):
+        checked = 0
+        for data in models.stream(8, 250):
+            model = exact.read_model(data)
+            if not isinstance(model, Refusal) and exact.check_cost(model) < 100_000:
+                exact.check_accuracy(model, exact.listing_of(model))
+                checked += 1
+        self.assertGreater(checked, 100)
+
+
+class Accuracy(unittest.TestCase):
+    """The check of the accuracy rule fails where it must; true values are 0, 1, 3/2, 7/4."""
+
+    model = exact.read_model(SAMPLE)
+
+    def check(self, bounds, slacks, *guards):
+        told = Listing(1, 3, (Sweep(10, bounds, slacks),), guards)
+        exact.check_accuracy(self.model, told)
+
+    def fails(self, *arguments):
+        with self.assertRaises(AssertionError):
+            self.check(*arguments)
+
+    right = (Verdict("HIT", 1), Verdict("UNKNOWN", 2), Verdict("CLEAR"))
+
+    def test_right(self):
+        self.check((0, 1, 2, 2), (0, 0, 1, 1), *self.right)
+
+    def test_bounds_and_slacks(self):
+        self.fails((0, 0, 2, 2), (0, 0, 1, 1), *self.right)
+        self.fails((0, 1, 2, 2), (0, 0, 0, 1), *self.right)
+        self.fails((0, 1, 2, 1), (0, 0, 1, 1), *self.right)
+        self.fails((0, 1, 2, 4), (0, 0, 1, 2), *self.right)
+        self.fails((0, 1, 2), (0, 0, 1), *self.right)
+
+    def test_verdicts(self):
+        good = (0, 1, 2, 2), (0, 0, 1, 1)
+        self.fails(*good, Verdict("HIT", 0), *self.right[1:])
+        self.fails(*good, Verdict("CLEAR"), *self.right[1:])
+        self.fails(*good, self.right[0], Verdict("UNKNOWN", 0), self.right[2])
+        self.fails(*good, self.right[0], Verdict("HIT", 3), self.right[2])
+        self.fails(*good, *self.right[:2], Verdict("UNKNOWN", 3))
+        self.fails(*good, *self.right[:2])
+
+
+class Listings(unittest.TestCase):
+    def test_round_trip(self):
+        for data in models.stream(9, 60):
+            text = exact.listing(data)
+            self.assertEqual(listings.write(listings.parse(text)), text)
+
+    def test_wrong_texts(self):
+        for text, place in (
+            ("hello\n", ":1:"),
+            ("model 1 1\n", ":2:"),
+            ("model 1 1\ndir 0 spare 3\n0 0 0\n", ":4:"),
+            ("model 1 1\ndir 0 spare 3\n0 0 0\n1 x 0\n", ":4:"),
+            ("model 1 1\ndir 0 growth 1\nguard 1 CLEAR\n", ":3:"),
+            ("refused 1 at 0\nmore\n", ":2:"),
+        ):
+            with self.assertRaises(listings.Failure) as caught:
+                listings.parse(text, "t")
+            self.assertIn(f"t{place}", str(caught.exception))
+
+
+class Command(unittest.TestCase):
+    def test_listing_and_check(self):
+        self.assertEqual(run_tool("exact.py", "-", stdin=SAMPLE), (SAMPLE_LISTING.encode(), "", 0))
+        out, said, status = run_tool("exact.py", "--check", "-", stdin=SAMPLE)
+        self.assertEqual((out, status), (SAMPLE_LISTING.encode(), 0))
+        self.assertIn("accuracy rule holds", said)
+
+    def test_bad_input(self):
+        with tempfile.TemporaryDirectory() as folder:
+            empty = Path(folder, "empty")
+            empty.write_bytes(b"")
+            for path, message in (
+                (Path(folder, "none"), "no such file"),
+                (folder, "is a directory"),
+                (empty, "the file is empty"),
+                (__file__, "a packed model starts with byte 01"),
+            ):
+                out, said, status = run_tool("exact.py", path)
+                self.assertEqual(status, 1)
+                self.assertIn(message, said)
+                self.assertIn(str(path), said)
+
+
+if __name__ == "__main__":
+    unittest.main()

@@ -1,0 +1,85 @@
+"""The examples are what their texts give, and show what they are there for."""
+
+import shutil
+import tempfile
+import unittest
+from pathlib import Path
+
+import helpers  # noqa: F401
+
+import exact
+import examples
+import files
+import listings
+import pack
+from layout import VERTICES, ZONOTOPE
+
+
+def source_of(name):
+    return pack.load(str(examples.FOLDER / f"{name}.model"))
+
+
+def listing_of(name):
+    data = files.read_bytes(str(examples.FOLDER / f"{name}.listing"))
+    return listings.parse(data.decode("ascii"))
+
+
+class Examples(unittest.TestCase):
+    names = sorted(path.stem for path in examples.FOLDER.glob("*.model"))
+
+    def test_up_to_date(self):
+        self.assertEqual(examples.stale(), [])
+        self.assertGreaterEqual(len(self.names), 6)
+
+    def test_stale_is_seen(self):
+        with tempfile.TemporaryDirectory() as name:
+            folder = Path(name)
+            for suffix in (".model", ".bin", ".svg"):
+                shutil.copy(examples.FOLDER / f"verdicts{suffix}", folder)
+            shutil.copy(examples.FOLDER / "rail.listing", folder)
+            (folder / "verdicts.bin").write_bytes(b"\x01")
+            stale = ["rail.listing", "verdicts.bin", "verdicts.listing"]
+            self.assertEqual(examples.stale(folder), stale)
+
+    def test_accuracy(self):
+        for name in self.names:
+            exact.check_accuracy(source_of(name).model, listing_of(name))
+
+    def test_unpacked_again(self):
+        for name in self.names:
+            data = source_of(name).data
+            self.assertEqual(pack.parse(pack.unpack(data)).data, data)
+
+    def test_what_each_shows(self):
+        said = {name: {verdict.word for verdict in listing_of(name).guards} for name in self.names}
+        for name in ("verdicts", "head", "rail"):
+            self.assertLessEqual({"HIT", "UNKNOWN", "CLEAR"}, said[name])
+        self.assertEqual(listing_of("runaway").directions[0], listings.Growth(32))
+        self.assertIn("GROWTH", said["runaway"])
+        self.assertEqual((source_of("cooling").stated_steps, listing_of("cooling").steps), (0, 60))
+        self.assertEqual(source_of("budget").model.input.form, VERTICES)
+        self.assertEqual(source_of("head").model.initial.form, ZONOTOPE)
+
+    def test_the_sample_is_document_01s(self):
+        self.assertEqual(len(source_of("verdicts").data), 186)
+        expected = "model 1 3/dir 0 spare 10/0 0 0/1 1 0/2 2 1/3 2 1/"
+        expected += "guard 0 HIT 1/guard 1 UNKNOWN 2/guard 2 CLEAR/"
+        self.assertEqual(listings.write(listing_of("verdicts")), expected.replace("/", "\n"))
+
+    def test_runaway_with_fewer_steps(self):
+        """Its text says that 31 steps are swept whole."""
+        text = (examples.FOLDER / "runaway.model").read_text()
+        model = pack.parse(text.replace("steps 60", "steps 31")).model
+        self.assertIsInstance(exact.listing_of(model).directions[0], listings.Sweep)
+
+    def test_budget_as_a_box(self):
+        """Its text says that the guard on `both` is HIT with the box around the vertices."""
+        text = (examples.FOLDER / "budget.model").read_text()
+        start, end = text.index("input vertices"), text.index("direction sag")
+        boxed = text[:start] + "input box\nlower -500 0\nupper 0 20\n" + text[end:]
+        self.assertEqual(listing_of("budget").guards[3].word, "CLEAR")
+        self.assertEqual(exact.listing_of(pack.parse(boxed).model).guards[3].word, "HIT")
+
+
+if __name__ == "__main__":
+    unittest.main()

@@ -1,0 +1,118 @@
+"""The random files: always the same, of every sort, and able to tell a wrong program."""
+
+import itertools
+import types
+import unittest
+
+import helpers  # noqa: F401
+
+import exact
+import models
+from layout import BOX, READ_LIMIT, VERTICES, ZONOTOPE
+from listings import Refusal
+
+SEED, COUNT = 1, 1_000
+
+# A wrong answer's name, the text of `exact` that is changed, and what it becomes.
+EDITS = (
+    ("matrix_not_transposed", "list(zip(*model.matrix))", "list(model.matrix)"),
+    ("rounded_toward_zero", "total // MATRIX_UNIT", "int(Fraction(total, MATRIX_UNIT))"),
+    ("fraction_left_out", " + (1 if raw_bound % DIRECTION_UNIT else 0)", ""),
+    ("remainder_left_out", " + (1 if total % MATRIX_UNIT else 0)", ""),
+    ("growth_without_e", "if largest > GROWTH_LIMIT", "if max(map(abs, r)) > GROWTH_LIMIT"),
+    ("growth_at_limit", "largest > GROWTH_LIMIT", "largest >= GROWTH_LIMIT"),
+    ("spare_without_e", "2**h * largest", "2**h * max(abs(x) for r, _ in steps for x in r)"),
+    ("spare_below_limit", "largest <= GROWTH_LIMIT", "largest < GROWTH_LIMIT"),
+    ("e_rounded_down", "up(dot(magnitude, e), MATRIX_UNIT)", "dot(magnitude, e) // MATRIX_UNIT"),
+    ("slack_not_doubled", "2 * error", "error"),
+    ("bound_rounded_down", "up(raw_bound, DIRECTION_UNIT)", "raw_bound // DIRECTION_UNIT"),
+    ("input_error_lost", "input_error += dot(e, input_reach)", "pass"),
+    ("lower_corner_taken", "high if x > 0 else low", "low if x > 0 else high"),
+    ("generator_signed", "abs(dot(generator, r))", "dot(generator, r)"),
+    ("least_vertex", "return max(dot(vertex", "return min(dot(vertex"),
+    ("hit_above_level", "bound - slack >= level", "bound - slack > level"),
+    ("unknown_above_level", "if bound >= level", "if bound > level"),
+    ("body_before_order", "if kind not in allowed:",
+     "if self.at + BODY_LENGTHS[kind] >= len(self.data):\n"
+     "            raise _Refused(1, self.at)\n"
+     "        if kind not in allowed:"),
+    ("offset_of_body", "self.start, self.at = self.at", "self.start, self.at = self.at + 1"),
+    ("zero_steps_kept", "DEFAULT_STEPS if stated_steps == 0 else stated_steps", "stated_steps"),
+    ("row_number_untested", "body[0] == len(matrix) and in_limits", "in_limits"),
+    ("reach_of_one_point", "reach(Set(form, tuple(points))", "reach(Set(form, (points[-1],))"),
+    ("corners_crossed", "in_reach and in_order", "in_reach"),
+    ("big_endian", 'int.from_bytes(data, "little", signed=True)',
+     'int.from_bytes(data, "big", signed=True)'),
+    ("entries_beyond_n_kept", "4 * i + 4]) for i in range(n))", "4 * i + 4]) for i in range(6))"),
+    ("bytes_after_end_ignored", "if file.at < len(file.data)", "if False"),
+    ("zero_direction", "in_limits and any(entries)", "in_limits"),
+    ("guard_on_no_direction", "body[0] < len(directions)", "True"),
+    ("entry_limit_off_by_one", "<= MAX_ENTRY", "<= MAX_ENTRY + 1"),
+    ("reach_limit_off_by_one", "<= MAX_REACH", "<= MAX_REACH + 1"),
+    ("direction_limit_off_by_one", "<= MAX_DIRECTION_ENTRY", "<= MAX_DIRECTION_ENTRY + 1"),
+    ("steps_limit_off_by_one", "stated_steps <= MAX_STEPS", "stated_steps <= MAX_STEPS + 1"),
+    ("ninth_generator", "len(points) == MAX_POINTS[form]", "len(points) == MAX_POINTS[form] + 1"),
+    ("seventeenth_direction", "len(directions) == MAX_DIRECTIONS", "len(directions) == 17"),
+    ("seventeenth_guard", "len(guards) == MAX_GUARDS", "len(guards) == 17"),
+)
+
+
+def edited(old, new):
+    """The exact program with one text in it changed, which must stand there once."""
+    with open(exact.__file__, encoding="utf-8") as file:
+        source = file.read()
+    assert source.count(old) == 1, f"{old!r} stands {source.count(old)} times"
+    module = types.ModuleType("edited")
+    exec(compile(source.replace(old, new), "edited", "exec"), module.__dict__)
+    return module
+
+
+class Strength(unittest.TestCase):
+    """Each wrong program gives another listing for one of the files."""
+
+    @classmethod
+    def setUpClass(cls):
+        cls.files = list(models.stream(SEED, COUNT))
+        cls.listings = [exact.listing(data) for data in cls.files]
+
+    def differs(self, program, index):
+        try:
+            return program.listing(self.files[index]) != self.listings[index]
+        except Exception:  # an edited program may break down; that is seen as well
+            return True
+
+    def test_edits(self):
+        for name, old, new in EDITS:
+            with self.subTest(name):
+                program = edited(old, new)
+                found = any(self.differs(program, index) for index in range(COUNT))
+                self.assertTrue(found, f"no file of {COUNT} shows {name}")
+
+    def test_no_edit(self):
+        program = edited("slow, plain", "plain, slow")
+        self.assertFalse(any(self.differs(program, index) for index in range(200)))
+
+
+class Stream(unittest.TestCase):
+    def test_same_again(self):
+        self.assertEqual(list(models.stream(5, 40)), list(models.stream(5, 40)))
+        self.assertNotEqual(list(models.stream(5, 40)), list(models.stream(6, 40)))
+        self.assertEqual(models.file_of(5, 39), list(models.stream(5, 40))[-1])
+
+    def test_every_sort(self):
+        files = list(models.stream(SEED, 1_000))
+        replies = [exact.read_model(data) for data in files]
+        accepted = [reply for reply in replies if not isinstance(reply, Refusal)]
+        refused = {reply.number for reply in replies if isinstance(reply, Refusal)}
+        self.assertEqual(refused, set(range(1, 11)))
+        forms = {(model.initial.form, model.input.form) for model in accepted}
+        self.assertEqual(forms, set(itertools.product((BOX, ZONOTOPE, VERTICES), repeat=2)))
+        self.assertEqual({model.n for model in accepted}, set(range(1, 7)))
+        self.assertLessEqual({1, 60, 256}, {model.steps for model in accepted})
+        self.assertTrue(any(len(data) > READ_LIMIT for data in files))
+        words = {said.word for model in accepted for said in exact.listing_of(model).guards}
+        self.assertEqual(words, {"HIT", "UNKNOWN", "CLEAR", "GROWTH"})
+
+
+if __name__ == "__main__":
+    unittest.main()

@@ -1,0 +1,84 @@
+"""The reader's test files: always the same, with replies worked out by hand where they can be."""
+
+import tempfile
+import unittest
+from pathlib import Path
+
+from helpers import run_tool
+
+import readerfiles
+
+
+class ReaderFiles(unittest.TestCase):
+    files = readerfiles.all_files()
+    replies = {what: readerfiles.reply(data) for what, data in files}
+
+    def test_replies_by_hand(self):
+        for what, reply in (
+            ("the sample of document 01", "model 1 3"),
+            ("longest with vertices", "model 6 256"),
+            ("the head says 0 steps", "model 1 60"),
+            ("any numbers beyond n", "model 1 3"),
+            ("at the start: no byte", "refused 1 at 0"),
+            ("at the start: kind 01 alone", "refused 1 at 0"),
+            ("at the start: kind 00 alone", "refused 2 at 0"),
+            ("at the start: kind 02 alone", "refused 3 at 0"),
+            ("after 01: no byte", "refused 1 at 4"),
+            ("after 01: kind 10 alone", "refused 3 at 4"),
+            ("02 without its last byte", "refused 1 at 4"),
+            ("after 02: kind 02 alone", "refused 3 at 30"),
+            ("after 12: kind 20 alone", "refused 3 at 55"),
+            ("after 13: kind 13 alone", "refused 1 at 80"),
+            ("after 30: kind FF alone", "model 1 3"),
+            ("after 40: kind 30 alone", "refused 3 at 140"),
+            ("one 13 too many", "refused 9 at 255"),  # 30 + 25 + 8 * 25
+            ("one 14 too many, its kind alone", "refused 9 at 430"),  # 30 + 16 * 25
+            ("a 17th direction after a guard", "refused 3 at 515"),  # 105 + 16 * 25 + 10
+            ("head 7 3", "refused 4 at 0"),
+            ("second row is number 0", "refused 5 at 30"),
+            ("crossed corners at 21", "refused 6 at 80"),
+            ("direction [0, 1], n 1", "refused 7 at 105"),
+            ("guard on direction 1 of 1", "refused 8 at 130"),
+            ("the sample, then many bytes", "refused 10 at 186"),
+            ("the longest file, then a byte", "refused 10 at 1521"),
+            ("a wrong row without its last byte", "refused 1 at 4"),
+            ("its first 115 bytes", "refused 1 at 115"),
+            ("all bits changed of byte 115", "refused 2 at 115"),
+        ):
+            self.assertEqual(self.replies.get(what), reply, what)
+
+    def test_every_number(self):
+        refused = [reply for reply in self.replies.values() if reply.startswith("refused")]
+        self.assertEqual({int(reply.split()[1]) for reply in refused}, set(range(1, 11)))
+        self.assertLess(len(self.files), 600)
+
+    def test_places(self):
+        """The start and behind each of 14 kinds; 30 pairs of a place and a kind are allowed."""
+        alone = [reply for what, reply in self.replies.items() if what.endswith(" alone")
+                 and what.startswith(("at the start", "after"))]
+        self.assertEqual(len(readerfiles.places()), 15)
+        self.assertEqual(len(alone), 15 * 16)
+        wrong = [reply for reply in alone if reply.startswith(("refused 2", "refused 3"))]
+        self.assertEqual(len(alone) - len(wrong), 30)
+
+    def test_written(self):
+        with tempfile.TemporaryDirectory() as folder:
+            out, said, status = run_tool("readerfiles.py", folder)
+            self.assertEqual((said, status), ("", 0))
+            written = {path.name: path.read_bytes() for path in Path(folder).iterdir()}
+        self.assertEqual(written, readerfiles.contents())
+        names = written["names"].decode().split("\n")[:-1]
+        self.assertEqual(names, [f"{i:04}" for i in range(1, len(self.files) + 1)])
+        expected = written["expected"].decode().splitlines()
+        self.assertEqual(expected[0], "0001: model 1 3")
+        self.assertEqual([row.split(":")[0] for row in expected], names)
+        self.assertEqual([written[name] for name in names], [data for _, data in self.files])
+
+    def test_bad_folder(self):
+        _, said, status = run_tool("readerfiles.py", __file__)
+        self.assertEqual(status, 1)
+        self.assertIn("cannot be made", said)
+
+
+if __name__ == "__main__":
+    unittest.main()
