@@ -10,7 +10,7 @@ pub fn number(x: i64) {
     if x < 0 {
         word(b"-");
     }
-    io::print_decimal(STDOUT_FILENO, stepping::magnitude(x));
+    io::print_decimal(STDOUT_FILENO, arrays::magnitude(x));
 }
 
 pub fn natural(x: u64) {

@@ -8,7 +8,7 @@ use Prim.Native.Nat.{ℕ, zero, suc, _+_, _-_, _^_, _≤_, _<_}
 use native.Mathlib.Nat.{not-suc-le-zero, le-of-suc-le-suc}
 use native.Mathlib.Numerals.{add-one}
 use native.Mathlib.Omega.{arith}
-use borrow.Author.Tests.{eq-eqb, ne-eqb}
+use borrow.Author.Tests.{eq-eqb, ne-eqb, eqb-true, eqb-false}
 use lib.Dec.{T, eqb, leb}
 use lib.Pow.{pow-pos}
 use lib.ListN.{length, getD, set, take, drop}
@@ -34,6 +34,13 @@ eqb-of-bits-zero w f e = eq-eqb _ 0 (zero-of-bits w f e)
 
 pub eqb-of-bits-nonzero : (w : Width) (z : ℤ) → (ofZ w z ≡ 0 → ⊥) → eqb (natAbs z) 0 ≡ false
 eqb-of-bits-nonzero w z h = ne-eqb (natAbs z) 0 (λ e. h (ap (ofZ w) (zero-of-natAbs z e)))
+
+pub eqb-of-bits : (w : Width) {z : ℤ} → SFits w z → eqb (ofZ w z) 0 ≡ eqb (natAbs z) 0
+eqb-of-bits w {z} f = cases (eqb (ofZ w z) 0) refl
+  where
+    cases : (b : Bool) → eqb (ofZ w z) 0 ≡ b → eqb (ofZ w z) 0 ≡ eqb (natAbs z) 0
+    cases true e = e ∙ sym (eqb-of-bits-zero w f (eqb-true (ofZ w z) 0 e))
+    cases false e = e ∙ sym (eqb-of-bits-nonzero w z (eqb-false (ofZ w z) 0 e))
 
 -- ---- ranges
 

@@ -5,7 +5,7 @@ use mathlib.Core.Bool.{Bool, true, false, not}
 use Prim.Native.Nat.{ℕ, zero, suc, _+_, _*_, _≤_, _<_}
 use native.Mathlib.Nat.{mul-le-mul, mul-le-mul-left, mul-le-mul-right, le-refl, le-trans}
 use native.Mathlib.Omega.{arith}
-use borrow.Author.Tests.{ltb-true}
+use borrow.Author.Tests.{ltb-true, ltb-false, lt-leb, le-leb}
 use lib.Dec.{T, ltb, leb}
 use lib.IntN.{ℤ, pos, negsuc, negℤ, natAbs, _+ℤ_, _-ℤ_, _*ℤ_}
 use lib.Signed.{leZ, ltZ, ltZ-no}
@@ -52,6 +52,10 @@ pub ⩽-pos : {m n : ℕ} → pos m ⩽ pos n → m ≤ n
 pub ⩽-scale : (k : ℕ) {a b : ℤ} → a ⩽ b → pos k *ℤ a ⩽ pos k *ℤ b
 ⩽-scale k {a} {b} h = le! (# k ⊗ v a) (# k ⊗ v b) (omega (arith, mul-le-mul-left k (le? (v a) (v b) h)))
 
+-- a number below 0 turns the order
+pub ⩽-turn : (k : ℕ) {a b : ℤ} → a ⩽ b → negsuc k *ℤ b ⩽ negsuc k *ℤ a
+⩽-turn k {a} {b} h = le! (v (negsuc k) ⊗ v b) (v (negsuc k) ⊗ v a) (omega (arith, mul-le-mul-left (suc k) (le? (v a) (v b) h)))
+
 -- what is scaled by a number above 0 has the order that it had before
 pub ⩽-unscale : (k : ℕ) {a b : ℤ} → pos (suc k) *ℤ a ⩽ pos (suc k) *ℤ b → a ⩽ b
 ⩽-unscale k {a} {b} h = le! (v a) (v b) (cancel k (omega (arith, le? (# (suc k) ⊗ v a) (# (suc k) ⊗ v b) h)))
@@ -69,6 +73,22 @@ lt-of-ltZ (pos a) (pos b) e = le! (# a ⊕ # 1) (# b) (omega (arith, ltb-true a 
 lt-of-ltZ (pos a) (negsuc b) e = let z : _≡_ {A = ℕ} 0 1 = cc in absurd (omega arith)
 lt-of-ltZ (negsuc a) (pos b) e = le! (v (negsuc a) ⊕ # 1) (# b) (omega arith)
 lt-of-ltZ (negsuc a) (negsuc b) e = le! (v (negsuc a) ⊕ # 1) (v (negsuc b)) (omega (arith, ltb-true b a e))
+
+-- the same as values of the other test
+pub leZ-of-ltZ : (a b : ℤ) → ltZ a b ≡ true → leZ b a ≡ false
+leZ-of-ltZ (pos a) (pos b) e = lt-leb b a (ltb-true a b e)
+leZ-of-ltZ (pos a) (negsuc b) e = let z : _≡_ {A = ℕ} 0 1 = cc in absurd (omega arith)
+leZ-of-ltZ (negsuc a) (pos b) e = refl
+leZ-of-ltZ (negsuc a) (negsuc b) e = lt-leb a b (ltb-true b a e)
+
+pub leZ-of-ltZ-false : (a b : ℤ) → ltZ a b ≡ false → leZ b a ≡ true
+leZ-of-ltZ-false (pos a) (pos b) e = le-leb b a (ltb-false a b e)
+leZ-of-ltZ-false (pos a) (negsuc b) e = refl
+leZ-of-ltZ-false (negsuc a) (pos b) e = let z : _≡_ {A = ℕ} 0 1 = cc in absurd (omega arith)
+leZ-of-ltZ-false (negsuc a) (negsuc b) e = le-leb a b (ltb-false b a e)
+
+pub ⩽-of-leZ : (a b : ℤ) → leZ a b ≡ true → a ⩽ b
+⩽-of-leZ a b e = record { le = subst T (sym e) tt }
 
 -- below 0 and from 0 on
 pub negative-is : (x : ℤ) → ltZ x (pos 0) ≡ true → (a : ℕ) × (x ≡ negsuc a)
@@ -90,6 +110,9 @@ natAbs-mul (pos a) (pos b) = refl
 natAbs-mul (pos a) (negsuc b) = natAbs-negpos (a * suc b)
 natAbs-mul (negsuc a) (pos b) = natAbs-negpos (suc a * b)
 natAbs-mul (negsuc a) (negsuc b) = refl
+
+pub natAbs-mul-le : (a b : ℤ) {x y : ℕ} → natAbs a ≤ x → natAbs b ≤ y → natAbs (a *ℤ b) ≤ x * y
+natAbs-mul-le a b {x} {y} h k = subst (λ (m : ℕ). m ≤ x * y) (sym (natAbs-mul a b)) (mul-le-mul h k)
 
 pub natAbs-neg : (a : ℤ) → natAbs (negℤ a) ≡ natAbs a
 natAbs-neg (pos n) = natAbs-negpos n

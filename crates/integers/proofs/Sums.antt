@@ -1,13 +1,15 @@
 -- Laws of sums, dot products, largest values and tests over all places (`specs.Sums`).
 -- In order: sums in ℤ; sums in ℕ; a count beyond which all is 0; the largest; tests; matrices. Assumes nothing.
 use mathlib.Core.Path.{_≡_, refl, sym, ap, ap₂, subst, _∙_}
-use mathlib.Core.Bool.{Bool, true, false, _&&_}
+use mathlib.Core.Bool.{Bool, true, false, cond, _&&_}
 use Prim.Native.Nat.{ℕ, zero, suc, _+_, _*_, _-_, _≤_, _<_, max}
-use native.Mathlib.Nat.{le-refl, lt-of-lt-of-le}
+use native.Mathlib.Nat.{le-refl, lt-of-lt-of-le, lt-irrefl}
+use borrow.Author.Tests.{eq-eqb, ne-eqb}
+use lib.Dec.{eqb}
 use native.Mathlib.Numerals.{add-one}
-use native.Mathlib.Decide.{decLt}
+use native.Mathlib.Decide.{decLt, ℕ-discrete}
 use native.Mathlib.Omega.{arith}
-use lib.IntN.{ℤ, pos, negsuc, natAbs, _+ℤ_, _-ℤ_, _*ℤ_, +ℤ-idl, +ℤ-idr, *ℤ-zero}
+use lib.IntN.{ℤ, pos, negsuc, natAbs, _+ℤ_, _-ℤ_, _*ℤ_, +ℤ-idl, +ℤ-idr, *ℤ-zero, zero-*ℤ}
 use Rattle.integers.specs.Whole.{_⩽_, Near}
 use Rattle.integers.specs.Sums.{sum, sumℕ, maxℕ, allBelow, dot, dotℕ, times, transposed}
 use Rattle.integers.proofs.Parts.{v, #, _⊕_, _⊖_, _⊗_, le!, eq!, le?, eq?}
@@ -108,6 +110,14 @@ pub sumℕ-bound : (n c : ℕ) {f : ℕ → ℕ} → ((i : ℕ) → i < n → f 
 unfolding sumℕ
 sumℕ-bound zero c h = omega arith
 sumℕ-bound (suc n) c h = omega (arith, sumℕ-bound n c (λ i l. h i (wider l)), h n (here n))
+
+pub le-sumℕ : (n : ℕ) (f : ℕ → ℕ) (i : ℕ) → i < n → f i ≤ sumℕ n f
+unfolding sumℕ
+le-sumℕ zero f i h = absurd (omega arith)
+le-sumℕ (suc n) f i h = elim (decLt i n) [ yes l ↦ omega (arith, le-sumℕ n f i l) | no g ↦ last (omega (arith, g)) ]
+  where
+    last : i ≡ n → f i ≤ sumℕ n f + f n
+    last e = subst (λ (k : ℕ). f k ≤ sumℕ n f + f n) (sym e) (omega arith)
 
 pub sumℕ-first : (n : ℕ) (f : ℕ → ℕ) → sumℕ (suc n) f ≡ f 0 + sumℕ n (λ i. f (suc i))
 unfolding sumℕ
@@ -257,3 +267,49 @@ near-dot n a b x e w h k = near-sum n (λ i l. turned i (near-times (x i) (k i l
   where
     turned : (i : ℕ) → Near (x i *ℤ a i) (x i *ℤ b i) (w i * e i) → Near (a i *ℤ x i) (b i *ℤ x i) (w i * e i)
     turned i = subst (λ (z : ℤ). Near (x i *ℤ a i) (x i *ℤ b i) (w i * e i) → Near z (b i *ℤ x i) (w i * e i)) (lib.IntN.*ℤ-comm (x i) (a i)) (subst (λ (z : ℤ). Near (x i *ℤ a i) (x i *ℤ b i) (w i * e i) → Near (x i *ℤ a i) z (w i * e i)) (lib.IntN.*ℤ-comm (x i) (b i)) (λ t. t))
+
+-- A direction meets a combination of points as the same combination of what it meets them in.
+pub dot-combination : (n m : ℕ) (f : ℕ → ℤ) (g : ℕ → ℕ → ℤ) (r : ℕ → ℤ) → dot n r (λ i. sum m (λ k. f k *ℤ g k i)) ≡ sum m (λ k. f k *ℤ dot n r (g k))
+dot-combination n m f g r =
+    sum-cong n (λ i h. sym (sum-scale m (r i) (λ k. f k *ℤ g k i)))
+    ∙ sum-swap n m (λ i k. r i *ℤ (f k *ℤ g k i))
+    ∙ sum-cong m (λ k h. sum-cong n (λ i l. mulℤ-left-comm (r i) (f k) (g k i)) ∙ sum-scale n (f k) (λ i. r i *ℤ g k i))
+
+-- ---- one place alone
+
+-- 1 at place k, 0 elsewhere
+abbrev pub unit : ℕ → ℕ → ℕ
+unit k j = cond (eqb j k) 1 0
+
+unit-same : (k : ℕ) → unit k k ≡ 1
+unit-same k = ap (λ (b : Bool). cond b 1 0) (eq-eqb k k refl)
+
+unit-other : (k j : ℕ) → (j ≡ k → ⊥) → unit k j ≡ 0
+unit-other k j h = ap (λ (b : Bool). cond b 1 0) (ne-eqb j k h)
+
+before-unit : (n k : ℕ) → n ≤ k → sumℕ n (unit k) ≡ 0
+before-unit n k h = sumℕ-cong n (λ j l. unit-other k j (λ e. lt-irrefl j (lt-of-lt-of-le l (subst (λ (x : ℕ). n ≤ x) (sym e) h)))) ∙ sumℕ-none n
+
+pub sumℕ-unit : (n k : ℕ) → k < n → sumℕ n (unit k) ≡ 1
+sumℕ-unit zero k h = absurd (omega arith)
+sumℕ-unit (suc n) k h = elim (ℕ-discrete k n) [ yes e ↦ last e | no ne ↦ sumℕ-suc n (unit k) ∙ ap₂ _+_ (sumℕ-unit n k (omega (arith, ne))) (unit-other k n (λ q. ne (sym q))) ]
+  where
+    last : k ≡ n → sumℕ (suc n) (unit k) ≡ 1
+    last e = sumℕ-suc n (unit k) ∙ ap₂ _+_ (before-unit n k (omega arith)) (subst (λ (x : ℕ). unit k x ≡ 1) e (unit-same k))
+
+pub sum-unit : (n k : ℕ) (f : ℕ → ℤ) → k < n → sum n (λ j. pos (unit k j) *ℤ f j) ≡ f k
+sum-unit zero k f h = absurd (omega arith)
+sum-unit (suc n) k f h = elim (ℕ-discrete k n) [ yes e ↦ last e | no ne ↦ sum-suc n (λ j. pos (unit k j) *ℤ f j) ∙ ap₂ _+ℤ_ (sum-unit n k f (omega (arith, ne))) (ap (λ (x : ℕ). pos x *ℤ f n) (unit-other k n (λ q. ne (sym q))) ∙ zero-*ℤ (f n)) ∙ +ℤ-idr (f k) ]
+  where
+    one-times : (z : ℤ) → pos 1 *ℤ z ≡ z
+    one-times z = eq! (# 1 ⊗ v z) (v z) (omega arith)
+
+    none : (j : ℕ) → j < n → k ≡ n → pos (unit k j) *ℤ f j ≡ pos 0
+    none j l e = ap (λ (x : ℕ). pos x *ℤ f j) (unit-other k j (λ q. lt-irrefl j (subst (λ (x : ℕ). j < x) (sym (q ∙ e)) l))) ∙ zero-*ℤ (f j)
+
+    last : k ≡ n → sum (suc n) (λ j. pos (unit k j) *ℤ f j) ≡ f k
+    last e =
+        sum-suc n (λ j. pos (unit k j) *ℤ f j)
+        ∙ ap₂ _+ℤ_ (sum-cong n (λ j l. none j l e) ∙ sum-none n) (ap (λ (x : ℕ). pos x *ℤ f n) (subst (λ (x : ℕ). unit k x ≡ 1) e (unit-same k)) ∙ one-times (f n))
+        ∙ +ℤ-idl (f n)
+        ∙ ap f (sym e)

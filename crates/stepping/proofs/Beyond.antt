@@ -1,10 +1,9 @@
 -- What lies beyond n is zero, so the loops, which run to six, give what the definitions, which run to n, say.
 -- In order: from the tests of number 11 to the zeros; the growth sum; one step. Assumes nothing.
 use mathlib.Core.Path.{_≡_, refl, sym, ap, ap₂, subst, _∙_}
-use mathlib.Core.Bool.{Bool, true, false, _&&_, _||_}
+use mathlib.Core.Bool.{Bool, true, false, _||_}
 use mathlib.Core.List.{List}
-use Prim.Native.Nat.{ℕ, _+_, _*_, _-_, _/_, _%_, _≤_, _<_}
-use native.Mathlib.Nat.{lt-of-lt-of-le}
+use Prim.Native.Nat.{ℕ, _+_, _*_, _-_, _≤_, _<_}
 use native.Mathlib.Omega.{arith}
 use borrow.Author.Tests.{le-ltb, eqb-true}
 use lib.Dec.{ltb, eqb}
@@ -13,40 +12,19 @@ use lib.IntN.{ℤ, pos, natAbs, _*ℤ_, zero-*ℤ}
 use Rattle.integers.specs.Whole.{floorDiv, ceilDivℕ, fraction}
 use Rattle.integers.specs.Sums.{vector, magnitudes, matrix, sum, sumℕ, maxℕ, transposed, tabulate}
 use Rattle.integers.proofs.Sums.{allBelow-at, allBelow-intro, sum-cong, sum-none, sum-beyond, sumℕ-cong, sumℕ-none, sumℕ-beyond, maxℕ-beyond}
-use Rattle.integers.proofs.Machine.{zero-of-natAbs, tabulate-cong, getD-tabulate}
+use Rattle.arrays.specs.Tests.{zeroOutside}
+use Rattle.arrays.proofs.Laws.{zeroOutside-row, zeroOutside-column}
+use Rattle.integers.proofs.Machine.{tabulate-cong, getD-tabulate}
 use Rattle.stepping.specs.Limits.{matrixUnit}
 use Rattle.stepping.specs.Recurrence.{nextR, nextE, errorSum, growthSum}
-use Rattle.stepping.specs.Refusals.{zeroBeyond, nonNegative, zeroAround, zeroEntry, steppedR, steppedE}
+use Rattle.stepping.specs.Refusals.{zeroBeyond, nonNegative, steppedR, steppedE}
 
 or-false : (a b : Bool) → a || b ≡ true → a ≡ false → b ≡ true
 or-false a b t f = sym (ap (λ (x : Bool). x || b) f) ∙ t
 
-and-false-left : (a b : Bool) → a ≡ false → a && b ≡ false
-and-false-left a b f = ap (λ (x : Bool). x && b) f
-
 pub zeroBeyond-at : (n : ℕ) (xs : List ℤ) → zeroBeyond n xs ≡ true → (i : ℕ) → n ≤ i → i < 6 → magnitudes xs i ≡ 0
 zeroBeyond-at n xs t i l h =
     eqb-true _ 0 (or-false (ltb i n) (eqb (magnitudes xs i) 0) (allBelow-at 6 (λ k. ltb k n || eqb (magnitudes xs k) 0) t i h) (le-ltb i n l))
-
--- a row from n on is zero
-pub zeroAround-row : (n : ℕ) (m : List ℤ) → zeroAround n m ≡ true → (p i : ℕ) → n ≤ p → p < 6 → i < 6 → natAbs (matrix m p i) ≡ 0
-zeroAround-row n m t p i l hp hi =
-    let k : ℕ = 6 * p + i in
-    let place : (6 * p + i) / 6 ≡ p = omega arith in
-    let outside : ltb ((6 * p + i) / 6) n ≡ false = le-ltb _ n (omega arith) in
-    eqb-true _ 0 (or-false _ (eqb (natAbs (matrix m p i)) 0) (allBelow-at 36 (λ k. zeroEntry n k (vector m k)) t (6 * p + i) (omega arith)) (and-false-left _ (ltb ((6 * p + i) % 6) n) outside))
-
-and-false-right : (a b : Bool) → b ≡ false → a && b ≡ false
-and-false-right true b f = f
-and-false-right false b f = refl
-
--- a column from n on is zero
-pub zeroAround-column : (n : ℕ) (m : List ℤ) → zeroAround n m ≡ true → (p i : ℕ) → n ≤ i → p < 6 → i < 6 → matrix m p i ≡ pos 0
-zeroAround-column n m t p i l hp hi =
-    let place : (6 * p + i) % 6 ≡ i = omega arith in
-    let outside : ltb ((6 * p + i) % 6) n ≡ false = le-ltb _ n (omega arith) in
-    zero-of-natAbs (matrix m p i)
-    (eqb-true _ 0 (or-false _ (eqb (natAbs (matrix m p i)) 0) (allBelow-at 36 (λ k. zeroEntry n k (vector m k)) t (6 * p + i) (omega arith)) (and-false-right (ltb ((6 * p + i) / 6) n) _ outside)))
 
 zero-times : (k : ℕ) → 0 * k ≡ 0
 zero-times k = omega arith
@@ -63,16 +41,16 @@ module _ (n : ℕ) (n≤6 : n ≤ 6) where
       ap (λ (k : ℕ). growthSum k r e) (sym (six n n≤6))
       ∙ maxℕ-beyond n (6 - n) (λ i. natAbs (r i) + e i) (λ i l h. ap₂ _+_ (zr i l (below-six n i n≤6 h)) (ze i l (below-six n i n≤6 h)))
 
-  module _ (m : List ℤ) (around : zeroAround n m ≡ true) where
+  module _ (m : List ℤ) (around : zeroOutside n n m ≡ true) where
     transposed-six : (r : ℕ → ℤ) (i : ℕ) → i < 6 → transposed 6 (matrix m) r i ≡ transposed n (matrix m) r i
     transposed-six r i hi =
         ap (λ (k : ℕ). transposed k (matrix m) r i) (sym (six n n≤6))
-        ∙ sum-beyond n (6 - n) (λ p. matrix m p i *ℤ r p) (λ p l h. ap (λ (z : ℤ). z *ℤ r p) (zero-of-natAbs (matrix m p i) (zeroAround-row n m around p i l (below-six n p n≤6 h) hi)) ∙ zero-*ℤ (r p))
+        ∙ sum-beyond n (6 - n) (λ p. matrix m p i *ℤ r p) (λ p l h. ap (λ (z : ℤ). z *ℤ r p) (zeroOutside-row n n m around p i hi l) ∙ zero-*ℤ (r p))
 
     errorSum-six : (e : ℕ → ℕ) (i : ℕ) → i < 6 → errorSum 6 (matrix m) e i ≡ errorSum n (matrix m) e i
     errorSum-six e i hi =
         ap (λ (k : ℕ). errorSum k (matrix m) e i) (sym (six n n≤6))
-        ∙ sumℕ-beyond n (6 - n) (λ p. natAbs (matrix m p i) * e p) (λ p l h. ap (λ (k : ℕ). k * e p) (zeroAround-row n m around p i l (below-six n p n≤6 h) hi) ∙ zero-times (e p))
+        ∙ sumℕ-beyond n (6 - n) (λ p. natAbs (matrix m p i) * e p) (λ p l h. ap (λ (z : ℤ). natAbs z * e p) (zeroOutside-row n n m around p i hi l) ∙ zero-times (e p))
 
     pub steppedR-six : (r : List ℤ) → tabulate 6 (nextR 6 (matrix m) (vector r)) ≡ steppedR n m r
     steppedR-six r = tabulate-cong 6 (λ i h. ap (λ (z : ℤ). floorDiv z matrixUnit) (transposed-six (vector r) i h))
@@ -82,11 +60,11 @@ module _ (n : ℕ) (n≤6 : n ≤ 6) where
 
     pub nextR-beyond : (r : ℕ → ℤ) (i : ℕ) → n ≤ i → i < 6 → transposed n (matrix m) r i ≡ pos 0
     nextR-beyond r i l h =
-        sum-cong n (λ p hp. ap (λ (z : ℤ). z *ℤ r p) (zeroAround-column n m around p i l (lt-of-lt-of-le hp n≤6) h) ∙ zero-*ℤ (r p)) ∙ sum-none n
+        sum-cong n (λ p hp. ap (λ (z : ℤ). z *ℤ r p) (zeroOutside-column n n m around p i h l) ∙ zero-*ℤ (r p)) ∙ sum-none n
 
     errorSum-beyond : (e : ℕ → ℕ) (i : ℕ) → n ≤ i → i < 6 → errorSum n (matrix m) e i ≡ 0
     errorSum-beyond e i l h =
-        sumℕ-cong n (λ p hp. ap (λ (z : ℤ). natAbs z * e p) (zeroAround-column n m around p i l (lt-of-lt-of-le hp n≤6) h) ∙ zero-times (e p)) ∙ sumℕ-none n
+        sumℕ-cong n (λ p hp. ap (λ (z : ℤ). natAbs z * e p) (zeroOutside-column n n m around p i h l) ∙ zero-times (e p)) ∙ sumℕ-none n
 
     pub nextE-beyond : (r : ℕ → ℤ) (e : ℕ → ℕ) (i : ℕ) → n ≤ i → i < 6 → nextE n (matrix m) r e i ≡ 0
     nextE-beyond r e i l h = ap₂ (λ (s : ℕ) (z : ℤ). ceilDivℕ s matrixUnit + fraction z matrixUnit) (errorSum-beyond e i l h) (nextR-beyond r i l h)

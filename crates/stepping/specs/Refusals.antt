@@ -4,11 +4,12 @@
 use mathlib.Core.Path.{_≡_}
 use mathlib.Core.List.{List}
 use mathlib.Core.Bool.{Bool, cond, not, _&&_, _||_}
-use Prim.Native.Nat.{ℕ, _/_, _%_}
+use Prim.Native.Nat.{ℕ}
 use lib.Dec.{eqb, leb, ltb}
-use lib.IntN.{ℤ, pos, natAbs}
+use lib.IntN.{ℤ, pos, negℤ}
 use lib.Signed.{nonNeg}
 use Rattle.integers.specs.Sums.{vector, magnitudes, matrix, allBelow, tabulate}
+use Rattle.arrays.specs.Tests.{allBetween, zeroOutside}
 use Rattle.stepping.specs.Limits.{growthLimit, entryLimit}
 use Rattle.stepping.specs.Recurrence.{firstR, firstE, nextR, nextE, growthSum, spare}
 use Rattle.stepping.specs.declared.Stepped.{Stepped}
@@ -28,18 +29,10 @@ zeroBeyond n xs = allBelow 6 (λ i. ltb i n || eqb (magnitudes xs i) 0)
 abbrev pub nonNegative : List ℤ → Bool
 nonNegative xs = allBelow 6 (λ i. nonNeg (vector xs i))
 
--- "n, matrix .. as for the sweep": each entry of the n by n matrix within its limit, the others zero.
-abbrev pub entriesOk : List ℤ → Bool
-entriesOk xs = allBelow 36 (λ k. leb (magnitudes xs k) entryLimit)
-
-abbrev pub zeroEntry : ℕ → ℕ → ℤ → Bool
-zeroEntry n k x = (ltb (k / 6) n && ltb (k % 6) n) || eqb (natAbs x) 0
-
-abbrev pub zeroAround : ℕ → List ℤ → Bool
-zeroAround n xs = allBelow 36 (λ k. zeroEntry n k (vector xs k))
-
+-- "n, matrix .. as for the sweep". "Limits": "Matrix entries -131,072 to 131,072." The entries outside the n by n matrix are
+-- zero.
 abbrev pub matrixOk : ℕ → List ℤ → Bool
-matrixOk n xs = entriesOk xs && zeroAround n xs
+matrixOk n xs = allBetween (negℤ (pos entryLimit)) (pos entryLimit) xs && zeroOutside n n xs
 
 -- A working direction that a routine takes, its growth sum apart.
 abbrev pub workingOk : ℕ → List ℤ → List ℤ → Bool

@@ -1,6 +1,6 @@
-// Arithmetic on single numbers: magnitude, the larger of two, and one coordinate of a step.
+// One coordinate of a step, and all six.
 ghost use mathlib.Core.Path.{_≡_};
-ghost use Prim.Native.Nat.{_+_, _*_, _≤_, _<_, max};
+ghost use Prim.Native.Nat.{_+_, _*_, _≤_, _<_};
 ghost use lib.IntN.{natAbs, pos, _+ℤ_, _*ℤ_};
 ghost use Rattle.integers.specs.Whole.{ceilDivℕ, fraction};
 ghost use Rattle.integers.specs.Sums.{vector, magnitudes, transposed, matrix as matrixOf};
@@ -13,23 +13,6 @@ pub(crate) fn scaled(d: i32) -> i64
     ensures { λ r. ⌜ r ≡ pos directionUnit *ℤ d ⌝ }
 {
     1048576 * (d as i64)
-}
-
-// |x|, for the least i64 too.
-pub fn magnitude(x: i64) -> u64
-    ensures { λ r. ⌜ r ≡ natAbs x ⌝ }
-{
-    if x < 0 {
-        ((-1 - x) as u64) + 1
-    } else {
-        x as u64
-    }
-}
-
-pub(crate) fn larger(a: u64, b: u64) -> u64
-    ensures { λ r. ⌜ r ≡ max a b ⌝ }
-{
-    if a < b { b } else { a }
 }
 
 // sum + a × b.
@@ -45,7 +28,7 @@ pub(crate) fn magnitude_times_add(sum: u64, a: i32, b: i64) -> u64
     requires { ⌜ TimesAdd (pos sum) a b ⌝ }
     ensures { λ s. ⌜ s ≡ sum + natAbs a * natAbs b ⌝ }
 {
-    sum + magnitude(a as i64) * magnitude(b)
+    sum + arrays::magnitude(a as i64) * arrays::magnitude(b)
 }
 
 // N of column i: the sum over p of M[row p, column i] × r[p].
@@ -80,7 +63,11 @@ pub(crate) fn error_sum(matrix: &[i32; 36], e: &[i64; 6], i: usize) -> u64
 pub(crate) fn inexact(sum: i64) -> u64
     ensures { λ f. ⌜ f ≡ fraction sum matrixUnit ⌝ }
 {
-    if magnitude(sum) % 65536 == 0 { 0 } else { 1 }
+    if arrays::magnitude(sum) % 65536 == 0 {
+        0
+    } else {
+        1
+    }
 }
 
 // The next e of a column, from its sum of errors and its N.

@@ -6,7 +6,6 @@
 mod column;
 mod refusals;
 
-pub use column::magnitude;
 ghost use mathlib.Core.Path.{_≡_};
 ghost use Prim.Native.Nat.{_+_, _≤_};
 ghost use lib.ListN.{length};

@@ -1,15 +1,17 @@
 -- `stepping::step` meets its contract. Each test that fails makes `stepOk` false; where none does, the arrays are within the
 -- limits that `advance` asks, and what it leaves, which runs to six, is what the definitions to n say. Assumes nothing.
-use Rattle.integers.proofs.Basics.{_≡_, refl, sym, ap, ap₂, subst, _∙_, Bool, true, false, ℕ, _+_, _≤_, _<_, arith, needs, ℤ, natAbs}
+use Rattle.integers.proofs.Basics.{_≡_, refl, sym, ap, ap₂, subst, _∙_, Bool, true, false, ℕ, _+_, _≤_, _<_, arith, needs, ℤ, pos, negsuc, natAbs}
 use mathlib.Core.Bool.{cond, _&&_}
 use mathlib.Core.List.{List}
 use native.Mathlib.Nat.{le-trans}
 use borrow.Author.Tests.{lt-leb, le-leb, leb-true, not-true, not-false}
 use lib.Dec.{leb}
 use Rattle.integers.specs.Sums.{vector, magnitudes}
-use Rattle.integers.proofs.Sums.{allBelow-at, le-maxℕ}
+use Rattle.integers.proofs.Sums.{le-maxℕ}
+use Rattle.arrays.specs.Tests.{allBetween, zeroOutside}
+use Rattle.arrays.proofs.Laws.{and-true, and-false, allBetween-at}
 use Rattle.stepping.specs.Recurrence.{growthSum}
-use Rattle.stepping.specs.Refusals.{Steps, stepOk, workingOk, dimensionOk, zeroBeyond, nonNegative, matrixOk, entriesOk, zeroAround, steppedR, steppedE}
+use Rattle.stepping.specs.Refusals.{Steps, stepOk, workingOk, dimensionOk, zeroBeyond, nonNegative, matrixOk, steppedR, steppedE}
 use Rattle.stepping.specs.Inner.{Bounded}
 use Rattle.stepping.specs.declared.Stepped.{Stepped}
 use Rattle.stepping.specs.declared.Stepped.the-variants.{Sum, Refused}
@@ -26,14 +28,6 @@ refused-only false s e = refl
 sum-only : (b : Bool) (s x : ℕ) → Sum x ≡ cond b (Sum s) Refused → (b ≡ true) × (x ≡ s)
 sum-only true s x e = (refl, cc)
 sum-only false s x e = let z : _≡_ {A = ℕ} 0 1 = cc in absurd (omega arith)
-
-and-true : (a b : Bool) → a && b ≡ true → (a ≡ true) × (b ≡ true)
-and-true true b e = (refl, e)
-and-true false b e = let z : _≡_ {A = ℕ} 0 1 = cc in absurd (omega arith)
-
-and-false : (a : Bool) → a && false ≡ false
-and-false true = refl
-and-false false = refl
 
 -- ---- the two kinds of end
 
@@ -71,9 +65,9 @@ module _ (n : ℕ) (m r e : List ℤ) (working : workingOk n r e ≡ true) where
       subst (λ (s : ℕ). natAbs (vector r i) + magnitudes e i ≤ s) (growthSum-six n n-most (vector r) (magnitudes e) (zeroBeyond-at n r (zeros .0)) (zeroBeyond-at n e (zeros .1)))
       (le-maxℕ 6 (λ j. natAbs (vector r j) + magnitudes e j) i h)
 
-  module _ (small : growthSum n (vector r) (magnitudes e) ≤ 1073741824) (entries : entriesOk m ≡ true) where
+  module _ (small : growthSum n (vector r) (magnitudes e) ≤ 1073741824) (entries : allBetween (negsuc 131071) (pos 131072) m ≡ true) where
     entry : (k : ℕ) → k < 36 → natAbs (vector m k) ≤ 131072
-    entry k h = leb-true _ 131072 (allBelow-at 36 (λ j. leb (magnitudes m j) 131072) entries k h)
+    entry k h = allBetween-at 131072 m entries k
 
     bounded-r : Bounded m r
     bounded-r = record { entries = entry; values = λ i h. omega (arith, each i h) }
@@ -146,8 +140,8 @@ module _ (c : tie.Else2) where
   matrix-passed : matrixOk (n at) (m at) ≡ true
   matrix-passed = sym (c .before .matrix-ok .ensures) ∙ not-false _ (c .if2 .left)
 
-  parts : (entriesOk (m at) ≡ true) × (zeroAround (n at) (m at) ≡ true)
-  parts = and-true (entriesOk (m at)) (zeroAround (n at) (m at)) matrix-passed
+  parts : (allBetween (negsuc 131071) (pos 131072) (m at) ≡ true) × (zeroOutside (n at) (n at) (m at) ≡ true)
+  parts = and-true (allBetween (negsuc 131071) (pos 131072) (m at)) (zeroOutside (n at) (n at) (m at)) matrix-passed
 
   all-passed : stepOk (n at) (m at) (r at) (e at) ≡ true
   all-passed = ap₂ _&&_ (passed at .0) (ap₂ _&&_ (le-leb _ 1073741824 (small (c .before .before))) matrix-passed)

@@ -1,0 +1,25 @@
+-- Tests over the elements of a stored array. Definitions only. Assumes nothing.
+use mathlib.Core.Bool.{Bool, _&&_, _||_}
+use mathlib.Core.List.{List}
+use Prim.Native.Nat.{ℕ, _/_, _%_}
+use lib.Dec.{ltb, eqb}
+use lib.ListN.{length}
+use lib.IntN.{ℤ, natAbs}
+use lib.Signed.{leZ}
+use Rattle.integers.specs.Sums.{vector, allBelow}
+
+-- x is from low to high.
+abbrev pub between : ℤ → ℤ → ℤ → Bool
+between low high x = leZ low x && leZ x high
+
+-- Each element is from low to high.
+abbrev pub allBetween : ℤ → ℤ → List ℤ → Bool
+allBetween low high xs = allBelow (length xs) (λ k. between low high (vector xs k))
+
+-- Place k of rows of six lies in the first `rows` rows and the first `columns` columns, or x is zero.
+abbrev pub zeroUnless : ℕ → ℕ → ℕ → ℤ → Bool
+zeroUnless rows columns k x = (ltb (k / 6) rows && ltb (k % 6) columns) || eqb (natAbs x) 0
+
+-- Each element outside the first `rows` rows and the first `columns` columns is zero.
+abbrev pub zeroOutside : ℕ → ℕ → List ℤ → Bool
+zeroOutside rows columns xs = allBelow (length xs) (λ k. zeroUnless rows columns k (vector xs k))

@@ -1,0 +1,81 @@
+// Code over stored whole numbers that several crates share: magnitudes, and tests over every element of an array.
+// No public function has a `requires`.
+ghost use mathlib.Core.Path.{_≡_};
+ghost use Prim.Native.Nat.{max};
+ghost use lib.IntN.{natAbs};
+ghost use Rattle.arrays.specs.Tests.{between, allBetween, zeroUnless, zeroOutside};
+
+// |x|, for the least i64 too.
+pub fn magnitude(x: i64) -> u64
+    ensures { λ r. ⌜ r ≡ natAbs x ⌝ }
+{
+    if x < 0 {
+        ((-1 - x) as u64) + 1
+    } else {
+        x as u64
+    }
+}
+
+// The larger of two.
+pub fn larger(a: u64, b: u64) -> u64
+    ensures { λ r. ⌜ r ≡ max a b ⌝ }
+{
+    if a < b { b } else { a }
+}
+
+// x is from low to high.
+fn is_between(low: i32, high: i32, x: i32) -> bool
+    ensures { λ b. ⌜ b ≡ between low high x ⌝ }
+{
+    if x < low {
+        return false;
+    }
+    if high < x {
+        return false;
+    }
+    true
+}
+
+// Each element is from low to high. The loop has no early return, so that it compiles to vector compares.
+pub fn all_between(low: i32, high: i32, xs: &[i32]) -> bool
+    ensures { λ b. ⌜ b ≡ allBetween low high (now (xs .entry)) ⌝ }
+{
+    let mut ok = true;
+    let mut k: usize = 0;
+    while k < xs.len() {
+        let here = is_between(low, high, xs[k]);
+        ok = ok && here;
+        k += 1;
+    }
+    ok
+}
+
+// x may be anything at a place inside, and is zero at any other.
+fn zero_unless(rows: usize, columns: usize, k: usize, x: i32) -> bool
+    ensures { λ b. ⌜ b ≡ zeroUnless rows columns k x ⌝ }
+{
+    if x == 0 {
+        return true;
+    }
+    if rows <= k / 6 {
+        return false;
+    }
+    if columns <= k % 6 {
+        return false;
+    }
+    true
+}
+
+// Of rows of six, each element outside the first `rows` rows and the first `columns` columns is zero.
+pub fn zero_outside(rows: usize, columns: usize, xs: &[i32]) -> bool
+    ensures { λ b. ⌜ b ≡ zeroOutside rows columns (now (xs .entry)) ⌝ }
+{
+    let mut k: usize = 0;
+    while k < xs.len() {
+        if !zero_unless(rows, columns, k, xs[k]) {
+            return false;
+        }
+        k += 1;
+    }
+    true
+}

@@ -1,0 +1,3 @@
+pub mod SetLaws
+pub mod SetBounds
+pub mod SetTests

@@ -1,0 +1,75 @@
+-- `reachability::model::checks::all_zero` meets its contract: the test holds of every entry passed. The measure is what is left of
+-- six. Assumes nothing.
+use Rattle.integers.proofs.Basics.{_≡_, sym, Bool, true, ℕ, _-_, _<_, arith, ℤ, natAbs, w32}
+use mathlib.Core.List.{List}
+use borrow.Author.Count.{below-none, below-more}
+use lib.Dec.{eqb}
+use Rattle.integers.specs.Sums.{matrix}
+use Rattle.integers.proofs.Sums.{allBelow-intro, allBelow-fails}
+use Rattle.integers.proofs.Machine.{eqb-of-bits-zero, eqb-of-bits-nonzero}
+use Rattle.reachability.proofs.model.checks.all_zero.Statement.{statement}
+use Rattle.reachability.proofs.model.checks.all_zero.Tie as tie
+
+abbrev zeroAt : List ℤ → ℕ → ℕ → Bool
+zeroAt xs k i = eqb (natAbs (matrix xs k i)) 0
+
+abbrev Inv-loop : tie.InvT-loop
+Inv-loop entries k i₀ i = (j : ℕ) → j < i → zeroAt entries k j ≡ true
+
+abbrev μ-loop : tie.MeasureT-loop
+μ-loop entries k i₀ i = 6 - i
+
+loop-holds : tie.Need-loop-holds Inv-loop μ-loop
+loop-holds c = below-none (λ j. zeroAt (c .args .entries .now) (c .args .k) j ≡ true)
+
+mul-if1 : tie.Need-mul-if1 Inv-loop μ-loop
+mul-if1 c = omega (arith, c .before .before .pre)
+
+add-if1 : tie.Need-add-if1 Inv-loop μ-loop
+add-if1 c = omega (arith, c .before .before .pre)
+
+mul-if1-2 : tie.Need-mul-if1-2 Inv-loop μ-loop
+mul-if1-2 c = omega (arith, c .before .before .pre)
+
+element-copy-out-if1 : tie.Need-element-copy-out-if1 Inv-loop μ-loop
+element-copy-out-if1 c = omega (arith, c .before .before .pre)
+
+returns : tie.Need-returns Inv-loop μ-loop
+returns c =
+    let at-loop = c .before .before .before in
+    let a = at-loop .before .args in
+    sym (allBelow-fails 6 (zeroAt (a .entries .now) (a .k)) (at-loop .loop .i) (omega arith) (eqb-of-bits-nonzero w32 (matrix (a .entries .now) (a .k) (at-loop .loop .i)) (c .if1 .taken)))
+
+add-i : tie.Need-add-i Inv-loop μ-loop
+add-i c = omega arith
+
+loop-less : tie.Need-loop-less Inv-loop μ-loop
+loop-less c = omega arith
+
+loop-again : tie.Need-loop-again Inv-loop μ-loop
+loop-again c =
+    let at-loop = c .before .before .before in
+    let a = at-loop .before .args in
+    below-more (λ j. zeroAt (a .entries .now) (a .k) j ≡ true) (at-loop .loop .i) (at-loop .loop .inv) (eqb-of-bits-zero w32 {z = matrix (a .entries .now) (a .k) (at-loop .loop .i)} (record { sfits = c .before .if12 .given }) (c .if1 .left))
+
+returns-2 : tie.Need-returns-2 Inv-loop μ-loop
+returns-2 c =
+    let a = c .before .before .args in
+    sym (allBelow-intro 6 (zeroAt (a .entries .now) (a .k)) (λ j h. c .before .loop .inv j (omega arith)))
+
+pub all-zero-spec : {M : Type 1} → statement M
+all-zero-spec =
+    tie.close
+    (tie.spec
+    Inv-loop
+    μ-loop
+    loop-holds
+    mul-if1
+    add-if1
+    mul-if1-2
+    element-copy-out-if1
+    returns
+    add-i
+    loop-less
+    loop-again
+    returns-2)

@@ -1,0 +1,98 @@
+-- `reachability::model::checks::guards_ok` meets its contract: the test holds of every guard passed. The measure is what is left of
+-- sixteen. Assumes nothing.
+use Rattle.integers.proofs.Basics.{_≡_, sym, ap, _∙_, Bool, true, ℕ, _-_, _<_, arith, needs, getD, ℤ, w64}
+use mathlib.Core.Bool.{_&&_}
+use mathlib.Core.List.{List}
+use borrow.Author.Count.{below-none, below-more}
+use borrow.Author.Tests.{lt-leb, le-leb, not-true, not-false}
+use Rattle.integers.specs.Sums.{vector}
+use Rattle.integers.proofs.Sums.{allBelow-intro, allBelow-fails}
+use Rattle.integers.proofs.Machine.{read-given}
+use Rattle.reachability.specs.Limits.{guardOk}
+use Rattle.reachability.proofs.model.checks.guards_ok.Statement.{statement}
+use Rattle.reachability.proofs.model.checks.guards_ok.Tie as tie
+
+abbrev guardAt : ℕ → ℕ → List ℕ → List ℤ → ℕ → Bool
+guardAt directions guards watched levels g = guardOk directions guards g (getD watched g 0) (vector levels g)
+
+abbrev Inv-loop : tie.InvT-loop
+Inv-loop directions guards watched levels g₀ g = (j : ℕ) → j < g → guardAt directions guards watched levels j ≡ true
+
+abbrev μ-loop : tie.MeasureT-loop
+μ-loop directions guards watched levels g₀ g = 16 - g
+
+returns : tie.Need-returns Inv-loop μ-loop
+returns c = simp (lt-leb _ _ (c .if1 .taken))
+
+loop-holds : tie.Need-loop-holds Inv-loop μ-loop
+loop-holds c = below-none (λ j. guardAt (c .before .args .directions) (c .before .args .guards) (c .before .args .watched .now) (c .before .args .levels .now) j ≡ true)
+
+mul-guard-ok : tie.Need-mul-guard-ok Inv-loop μ-loop
+mul-guard-ok c = omega arith
+
+element-copy-out-guard-ok : tie.Need-element-copy-out-guard-ok Inv-loop μ-loop
+element-copy-out-guard-ok c = omega arith
+
+mul-guard-ok-2 : tie.Need-mul-guard-ok-2 Inv-loop μ-loop
+mul-guard-ok-2 c = omega arith
+
+element-copy-out-guard-ok-2 : tie.Need-element-copy-out-guard-ok-2 Inv-loop μ-loop
+element-copy-out-guard-ok-2 c = omega arith
+
+guard-ok-requires : tie.Need-guard-ok-requires Inv-loop μ-loop
+guard-ok-requires c κs = search needs
+
+-- what the call says of the guard
+module _ (c : tie.After-guard-ok Inv-loop μ-loop) where
+  abbrev g : ℕ
+  g = c .before .before .before .before .loop .g
+
+  abbrev f : ℕ → Bool
+  f = guardAt (c .before .before .before .before .before .before .args .directions) (c .before .before .before .before .before .before .args .guards) (c .before .before .before .before .before .before .args .watched .now) (c .before .before .before .before .before .before .args .levels .now)
+
+  guard-is : c .guard-ok .result ≡ f g
+  guard-is =
+      let a = c .before .before .before .before .before .before .args in
+      c .guard-ok .ensures ∙ ap (guardOk (a .directions) (a .guards) g (getD (a .watched .now) g 0)) (read-given w64 (vector (a .levels .now) g) (c .before .guard-ok-arg2 .given))
+
+returns-2 : tie.Need-returns-2 Inv-loop μ-loop
+returns-2 c =
+    let b = c .before in
+    let few = le-leb _ _ (b .before .before .before .before .before .if1 .left) in
+    simp (few, allBelow-fails 16 (f b) (g b) (omega arith) (sym (guard-is b) ∙ not-true _ (c .if2 .taken)))
+
+add-g : tie.Need-add-g Inv-loop μ-loop
+add-g c = omega arith
+
+loop-less : tie.Need-loop-less Inv-loop μ-loop
+loop-less c = omega arith
+
+loop-again : tie.Need-loop-again Inv-loop μ-loop
+loop-again c =
+    let b = c .before in
+    below-more (λ j. f b j ≡ true) (g b) (b .before .before .before .before .loop .inv) (sym (guard-is b) ∙ not-false _ (c .if2 .left))
+
+returns-3 : tie.Need-returns-3 Inv-loop μ-loop
+returns-3 c =
+    let a = c .before .before .before .args in
+    let few = le-leb _ _ (c .before .before .if1 .left) in
+    simp (few, allBelow-intro 16 (guardAt (a .directions) (a .guards) (a .watched .now) (a .levels .now)) (λ j h. c .before .loop .inv j (omega arith)))
+
+pub guards-ok-spec : {M : Type 1} → statement M
+guards-ok-spec =
+    tie.close
+    (tie.spec
+    Inv-loop
+    μ-loop
+    returns
+    loop-holds
+    mul-guard-ok
+    element-copy-out-guard-ok
+    mul-guard-ok-2
+    element-copy-out-guard-ok-2
+    guard-ok-requires
+    returns-2
+    add-g
+    loop-less
+    loop-again
+    returns-3)

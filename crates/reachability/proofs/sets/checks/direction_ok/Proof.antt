@@ -1,0 +1,83 @@
+-- `reachability::sets::checks::direction_ok` meets its contract: the test holds of every value passed. The measure is what is left of
+-- six. Assumes nothing.
+use Rattle.integers.proofs.Basics.{_≡_, sym, ap, _∙_, Bool, true, ℕ, _-_, _<_, arith, needs, ℤ, w64}
+use mathlib.Core.List.{List}
+use borrow.Author.Count.{below-none, below-more}
+use borrow.Author.Tests.{not-true, not-false}
+use Rattle.integers.specs.Sums.{vector}
+use Rattle.integers.proofs.Sums.{allBelow-intro, allBelow-fails}
+use Rattle.integers.proofs.Machine.{read-given}
+use Rattle.reachability.specs.Sets.{valueOk}
+use Rattle.reachability.proofs.sets.checks.direction_ok.Statement.{statement}
+use Rattle.reachability.proofs.sets.checks.direction_ok.Tie as tie
+
+abbrev valueAt : ℕ → List ℤ → ℕ → Bool
+valueAt n r i = valueOk n i (vector r i)
+
+abbrev Inv-loop : tie.InvT-loop
+Inv-loop n r i₀ i = (j : ℕ) → j < i → valueAt n r j ≡ true
+
+abbrev μ-loop : tie.MeasureT-loop
+μ-loop n r i₀ i = 6 - i
+
+loop-holds : tie.Need-loop-holds Inv-loop μ-loop
+loop-holds c = below-none (λ j. valueAt (c .args .n) (c .args .r .now) j ≡ true)
+
+mul-value-ok : tie.Need-mul-value-ok Inv-loop μ-loop
+mul-value-ok c = omega arith
+
+element-copy-out-value-ok : tie.Need-element-copy-out-value-ok Inv-loop μ-loop
+element-copy-out-value-ok c = omega arith
+
+value-ok-requires : tie.Need-value-ok-requires Inv-loop μ-loop
+value-ok-requires c κs = search needs
+
+-- what the call says of the value
+module _ (c : tie.After-value-ok Inv-loop μ-loop) where
+  abbrev i : ℕ
+  i = c .before .before .before .loop .i
+
+  abbrev f : ℕ → Bool
+  f = valueAt (c .before .before .before .before .args .n) (c .before .before .before .before .args .r .now)
+
+  value-is : c .value-ok .result ≡ f i
+  value-is =
+      let a = c .before .before .before .before .args in
+      c .value-ok .ensures ∙ ap (valueOk (a .n) i) (read-given w64 (vector (a .r .now) i) (c .before .value-ok-arg .given))
+
+returns : tie.Need-returns Inv-loop μ-loop
+returns c =
+    let b = c .before in
+    sym (allBelow-fails 6 (f b) (i b) (omega arith) (sym (value-is b) ∙ not-true _ (c .if1 .taken)))
+
+add-i : tie.Need-add-i Inv-loop μ-loop
+add-i c = omega arith
+
+loop-less : tie.Need-loop-less Inv-loop μ-loop
+loop-less c = omega arith
+
+loop-again : tie.Need-loop-again Inv-loop μ-loop
+loop-again c =
+    let b = c .before in
+    below-more (λ j. f b j ≡ true) (i b) (b .before .before .before .loop .inv) (sym (value-is b) ∙ not-false _ (c .if1 .left))
+
+returns-2 : tie.Need-returns-2 Inv-loop μ-loop
+returns-2 c =
+    let a = c .before .before .args in
+    sym (allBelow-intro 6 (valueAt (a .n) (a .r .now)) (λ j h. c .before .loop .inv j (omega arith)))
+
+pub direction-ok-spec : {M : Type 1} → statement M
+direction-ok-spec =
+    tie.close
+    (tie.spec
+    Inv-loop
+    μ-loop
+    loop-holds
+    mul-value-ok
+    element-copy-out-value-ok
+    value-ok-requires
+    returns
+    add-i
+    loop-less
+    loop-again
+    returns-2)

@@ -1,0 +1,3 @@
+pub mod Sets
+pub mod Limits
+pub mod Inner

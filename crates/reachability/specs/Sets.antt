@@ -1,0 +1,124 @@
+-- Document 01, "The three sets": points, support and reach of a box, a zonotope and a vertex list, and which points lie in
+-- one. Definitions only. A set's points are p 0, p 1, ..; p k i is coordinate i of point k.
+-- Assumes nothing.
+use mathlib.Core.Path.{_≡_}
+use mathlib.Core.Bool.{Bool, true, cond, _&&_, _||_}
+use mathlib.Core.List.{List}
+use Prim.Native.Nat.{ℕ, zero, suc, _+_, _*_, _-_, _≤_, _<_, max}
+use lib.Dec.{leb, ltb, eqb}
+use lib.IntN.{ℤ, pos, negℤ, natAbs, _+ℤ_, _*ℤ_}
+use lib.Signed.{ltZ, leZ}
+use Rattle.integers.specs.Whole.{_⩽_}
+use Rattle.integers.specs.Sums.{vector, matrix, sum, sumℕ, maxℕ, dot, allBelow, tabulate}
+use Rattle.arrays.specs.Tests.{zeroOutside}
+use Rattle.stepping.specs.Limits.{growthLimit}
+use Rattle.stepping.specs.Refusals.{dimensionOk}
+use Rattle.reachability.specs.declared.sets.Shape.{Shape}
+use Rattle.reachability.specs.declared.sets.Shape.the-variants.{Box, Zonotope, Vertices}
+use Rattle.reachability.specs.declared.sets.Set.{Set}
+use Rattle.reachability.specs.declared.sets.Supported.{Supported}
+use Rattle.reachability.specs.declared.sets.Supported.the-variants.{Value, Refused}
+
+-- "a fixed block of sixteen points": point k of the block.
+abbrev pub points : List ℤ → ℕ → ℕ → ℤ
+points = matrix
+
+-- ---- support: "the largest r · point over the set"
+
+-- The largest of f 0 up to f k.
+unfoldable pub largest : ℕ → (ℕ → ℤ) → ℤ
+largest zero f = f 0
+largest (suc k) f = cond (ltZ (largest k f) (f (suc k))) (f (suc k)) (largest k f)
+
+-- "Box: lower and upper corner. For each coordinate take the upper where r is positive, else the lower."
+-- "Zonotope: .. Support: centre · r plus the sum of |generator · r|."
+-- "Vertex list: .. Support: the largest vertex · r."
+abbrev pub supportOf : ℕ → Shape → ℕ → (ℕ → ℕ → ℤ) → (ℕ → ℤ) → ℤ
+supportOf n Box count p r = sum n (λ i. r i *ℤ cond (ltZ (pos 0) (r i)) (p 1 i) (p 0 i))
+supportOf n Zonotope count p r = dot n r (p 0) +ℤ pos (sumℕ (count - 1) (λ k. natAbs (dot n r (p (suc k)))))
+supportOf n Vertices count p r = largest (count - 1) (λ k. dot n r (p k))
+
+-- ---- reach: "The *reach* of a set in coordinate i is its largest |coordinate i|"
+
+-- "for a box the larger of the two magnitudes, for a zonotope |centre| plus the sum of |generator|, for a list the largest
+-- magnitude."
+abbrev pub reachOf : Shape → ℕ → (ℕ → ℕ → ℤ) → ℕ → ℕ
+reachOf Box count p i = max (natAbs (p 0 i)) (natAbs (p 1 i))
+reachOf Zonotope count p i = natAbs (p 0 i) + sumℕ (count - 1) (λ k. natAbs (p (suc k) i))
+reachOf Vertices count p i = maxℕ count (λ k. natAbs (p k i))
+
+-- ---- points: x, in q-ths, lies in the set. "a run has one common denominator q .. for its first state, all its inputs, and
+-- the generator factors and corner weights that put them in their sets."
+
+-- Between the corners in each coordinate.
+pub record InBox (n q : ℕ) (p : ℕ → ℕ → ℤ) (x : ℕ → ℤ) : Type 0 where
+  pub low : (i : ℕ) → i < n → pos q *ℤ p 0 i ⩽ x i
+  pub high : (i : ℕ) → i < n → x i ⩽ pos q *ℤ p 1 i
+
+-- "points are centre plus each generator times a number from -1 to 1": the numbers are factor / q.
+pub record InZonotope (n q count : ℕ) (p : ℕ → ℕ → ℤ) (x : ℕ → ℤ) : Type 0 where
+  pub factor : ℕ → ℤ
+  pub at-least : (k : ℕ) → k < count - 1 → negℤ (pos q) ⩽ factor k
+  pub at-most : (k : ℕ) → k < count - 1 → factor k ⩽ pos q
+  pub is : (i : ℕ) → i < n → x i ≡ pos q *ℤ p 0 i +ℤ sum (count - 1) (λ k. factor k *ℤ p (suc k) i)
+
+-- "1 to 16 points and their convex hull": the weights are weight / q, and sum to 1.
+pub record InHull (n q count : ℕ) (p : ℕ → ℕ → ℤ) (x : ℕ → ℤ) : Type 0 where
+  pub weight : ℕ → ℕ
+  pub whole : sumℕ count weight ≡ q
+  pub is : (i : ℕ) → i < n → x i ≡ sum count (λ k. pos (weight k) *ℤ p k i)
+
+abbrev pub Member : ℕ → Shape → ℕ → (ℕ → ℕ → ℤ) → ℕ → (ℕ → ℤ) → Type 0
+Member n Box count p q x = InBox n q p x
+Member n Zonotope count p q x = InZonotope n q count p x
+Member n Vertices count p q x = InHull n q count p x
+
+-- ---- the rules that number 11 tests
+
+-- "The count is of points: 2 for a box, 1 plus its generators for a zonotope, its vertices for a list"; 1 to 8 generators,
+-- 1 to 16 vertices.
+abbrev pub countOk : Shape → ℕ → Bool
+countOk Box count = eqb count 2
+countOk Zonotope count = leb 2 count && leb count 9
+countOk Vertices count = leb 1 count && leb count 16
+
+-- "has a box lower corner above its upper in any of the n coordinates": none.
+abbrev pub orderedOk : ℕ → Shape → (ℕ → ℕ → ℤ) → Bool
+orderedOk n Box p = allBelow n (λ i. leZ (p 0 i) (p 1 i))
+orderedOk n Zonotope p = true
+orderedOk n Vertices p = true
+
+-- "Limits": "Reach at most 1,048,576", in each coordinate.
+abbrev pub reachLimit : ℕ
+reachLimit = 1048576
+
+abbrev pub reachOk : Shape → ℕ → (ℕ → ℕ → ℤ) → Bool
+reachOk shape count p = allBelow 6 (λ i. leb (reachOf shape count p i) reachLimit)
+
+-- A set that breaks no rule: its count, "unused ones zero", zero beyond n, its reach, a box's corners.
+abbrev pub setOk : ℕ → Shape → ℕ → List ℤ → Bool
+setOk n shape count xs = countOk shape count && (zeroOutside count n xs && (reachOk shape count (points xs) && orderedOk n shape (points xs)))
+
+-- ---- "Refusals by place", the row "stepping, set routines": what the set routines answer
+
+-- A value of r in coordinate i. "for a set, r alone": no magnitude above 1,073,741,824. "a nonzero value beyond n": none.
+abbrev pub valueOk : ℕ → ℕ → ℤ → Bool
+valueOk n i x = leb (natAbs x) growthLimit && (ltb i n || eqb (natAbs x) 0)
+
+abbrev pub directionOk : ℕ → List ℤ → Bool
+directionOk n r = allBelow 6 (λ i. valueOk n i (vector r i))
+
+abbrev pub supportAnswer : ℕ → Set → List ℤ → Supported
+supportAnswer n s r =
+    cond (dimensionOk n && (setOk n (s .shape) (s .count) (s .points) && directionOk n r))
+    (Value (supportOf n (s .shape) (s .count) (points (s .points)) (vector r)))
+    Refused
+
+abbrev pub supportNumber : Supported → ℕ
+supportNumber (Value v) = 0
+supportNumber Refused = 11
+
+-- What `reach` answers: number 11 with six zeros, or 0 with the six reaches.
+pub record ReachAnswer (n : ℕ) (s : Set) (number : ℕ) (reaches : List ℤ) : Type 0 where
+  pub number-is : number ≡ cond (dimensionOk n && setOk n (s .shape) (s .count) (s .points)) 0 11
+  pub reaches-are : reaches ≡ cond (dimensionOk n && setOk n (s .shape) (s .count) (s .points)) (tabulate 6 (λ i. pos (reachOf (s .shape) (s .count) (points (s .points)) i))) (tabulate 6 (λ i. pos 0))

@@ -1,0 +1,70 @@
+// The three sets of document 01: boxes, zonotopes and vertex lists, with their support and their reach.
+mod checks;
+mod reaches;
+mod supports;
+
+pub(crate) use checks::set_ok;
+pub(crate) use reaches::reaches_of;
+pub(crate) use supports::support_of;
+ghost use mathlib.Core.Path.{_≡_};
+ghost use Rattle.reachability.specs.Sets.{supportAnswer, ReachAnswer};
+
+// How a set's points are to be read: lower and upper corner; centre and generators; vertices.
+pub enum Shape {
+    Box,
+    Zonotope,
+    Vertices,
+}
+
+// A set: its shape, how many points it has, and sixteen points of six coordinates. What is unused is zero.
+pub struct Set {
+    pub shape: Shape,
+    pub count: usize,
+    pub points: [i32; 96],
+}
+
+// What `support` answers: the value, or number 11.
+pub enum Supported {
+    Value(i64),
+    Refused,
+}
+
+// What `reach` answers: number 0 with the reach in each coordinate, or number 11 with zeros.
+pub struct Reached {
+    pub number: u8,
+    pub reaches: [i64; 6],
+}
+
+// The support of the set at r: the largest r · point over it. Number 11 for n outside 1 to 6, a set that breaks a rule of
+// document 01, or an r with a value beyond n or a magnitude above 1,073,741,824.
+pub fn support(n: usize, set: Set, r: &[i64; 6]) -> Supported
+    ensures { λ a. ⌜ a ≡ supportAnswer n set (now (r .entry)) ⌝ }
+{
+    let shape = set.shape;
+    let count = set.count;
+    let points = set.points;
+    if !set_ok(n, shape, count, &points) {
+        return Supported::Refused;
+    }
+    if !checks::direction_ok(n, r) {
+        return Supported::Refused;
+    }
+    Supported::Value(support_of(shape, count, &points, r))
+}
+
+// The reach of the set in each coordinate. Number 11 for n outside 1 to 6 or a set that breaks a rule of document 01.
+pub fn reach(n: usize, set: Set) -> Reached
+    ensures { λ a. ⌜ ReachAnswer n set (a .number) (a .reaches) ⌝ }
+{
+    let shape = set.shape;
+    let count = set.count;
+    let points = set.points;
+    if !set_ok(n, shape, count, &points) {
+        return Reached {
+            number: 11,
+            reaches: [0i64; 6],
+        };
+    }
+    let reaches = reaches_of(shape, count, &points);
+    Reached { number: 0, reaches }
+}

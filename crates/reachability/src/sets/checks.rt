@@ -1,0 +1,122 @@
+// The rules that number 11 tests of a set and of a direction for it.
+use crate::sets::Shape;
+use crate::sets::reaches::reach_at;
+ghost use mathlib.Core.Path.{_≡_};
+ghost use mathlib.Core.Bool.{_&&_};
+ghost use Prim.Native.Nat.{_≤_};
+ghost use Rattle.stepping.specs.Refusals.{dimensionOk};
+ghost use Rattle.reachability.specs.Sets.{countOk, orderedOk, reachOk, setOk, directionOk, valueOk, points as pointsOf};
+ghost use Rattle.reachability.specs.Inner.{Counted};
+ghost use Rattle.reachability.specs.declared.sets.Shape.the-variants.{Box};
+
+// The count is one that the shape allows.
+fn count_ok(shape: Shape, count: usize) -> bool
+    ensures { λ b. ⌜ b ≡ countOk shape count ⌝ }
+{
+    match shape {
+        Shape::Box => count == 2,
+        Shape::Zonotope => {
+            if count < 2 {
+                return false;
+            }
+            count <= 9
+        }
+        Shape::Vertices => {
+            if count < 1 {
+                return false;
+            }
+            count <= 16
+        }
+    }
+}
+
+// Each reach is at most 1,048,576.
+fn reach_ok(shape: Shape, count: usize, points: &[i32; 96]) -> bool
+    requires { ⌜ Counted count ⌝ }
+    ensures { λ b. ⌜ b ≡ reachOk shape count (pointsOf (now (points .entry))) ⌝ }
+{
+    let mut i: usize = 0;
+    while i < 6 {
+        if 1048576 < reach_at(shape, count, points, i) {
+            return false;
+        }
+        i += 1;
+    }
+    true
+}
+
+// No lower corner is above its upper.
+fn corners_ok(n: usize, points: &[i32; 96]) -> bool
+    requires { ⌜ n ≤ 6 ⌝ }
+    ensures { λ b. ⌜ b ≡ orderedOk n Box (pointsOf (now (points .entry))) ⌝ }
+{
+    let mut i: usize = 0;
+    while i < n {
+        if points[6 + i] < points[i] {
+            return false;
+        }
+        i += 1;
+    }
+    true
+}
+
+fn ordered_ok(n: usize, shape: Shape, points: &[i32; 96]) -> bool
+    requires { ⌜ n ≤ 6 ⌝ }
+    ensures { λ b. ⌜ b ≡ orderedOk n shape (pointsOf (now (points .entry))) ⌝ }
+{
+    match shape {
+        Shape::Box => corners_ok(n, points),
+        Shape::Zonotope => true,
+        Shape::Vertices => true,
+    }
+}
+
+// n and the set break no rule.
+pub(crate) fn set_ok(n: usize, shape: Shape, count: usize, points: &[i32; 96]) -> bool
+    ensures { λ b. ⌜ b ≡ dimensionOk n && setOk n shape count (now (points .entry)) ⌝ }
+{
+    if n < 1 {
+        return false;
+    }
+    if 6 < n {
+        return false;
+    }
+    if !count_ok(shape, count) {
+        return false;
+    }
+    if !arrays::zero_outside(count, n, points) {
+        return false;
+    }
+    if !reach_ok(shape, count, points) {
+        return false;
+    }
+    ordered_ok(n, shape, points)
+}
+
+// r has no value beyond n, and no magnitude above 1,073,741,824.
+pub(crate) fn direction_ok(n: usize, r: &[i64; 6]) -> bool
+    ensures { λ b. ⌜ b ≡ directionOk n (now (r .entry)) ⌝ }
+{
+    let mut i: usize = 0;
+    while i < 6 {
+        if !value_ok(n, i, r[i]) {
+            return false;
+        }
+        i += 1;
+    }
+    true
+}
+
+// One value of r: at most 1,073,741,824 in magnitude, and zero from n on.
+fn value_ok(n: usize, i: usize, x: i64) -> bool
+    ensures { λ b. ⌜ b ≡ valueOk n i x ⌝ }
+{
+    let m = arrays::magnitude(x);
+    if 1073741824 < m {
+        return false;
+    }
+    if n <= i {
+        return m == 0;
+    }
+    true
+}

@@ -1,0 +1,5 @@
+pub mod Table
+pub mod KnownKinds
+pub mod LittleEndian
+pub mod TwosComplement
+pub mod RecordAt

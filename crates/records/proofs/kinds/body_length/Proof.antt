@@ -1,0 +1,59 @@
+-- `records::kinds::body_length` meets its contract. The loop's invariant: a search of the entries that are left gives the
+-- kind's body length. It holds at the start by the test of the whole table, which antt computes. The measure is the number of
+-- entries left. Assumes nothing.
+use Rattle.integers.proofs.Basics.{refl, _-_, arith, needs}
+use Rattle.integers.specs.Sums.{allBelow}
+use Rattle.records.specs.Kinds.{bodyLength}
+use Rattle.records.proofs.Table.{lookup, same, agrees, Sought, sought-start, sought-found, sought-next, sought-none}
+use Rattle.records.proofs.kinds.body_length.Statement.{statement}
+use Rattle.records.proofs.kinds.body_length.Tie as tie
+
+abbrev Inv-loop : tie.InvT-loop
+Inv-loop kind table i₀ i = Sought kind table i
+
+abbrev μ-loop : tie.MeasureT-loop
+μ-loop kind table i₀ i = 15 - i
+
+loop-holds : tie.Need-loop-holds Inv-loop μ-loop
+unfolding allBelow agrees lookup same bodyLength
+loop-holds c = sought-start (c .args .kind) _ refl (search needs)
+
+mul-entry : tie.Need-mul-entry Inv-loop μ-loop
+mul-entry c = omega arith
+
+array-copy-out-entry : tie.Need-array-copy-out-entry Inv-loop μ-loop
+array-copy-out-entry c = search needs
+
+returns : tie.Need-returns Inv-loop μ-loop
+returns c =
+    let at-loop = c .before .before .before .before in
+    sought-found (at-loop .loop .inv) _ (c .before .before .before .loop-test .taken) (c .if1 .taken)
+
+add-i : tie.Need-add-i Inv-loop μ-loop
+add-i c = omega arith
+
+loop-less : tie.Need-loop-less Inv-loop μ-loop
+loop-less c = omega arith
+
+loop-again : tie.Need-loop-again Inv-loop μ-loop
+loop-again c =
+    let at-loop = c .before .before .before .before in
+    sought-next (at-loop .loop .inv) _ (c .before .before .before .loop-test .taken) (c .if1 .left)
+
+returns-2 : tie.Need-returns-2 Inv-loop μ-loop
+returns-2 c = sought-none (c .before .loop .inv) (c .loop-test .left)
+
+pub body-length-spec : {M : Type 1} → statement M
+body-length-spec =
+    tie.close
+    (tie.spec
+    Inv-loop
+    μ-loop
+    loop-holds
+    mul-entry
+    array-copy-out-entry
+    returns
+    add-i
+    loop-less
+    loop-again
+    returns-2)

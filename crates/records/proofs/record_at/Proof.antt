@@ -1,0 +1,133 @@
+-- `records::record_at` meets its contract: the tests that led to each `return` say which case of `recordAt` holds.
+-- Assumes nothing.
+use Rattle.integers.proofs.Basics.{_≡_, refl, sym, ap, _∙_, ℕ, _+_, _<_, arith, needs, length, getD}
+use mathlib.Core.List.{List}
+use native.Mathlib.Nat.{add-sub-cancel-left}
+use lib.ListN.{take, drop}
+use denote.Ref.{RefT, now, ptr}
+use Rattle.records.specs.declared.kinds.BodyLength.the-variants.{Bytes}
+use Rattle.records.specs.Kinds.{bodyLength}
+use Rattle.records.specs.Records.{Record, recordAt, recordNumber, recordKind, recordBody, recordPlace, RecordStep}
+use Rattle.records.proofs.RecordAt.{recordAt-nothing, recordAt-unknown, recordAt-short, recordAt-whole}
+use Rattle.records.proofs.record_at.Statement.{statement}
+use Rattle.records.proofs.record_at.Tie as tie
+
+-- what the record at the offset makes of the step
+module _ {file : RefT (List ℕ)} {at : ℕ} {r : Record} (is : recordAt (now file) at ≡ r) where
+  step-of : {part : RefT (List ℕ)} → now part ≡ recordBody r → ptr part ≡ recordPlace at r (ptr file) → RecordStep file at part (recordKind r) (recordNumber r)
+  step-of body place =
+      record {
+        number-is = sym (ap recordNumber is);
+        kind-is = sym (ap recordKind is);
+        body-is = body ∙ sym (ap recordBody is);
+        place-is = place ∙ sym (ap (λ (s : Record). recordPlace at s (ptr file)) is);
+      }
+
+slice-aggregate-result : tie.Need-slice-aggregate-result
+slice-aggregate-result c = search needs
+
+-- no byte is left
+returns : tie.Need-returns
+returns c =
+    let a = c .before .before .before .args in
+    step-of (recordAt-nothing (a .file .now) (a .at) (c .before .if1 .taken)) refl refl
+
+shared-slice-read-first : tie.Need-shared-slice-read-first
+shared-slice-read-first c = search needs
+
+body-length-requires : tie.Need-body-length-requires
+body-length-requires c κs = search needs
+
+enum-known-length : tie.Need-enum-known-length
+enum-known-length c = search needs
+
+enum-told : tie.Need-enum-told
+enum-told c = search needs
+
+slice-aggregate-result-2 : tie.Need-slice-aggregate-result-2
+slice-aggregate-result-2 c = search needs
+
+-- an unknown kind
+returns-2 : tie.Need-returns-2
+returns-2 c =
+    let at-call = c .before .before .before in
+    let a = at-call .before .before .before .before .args in
+    step-of (recordAt-unknown (a .file .now) (a .at) (at-call .before .before .if1 .left) (sym (at-call .body-length .ensures) ∙ c .before .enum-told .given .1)) refl refl
+
+add-start : tie.Need-add-start
+add-start c = search needs
+
+sub-if2 : tie.Need-sub-if2
+sub-if2 c = search needs
+
+slice-aggregate-result-3 : tie.Need-slice-aggregate-result-3
+slice-aggregate-result-3 c = search needs
+
+-- after the table has told the body length: the kind is known
+module _ (c : tie.After-known-told) where
+  abbrev file : RefT (List ℕ)
+  file = c .before .before .before .before .before .before .before .args .file
+
+  abbrev at : ℕ
+  at = c .before .before .before .before .before .before .before .args .at
+
+  abbrev n : ℕ
+  n = c .before .length .given .0 .0
+
+  inside : at < length (now file)
+  inside = c .before .before .before .before .before .if1 .left
+
+  known : bodyLength (getD (now file) at 0) ≡ Bytes n
+  known = sym (c .before .before .before .body-length .ensures) ∙ c .before .length .given .1
+
+-- fewer bytes left than the body needs
+returns-3 : tie.Need-returns-3
+returns-3 c =
+    let b = c .before .before in
+    step-of (recordAt-short (now (file b)) (at b) (inside b) (n b) (known b) (omega arith)) refl refl
+
+add-result : tie.Need-add-result
+add-result c = search needs
+
+sub-result : tie.Need-sub-result
+sub-result c = search needs
+
+part-result-start : tie.Need-part-result-start
+part-result-start c = search needs
+
+part-result-end : tie.Need-part-result-end
+part-result-end c = search needs
+
+-- a whole record
+returns-4 : tie.Need-returns-4
+returns-4 c =
+    let b = c .before .before in
+    let is = recordAt-whole (now (file b)) (at b) (inside b) (n b) (known b) (omega arith) in
+    record {
+      number-is = sym (ap recordNumber is);
+      kind-is = sym (ap recordKind is);
+      body-is = ap (λ (k : ℕ). take k (drop (at b + 1) (now (file b)))) (add-sub-cancel-left (at b + 1) (n b)) ∙ sym (ap recordBody is);
+      place-is = sym (ap (λ (s : Record). recordPlace (at b) s (ptr (file b))) is);
+    }
+
+pub record-at-spec : {M : Type 1} → statement M
+record-at-spec =
+    tie.close
+    (tie.spec
+    slice-aggregate-result
+    returns
+    shared-slice-read-first
+    body-length-requires
+    enum-known-length
+    enum-told
+    slice-aggregate-result-2
+    returns-2
+    add-start
+    sub-if2
+    slice-aggregate-result-3
+    returns-3
+    add-result
+    sub-result
+    part-result-start
+    part-result-end
+    returns-4)

@@ -1,0 +1,3 @@
+pub mod Kinds
+pub mod Records
+pub mod Numbers

@@ -1,0 +1,47 @@
+// Records of a model file, document 01, "The file": the table of kinds and body lengths, the record step, and numbers of
+// several bytes.
+//
+// No public function has a `requires`: any bytes, any offset gets its answer. Only kinds and lengths are known here; which
+// kind may follow which, and what a body may hold, is the reader's.
+mod kinds;
+mod numbers;
+
+use kinds::BodyLength;
+pub use numbers::i32_at;
+pub use numbers::i64_at;
+pub use numbers::u16_at;
+ghost use mathlib.Core.Path.{_≡_};
+ghost use Rattle.records.specs.Records.{RecordStep};
+
+// The record whose kind byte is at the offset `at`. It returns the body, a part of the file's own bytes, and leaves:
+//   number 0 and the kind, where a whole record is there;
+//   number 1 and the kind, where fewer bytes are left than the body needs;
+//   number 1 and kind 0, which no record has, where no byte is left;
+//   number 2 and the kind, where the kind is unknown.
+// Where the number is not 0 the part is empty, at the file's start.
+pub fn record_at<'a, 'b, 'c>(
+    file: &'a [u8],
+    at: usize,
+    kind: &'b mut u8,
+    number: &'c mut u8,
+) -> &'a [u8]
+    ensures { λ r. ⌜ RecordStep (file .entry) at r (now (kind .exit)) (now (number .exit)) ⌝ }
+{
+    *kind = 0;
+    *number = 1;
+    if file.len() <= at {
+        return &file[..0];
+    }
+    let first = file[at];
+    *kind = first;
+    let BodyLength::Bytes(length) = kinds::body_length(first) else {
+        *number = 2;
+        return &file[..0];
+    };
+    let start = at + 1;
+    if file.len() - start < length {
+        return &file[..0];
+    }
+    *number = 0;
+    &file[start..start + length]
+}
