@@ -5,7 +5,7 @@ use mathlib.Core.Bool.{Bool, true, false, not}
 use Prim.Native.Nat.{ℕ, zero, suc, _+_, _*_, _≤_, _<_}
 use native.Mathlib.Nat.{mul-le-mul, mul-le-mul-left, mul-le-mul-right, le-refl, le-trans}
 use native.Mathlib.Omega.{arith}
-use borrow.Author.Tests.{ltb-true, ltb-false, lt-leb, le-leb}
+use borrow.Author.Tests.{ltb-true, ltb-false, lt-leb, le-leb, leb-false}
 use lib.Dec.{T, ltb, leb}
 use lib.IntN.{ℤ, pos, negsuc, negℤ, natAbs, _+ℤ_, _-ℤ_, _*ℤ_}
 use lib.Signed.{leZ, ltZ, ltZ-no}
@@ -89,6 +89,12 @@ leZ-of-ltZ-false (negsuc a) (negsuc b) e = le-leb a b (ltb-false b a e)
 
 pub ⩽-of-leZ : (a b : ℤ) → leZ a b ≡ true → a ⩽ b
 ⩽-of-leZ a b e = record { le = subst T (sym e) tt }
+
+pub lt-of-leZ-false : (a b : ℤ) → leZ a b ≡ false → b +ℤ pos 1 ⩽ a
+lt-of-leZ-false (pos a) (pos b) e = le! (# b ⊕ # 1) (# a) (omega (arith, leb-false a b e))
+lt-of-leZ-false (pos a) (negsuc b) e = le! (v (negsuc b) ⊕ # 1) (# a) (omega arith)
+lt-of-leZ-false (negsuc a) (pos b) e = let z : _≡_ {A = ℕ} 0 1 = cc in absurd (omega arith)
+lt-of-leZ-false (negsuc a) (negsuc b) e = le! (v (negsuc b) ⊕ # 1) (v (negsuc a)) (omega (arith, leb-false b a e))
 
 -- below 0 and from 0 on
 pub negative-is : (x : ℤ) → ltZ x (pos 0) ≡ true → (a : ℕ) × (x ≡ negsuc a)

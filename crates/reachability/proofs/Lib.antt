@@ -1,3 +1,5 @@
 pub mod SetLaws
 pub mod SetBounds
 pub mod SetTests
+pub mod Walks
+pub mod AccuracyRule

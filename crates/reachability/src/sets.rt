@@ -7,7 +7,7 @@ pub(crate) use checks::set_ok;
 pub(crate) use reaches::reaches_of;
 pub(crate) use supports::support_of;
 ghost use mathlib.Core.Path.{_≡_};
-ghost use Rattle.reachability.specs.Sets.{supportAnswer, ReachAnswer};
+ghost use Rattle.reachability.specs.Sets.{supportAnswer, ReachAnswer, reachWithin, cornersOrdered};
 
 // How a set's points are to be read: lower and upper corner; centre and generators; vertices.
 pub enum Shape {
@@ -67,4 +67,28 @@ pub fn reach(n: usize, set: Set) -> Reached
     }
     let reaches = reaches_of(shape, count, &points);
     Reached { number: 0, reaches }
+}
+
+// The reach of the first `count` points, 1 to 16 of them, is within its limit in each coordinate. It asks no whole set, so
+// that a reader can test a set point by point.
+pub fn reach_within(shape: Shape, count: usize, points: &[i32; 96]) -> bool
+    ensures { λ b. ⌜ b ≡ reachWithin shape count (now (points .entry)) ⌝ }
+{
+    if count < 1 {
+        return false;
+    }
+    if 16 < count {
+        return false;
+    }
+    checks::reach_ok(shape, count, points)
+}
+
+// n is at most 6, and in each of the n coordinates the first point is not above the second.
+pub fn corners_ordered(n: usize, points: &[i32; 96]) -> bool
+    ensures { λ b. ⌜ b ≡ cornersOrdered n (now (points .entry)) ⌝ }
+{
+    if 6 < n {
+        return false;
+    }
+    checks::corners_ok(n, points)
 }

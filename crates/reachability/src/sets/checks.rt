@@ -31,7 +31,7 @@ fn count_ok(shape: Shape, count: usize) -> bool
 }
 
 // Each reach is at most 1,048,576.
-fn reach_ok(shape: Shape, count: usize, points: &[i32; 96]) -> bool
+pub(crate) fn reach_ok(shape: Shape, count: usize, points: &[i32; 96]) -> bool
     requires { ⌜ Counted count ⌝ }
     ensures { λ b. ⌜ b ≡ reachOk shape count (pointsOf (now (points .entry))) ⌝ }
 {
@@ -46,7 +46,7 @@ fn reach_ok(shape: Shape, count: usize, points: &[i32; 96]) -> bool
 }
 
 // No lower corner is above its upper.
-fn corners_ok(n: usize, points: &[i32; 96]) -> bool
+pub(crate) fn corners_ok(n: usize, points: &[i32; 96]) -> bool
     requires { ⌜ n ≤ 6 ⌝ }
     ensures { λ b. ⌜ b ≡ orderedOk n Box (pointsOf (now (points .entry))) ⌝ }
 {

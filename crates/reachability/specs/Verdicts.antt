@@ -1,0 +1,31 @@
+-- Document 01, "The recurrence", last paragraph: when a value reaches a level, and the verdict on a guard by the first-step
+-- rules. Definitions only. Assumes nothing.
+use mathlib.Core.Bool.{Bool, cond}
+use Prim.Native.Nat.{ℕ, suc}
+use lib.Dec.{leb}
+use lib.IntN.{ℤ, pos, _-ℤ_}
+use lib.Signed.{leZ}
+use Rattle.integers.specs.Sums.{vector}
+use Rattle.reachability.specs.Recurrence.{bound, slack, firstPlace}
+use Rattle.reachability.specs.declared.model.Model.{Model}
+use Rattle.reachability.specs.declared.judge.Judged.{Judged}
+use Rattle.reachability.specs.declared.judge.Judged.the-variants.{Hit, Unknown, Clear}
+
+-- "A guard is reached where direction · state is at least its level."
+abbrev pub reaches : ℤ → ℤ → Bool
+reaches level v = leZ level v
+
+-- "HIT names the first step with bound - slack at or above the level."
+abbrev pub hitAt : Model → ℕ → ℤ → ℕ → Bool
+hitAt m d level k = reaches level (bound m d k -ℤ pos (slack m d k))
+
+-- "If there is none, UNKNOWN names the first step whose bound is at or above the level."
+abbrev pub unknownAt : Model → ℕ → ℤ → ℕ → Bool
+unknownAt m d level k = reaches level (bound m d k)
+
+-- "If there is none, the guard is CLEAR."
+abbrev pub verdict : Model → ℕ → ℤ → Judged
+verdict m d level =
+    let h = firstPlace (suc (m .steps)) (hitAt m d level) in
+    let u = firstPlace (suc (m .steps)) (unknownAt m d level) in
+    cond (leb h (m .steps)) (Hit h) (cond (leb u (m .steps)) (Unknown u) Clear)
