@@ -3,6 +3,7 @@
 ghost use mathlib.Core.Path.{_≡_};
 ghost use Prim.Native.Nat.{max};
 ghost use lib.IntN.{natAbs};
+ghost use Rattle.integers.specs.Whole.{fraction as fractionOf};
 ghost use Rattle.arrays.specs.Tests.{between, allBetween, zeroUnless, zeroOutside};
 
 // |x|, for the least i64 too.
@@ -21,6 +22,20 @@ pub fn larger(a: u64, b: u64) -> u64
     ensures { λ r. ⌜ r ≡ max a b ⌝ }
 {
     if a < b { b } else { a }
+}
+
+// 1 where x isn't a multiple of `unit`, else 0. Only 0 is a multiple of 0.
+pub fn fraction(x: i64, unit: u64) -> u64
+    ensures { λ f. ⌜ f ≡ fractionOf x unit ⌝ }
+{
+    let size = magnitude(x);
+    if unit == 0 {
+        if size == 0 {
+            return 0;
+        }
+        return 1;
+    }
+    if size % unit == 0 { 0 } else { 1 }
 }
 
 // x is from low to high.

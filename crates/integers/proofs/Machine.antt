@@ -4,16 +4,16 @@ use mathlib.Core.Path.{_≡_, refl, sym, ap, subst, _∙_}
 use mathlib.Core.Logic.{_≢_}
 use mathlib.Core.Bool.{Bool, true, false}
 use mathlib.Core.List.{List, [], _∷_, _++_}
-use Prim.Native.Nat.{ℕ, zero, suc, _+_, _-_, _^_, _≤_, _<_}
-use native.Mathlib.Nat.{not-suc-le-zero, le-of-suc-le-suc}
+use Prim.Native.Nat.{ℕ, zero, suc, _+_, _-_, _^_, _≤_, _<_, suc-le-suc}
+use native.Mathlib.Nat.{not-suc-le-zero, le-of-suc-le-suc, div-le-self}
 use native.Mathlib.Numerals.{add-one}
 use native.Mathlib.Omega.{arith}
 use borrow.Author.Tests.{eq-eqb, ne-eqb, eqb-true, eqb-false}
 use lib.Dec.{T, eqb, leb}
 use lib.Pow.{pow-pos}
-use lib.ListN.{length, getD, set, take, drop}
+use lib.ListN.{length, getD, set, drop, List·getD-append}
 use lib.IntN.{ℤ, pos, negsuc, natAbs}
-use lib.Signed.{mag}
+use lib.Signed.{mag, shrZ}
 use mir.Syntax.{Width}
 use mir.Val.{SFits, hbits, toZ, ofZ}
 use mir.Facts.{toZ-ofZ, toZ-pos, sfits-widen}
@@ -51,6 +51,10 @@ mag-le (negsuc n) = omega arith
 -- a magnitude below half the width's power fits the width
 pub sfits-of-natAbs : (w : Width) {z : ℤ} {b : ℕ} → natAbs z ≤ b → b < 2 ^ hbits w → SFits w z
 sfits-of-natAbs w {z} {b} h k = record { sfits = omega (arith, mag-le z) }
+
+pub natAbs-shr : (z : ℤ) (m : ℕ) → natAbs (shrZ z m) ≤ natAbs z
+natAbs-shr (pos a) m = div-le-self a m
+natAbs-shr (negsuc a) m = suc-le-suc (div-le-self a m)
 
 -- an element that was read out of an array: its range is the bound that the read gives
 pub read-given : (w : Width) (z : ℤ) → mag z < 2 ^ hbits w → toZ w (ofZ w z) ≡ z
@@ -104,3 +108,8 @@ getD-tabulate (suc n) f (suc i) d h = getD-tabulate n (λ j. f (suc j)) i d (le-
 pub tabulate-cong : (n : ℕ) {f g : ℕ → ℤ} → ((i : ℕ) → i < n → f i ≡ g i) → tabulate n f ≡ tabulate n g
 tabulate-cong zero e = refl
 tabulate-cong (suc n) {f} {g} e = λ j. e 0 (native.Mathlib.Nat.zero-lt-suc n) j ∷ tabulate-cong n {f = λ i. f (suc i)} {g = λ i. g (suc i)} (λ i h. e (suc i) (Prim.Native.Nat.suc-le-suc h)) j
+
+pub getD-filled : (f : ℕ → ℤ) (i : ℕ) (xs : List ℤ) (j : ℕ) (d : ℤ) → j < i → getD (filled f i xs) j d ≡ f j
+unfolding filled
+getD-filled f i xs j d h =
+    List·getD-append (tabulate i f) (drop i xs) d j (subst (λ (k : ℕ). j < k) (sym (length-tabulate i f)) h) ∙ getD-tabulate i f j d h

@@ -70,3 +70,12 @@ ceilDiv-near a m h =
 
 pub ceilDivℕ-le : (a m : ℕ) → 0 < m → a ≤ m * ceilDivℕ a m
 ceilDivℕ-le a m h = omega (arith, divides (a + (m - 1)) m, mod-lt (a + (m - 1)) h)
+
+-- ---- what a fraction adds
+
+pub fraction-le-one : (a : ℤ) (m : ℕ) → fraction a m ≤ 1
+fraction-le-one a m = cases (isMultiple a m)
+  where
+    cases : (b : Bool) → cond b 0 1 ≤ 1
+    cases true = omega arith
+    cases false = omega arith

@@ -177,6 +177,10 @@ maxℕ-beyond n (suc m) f h =
 
 -- ---- the largest
 
+pub maxℕ-zero : (f : ℕ → ℕ) → maxℕ 0 f ≡ 0
+unfolding maxℕ
+maxℕ-zero f = refl
+
 pub maxℕ-suc : (n : ℕ) (f : ℕ → ℕ) → maxℕ (suc n) f ≡ max (maxℕ n f) (f n)
 unfolding maxℕ
 maxℕ-suc n f = refl

@@ -33,6 +33,7 @@ use Rattle.reachability.specs.declared.judge.Judged.{Judged}
 use Rattle.reachability.specs.declared.judge.Judged.the-variants.{Hit, Unknown, Clear}
 use Rattle.reachability.proofs.SetLaws.{SetLaws}
 use Rattle.reachability.proofs.SetTests.{SetFacts, set-facts}
+use Rattle.reachability.proofs.FirstPlace.{firstPlace-passes, firstPlace-before}
 use Rattle.reachability.proofs.Walks.{top, value-le-top, Attains, attains, near-sums}
 
 -- ---- two facts of numbers: t is the exact largest value in 1 / 1,048,576, p is 65,536 ^ k, s the sum of supports, e of errors
@@ -90,3 +91,170 @@ model-facts m t =
       directions = e .0;
       guards = e .1;
     }
+
+module _ (m : Model) (facts : ModelFacts m) (d : ℕ) where
+  lawsI : SetLaws (m .n) (Member (m .n) (m .initial .shape) (m .initial .count) (points (m .initial .points))) (supportOf (m .n) (m .initial .shape) (m .initial .count) (points (m .initial .points))) (reachOf (m .initial .shape) (m .initial .count) (points (m .initial .points)))
+  lawsI = facts .initial .laws
+
+  lawsU : SetLaws (m .n) (Member (m .n) (m .input .shape) (m .input .count) (points (m .input .points))) (supportOf (m .n) (m .input .shape) (m .input .count) (points (m .input .points))) (reachOf (m .input .shape) (m .input .count) (points (m .input .points)))
+  lawsU = facts .input .laws
+
+  -- the exact largest value of a direction at step k, in 1 / 65,536 ^ k
+  exactAt : (ℕ → ℤ) → ℕ → ℤ
+  exactAt x k = top (m .n) (moves m) lawsI lawsU k x
+
+  -- the sum of supports and the sum of errors of step k
+  supportsAt : ℕ → ℤ
+  supportsAt k = supportAt (m .n) (m .initial) (working m d k k) +ℤ sum k (λ j. supportAt (m .n) (m .input) (working m d k j))
+
+  errorsAt : ℕ → ℕ
+  errorsAt k = errorAt (m .n) (m .initial) (working m d k k) + sumℕ k (λ j. errorAt (m .n) (m .input) (working m d k j))
+
+  raw-is : (k : ℕ) → rawBound m d k ≡ supportsAt k +ℤ pos (errorsAt k)
+  unfolding supportsAt errorsAt
+  raw-is k =
+      let n = m .n in
+      let a = supportAt n (m .initial) (working m d k k) in
+      let e : ℕ = errorAt n (m .initial) (working m d k k) in
+      ap (λ (z : ℤ). (supportAt (m .n) (m .initial) (working m d k k) +ℤ pos (errorAt (m .n) (m .initial) (working m d k k))) +ℤ z) (sum-add k (λ j. supportAt (m .n) (m .input) (working m d k j)) (λ j. pos (errorAt (m .n) (m .input) (working m d k j))) ∙ ap (λ (z : ℤ). sum k (λ j. supportAt (m .n) (m .input) (working m d k j)) +ℤ z) (sym (pos-sumℕ k (λ j. errorAt (m .n) (m .input) (working m d k j)))))
+      ∙ regrouped (supportAt (m .n) (m .initial) (working m d k k)) (sum k (λ j. supportAt (m .n) (m .input) (working m d k j))) (errorAt (m .n) (m .initial) (working m d k k)) (sumℕ k (λ j. errorAt (m .n) (m .input) (working m d k j)))
+    where
+      regrouped : (a b : ℤ) (e f : ℕ) → (a +ℤ pos e) +ℤ (b +ℤ pos f) ≡ (a +ℤ b) +ℤ pos (e + f)
+      regrouped a b e f = eq! ((v a ⊕ # e) ⊕ (v b ⊕ # f)) ((v a ⊕ v b) ⊕ # (e + f)) (omega arith)
+
+  near-exact : (k : ℕ) → Near (exactAt (firstR (direction m d)) k) (pos (matrixUnit ^ k) *ℤ supportsAt k) (matrixUnit ^ k * errorsAt k)
+  unfolding exactAt supportsAt errorsAt
+  near-exact k = near-sums (m .n) (moves m) lawsI lawsU k (first (direction m d)) (stands-first (m .n) (direction m d))
+
+  -- the first working direction is 1,048,576 times the direction
+  unit-times : (x : ℕ → ℤ) → dot (m .n) (firstR (direction m d)) x ≡ pos directionUnit *ℤ dot (m .n) (direction m d) x
+  unit-times x =
+      sum-cong (m .n) (λ i h. eq! ((# directionUnit ⊗ v (direction m d i)) ⊗ v (x i)) (# directionUnit ⊗ (v (direction m d i) ⊗ v (x i))) (omega arith)) ∙ sum-scale (m .n) (pos directionUnit) (λ i. direction m d i *ℤ x i)
+
+  value-le : (x : ℕ → ℤ) (k : ℕ) → k ≤ m .steps → (q : ℕ) (run : Run m q) → dot (m .n) x (state m run k) ⩽ pos q *ℤ exactAt x k
+  unfolding exactAt
+  value-le x k h q run = value-le-top (m .n) (moves m) lawsI lawsU q (run .start) (run .inputs) k (run .starts) (λ j l. run .enters j (native.Mathlib.Nat.lt-of-lt-of-le l h)) x
+
+  -- ---- no run passes the bound
+
+  pub no-run-passes : (k : ℕ) → k ≤ m .steps → NoRunPasses m d k (bound m d k)
+  no-run-passes k h q run =
+      below-bound q (matrixUnit ^ k) (value m (direction m d) run k) (exactAt (firstR (direction m d)) k) (supportsAt k) (bound m d k) (errorsAt k)
+      (⩽-trans (⩽-of-eq (sym (unit-times (state m run k)))) (value-le (firstR (direction m d)) k h q run))
+      (near-exact k)
+      (⩽-trans (⩽-of-eq (sym (raw-is k))) (ceilDiv-le (rawBound m d k) directionUnit (lit< tt)))
+
+  -- ---- a run that attains the exact largest value of a direction
+
+  attaining : (x : ℕ → ℤ) (k : ℕ) → (run : Run m 1) × (dot (m .n) x (state m run k) ≡ exactAt x k)
+  unfolding exactAt
+  attaining x k =
+      let w = attains (m .n) (moves m) lawsI lawsU k x in
+      (record { positive = le-refl 1; start = w .start; inputs = w .inputs; starts = w .starts; enters = λ j l. w .enters j }, w .attains)
+
+  rounded-here : (k : ℕ) → pos 1048576 *ℤ (bound m d k -ℤ pos (slack m d k)) ⩽ supportsAt k -ℤ pos (errorsAt k)
+  unfolding errorsAt
+  rounded-here k = rounded (rawBound m d k) (supportsAt k) (errorsAt k) (raw-is k)
+
+  pub some-run-within : (k : ℕ) → SomeRunWithin m d k (bound m d k) (pos (slack m d k))
+  some-run-within k =
+      let a = attaining (firstR (direction m d)) k in
+      record {
+        q = 1;
+        run = a .0;
+        within = above-slack (matrixUnit ^ k) (value m (direction m d) (a .0) k) (exactAt (firstR (direction m d)) k) (supportsAt k) (bound m d k) (errorsAt k) (slack m d k) (sym (unit-times (state m (a .0) k)) ∙ a .1) (near-exact k) (rounded-here k);
+      }
+
+  -- ---- the exact largest value exists and is attained
+
+  largest-is : (k : ℕ) → k ≤ m .steps → Largest m (direction m d) k (exactAt (direction m d) k)
+  largest-is k h =
+      let a = attaining (direction m d) k in
+      record { above = λ q run. value-le (direction m d) k h q run; attained = (1, a .0, a .1 ∙ eq! (v (exactAt (direction m d) k)) (# 1 ⊗ v (exactAt (direction m d) k)) (omega arith)) }
+
+  -- ---- what the lists hold
+
+  bounds-at : (k : ℕ) → k ≤ m .steps → vector (boundsOf m d) k ≡ bound m d k
+  bounds-at k h = getD-tabulate (suc (m .steps)) (bound m d) k (pos 0) (omega arith)
+
+  slacks-at : (k : ℕ) → k ≤ m .steps → vector (slacksOf m d) k ≡ pos (slack m d k)
+  slacks-at k h = getD-tabulate (suc (m .steps)) (λ j. pos (slack m d j)) k (pos 0) (omega arith)
+
+  -- The accuracy rule of bounds and slacks.
+  pub accurate : Accurate m d (boundsOf m d) (slacksOf m d)
+  accurate =
+      record {
+        bounds = λ k h. subst (NoRunPasses m d k) (sym (bounds-at k h)) (no-run-passes k h);
+        slacks = λ k h. subst (λ (b : ℤ). SomeRunWithin m d k b (vector (slacksOf m d) k)) (sym (bounds-at k h)) (subst (SomeRunWithin m d k (bound m d k)) (sym (slacks-at k h)) (some-run-within k));
+        exact = λ k h. (exactAt (direction m d) k, largest-is k h);
+      }
+
+  -- ---- verdicts
+
+  module _ (level : ℤ) where
+    hit-holds : (k : ℕ) → hitAt m d level k ≡ true → ReachedBy m d level k
+    hit-holds k t =
+        let w = some-run-within k in
+        record { q = w .q; run = w .run; reaches = ⩽-trans (⩽-scale (denominator (w .q) k) (⩽-of-leZ level (bound m d k -ℤ pos (slack m d k)) t)) (w .within) }
+
+    -- the exact largest value lies between bound - slack and bound
+    exact-le-bound : (k : ℕ) → k ≤ m .steps → exactAt (direction m d) k ⩽ pos (matrixUnit ^ k) *ℤ bound m d k
+    exact-le-bound k h =
+        let a = attaining (direction m d) k in
+        ⩽-trans (⩽-of-eq (sym (a .1))) (⩽-trans (no-run-passes k h 1 (a .0)) (⩽-of-eq (eq! (# (1 * matrixUnit ^ k) ⊗ v (bound m d k)) (# (matrixUnit ^ k) ⊗ v (bound m d k)) (omega arith))))
+
+    bound-le-exact : (k : ℕ) → k ≤ m .steps → pos (matrixUnit ^ k) *ℤ (bound m d k -ℤ pos (slack m d k)) ⩽ exactAt (direction m d) k
+    bound-le-exact k h =
+        let w = some-run-within k in
+        unscaled (w .q) (w .run .positive) (⩽-trans (w .within) (value-le (direction m d) k h (w .q) (w .run)))
+      where
+        unscaled : (q : ℕ) → 1 ≤ q → pos (denominator q k) *ℤ (bound m d k -ℤ pos (slack m d k)) ⩽ pos q *ℤ exactAt (direction m d) k → pos (matrixUnit ^ k) *ℤ (bound m d k -ℤ pos (slack m d k)) ⩽ exactAt (direction m d) k
+        unscaled zero l g = absurd (omega arith)
+        unscaled (suc q) l g = ⩽-unscale q (⩽-trans (⩽-of-eq (eq! (# (suc q) ⊗ (# (matrixUnit ^ k) ⊗ (v (bound m d k) ⊖ # (slack m d k)))) (# (suc q * matrixUnit ^ k) ⊗ (v (bound m d k) ⊖ # (slack m d k))) (omega arith))) g)
+
+    unknown-holds : (k : ℕ) → k ≤ m .steps → hitAt m d level k ≡ false → unknownAt m d level k ≡ true → WithinSlackOf m d level k (vector (slacksOf m d) k)
+    unknown-holds k h f t =
+        record {
+          exact = exactAt (direction m d) k;
+          largest = largest-is k h;
+          near = subst (λ (z : ℤ). Near (exactAt (direction m d) k) (pos (matrixUnit ^ k) *ℤ level) (matrixUnit ^ k * natAbs z)) (sym (slacks-at k h)) (between (matrixUnit ^ k) (exactAt (direction m d) k) (bound m d k) (slack m d k) (exact-le-bound k h) (bound-le-exact k h) (lt-of-leZ-false level (bound m d k -ℤ pos (slack m d k)) f) (⩽-of-leZ level (bound m d k) t));
+        }
+      where
+        between : (p : ℕ) (x b : ℤ) (s : ℕ) → x ⩽ pos p *ℤ b → pos p *ℤ (b -ℤ pos s) ⩽ x → (b -ℤ pos s) +ℤ pos 1 ⩽ level → level ⩽ b → Near x (pos p *ℤ level) (p * s)
+        between p x b s high low below above =
+            near! (v x) (# p ⊗ v level) (p * s)
+            (omega (arith, le? (v x) (# p ⊗ v b) high, mul-le-mul-left p (le? (v b ⊖ # s ⊕ # 1) (v level) below)))
+            (omega (arith, le? (# p ⊗ (v b ⊖ # s)) (v x) low, mul-le-mul-left p (le? (v level) (v b) above)))
+
+    clear-holds : (k : ℕ) → k ≤ m .steps → unknownAt m d level k ≡ false → ReachedBy m d level k → ⊥
+    clear-holds k h f w =
+        apart (w .q) (w .run .positive) (⩽-trans (w .reaches) (no-run-passes k h (w .q) (w .run))) (lt-of-leZ-false level (bound m d k) f)
+      where
+        apart : (q : ℕ) → 1 ≤ q → pos (denominator q k) *ℤ level ⩽ pos (denominator q k) *ℤ bound m d k → bound m d k +ℤ pos 1 ⩽ level → ⊥
+        apart q l g b =
+            let p : ℕ = denominator q k in
+            omega (arith, le? (# (denominator q k) ⊗ v level) (# (denominator q k) ⊗ v (bound m d k)) g, mul-le-mul-left (denominator q k) (le? (v (bound m d k) ⊕ # 1) (v level) b), positive)
+          where
+            positive : 1 ≤ denominator q k
+            positive = native.Mathlib.Nat.mul-le-mul l (native.Mathlib.Nat.one-le-pow k matrixUnit (lit< tt))
+
+    -- The accuracy rule of the verdict.
+    pub verdict-holds : VerdictHolds m d level (slacksOf m d) (verdict m d level)
+    verdict-holds = hit (leb h (m .steps)) refl
+      where
+        h : ℕ
+        h = firstPlace (suc (m .steps)) (hitAt m d level)
+        u : ℕ
+        u = firstPlace (suc (m .steps)) (unknownAt m d level)
+        inside : {k : ℕ} → leb k (m .steps) ≡ true → k ≤ m .steps
+        inside {k} t = leb-true k (m .steps) t
+        beyond : {j k : ℕ} → leb k (m .steps) ≡ false → j ≤ m .steps → j < k
+        beyond {j} {k} f l = native.Mathlib.Nat.lt-of-le-of-lt l (leb-false k (m .steps) f)
+        below : {k : ℕ} → k ≤ m .steps → k < suc (m .steps)
+        below l = Prim.Native.Nat.suc-le-suc l
+        unknown : leb h (m .steps) ≡ false → (b : Bool) → leb u (m .steps) ≡ b → VerdictHolds m d level (slacksOf m d) (cond b (Unknown u) Clear)
+        unknown f true t = (inside t, unknown-holds u (inside t) (firstPlace-before (suc (m .steps)) (hitAt m d level) u (beyond f (inside t))) (firstPlace-passes (suc (m .steps)) (unknownAt m d level) (below (inside t))))
+        unknown f false g = λ k l. clear-holds k l (firstPlace-before (suc (m .steps)) (unknownAt m d level) k (beyond g l))
+        hit : (b : Bool) → leb h (m .steps) ≡ b → VerdictHolds m d level (slacksOf m d) (cond b (Hit h) (cond (leb u (m .steps)) (Unknown u) Clear))
+        hit true t = (inside t, hit-holds h (firstPlace-passes (suc (m .steps)) (hitAt m d level) (below (inside t))))
+        hit false f = unknown f (leb u (m .steps)) refl

@@ -6,3 +6,4 @@ pub mod Verdicts
 pub mod Rule
 pub mod Answers
 pub mod Inner
+pub mod Filling

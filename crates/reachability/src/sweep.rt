@@ -1,4 +1,11 @@
 // The sweep of a direction: bounds and slacks for every step.
+mod rounding;
+mod rows;
+
+use crate::model::Model;
+use crate::model::accepts;
+
+ghost use Rattle.reachability.specs.Answers.{SweepLeaves};
 
 // What `sweep` answers: the spare figure; 11, the model breaks a rule; 12, no such direction; 13, a lent list isn't K + 1 long;
 // 14, growth, with the first such step.
@@ -8,4 +15,40 @@ pub enum Swept {
     NoDirection,
     WrongLength,
     Growth(usize),
+}
+
+// What filling the rows answers: the largest growth sum over all steps, or the first step with growth.
+pub(crate) enum Filled {
+    Largest(u64),
+    Grown(usize),
+}
+
+// Bounds and slacks of direction number `direction` for steps 0 to K in the lent lists, and the spare figure. On a refusal both
+// lists keep every element.
+pub fn sweep(model: Model, direction: usize, bounds: &mut [i64], slacks: &mut [i64]) -> Swept
+    ensures { λ a. ⌜ SweepLeaves model direction (now (bounds .entry)) (now (slacks .entry)) a (now (bounds .exit)) (now (slacks .exit)) ⌝ }
+{
+    if !accepts(model) {
+        return Swept::Invalid;
+    }
+    if model.directions <= direction {
+        return Swept::NoDirection;
+    }
+    let size = model.steps + 1;
+    if bounds.len() != size {
+        return Swept::WrongLength;
+    }
+    if slacks.len() != size {
+        return Swept::WrongLength;
+    }
+    let mut bound_row = rows::blank();
+    let mut slack_row = rows::blank();
+    match rows::fill(model, direction, &mut bound_row, &mut slack_row) {
+        Filled::Grown(k) => Swept::Growth(k),
+        Filled::Largest(sum) => {
+            rows::copy(&bound_row, bounds);
+            rows::copy(&slack_row, slacks);
+            Swept::Spare(rows::spare_of(sum))
+        }
+    }
 }

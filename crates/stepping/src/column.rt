@@ -59,23 +59,12 @@ pub(crate) fn error_sum(matrix: &[i32; 36], e: &[i64; 6], i: usize) -> u64
     sum
 }
 
-// 1 where N isn't a multiple of 65,536, else 0.
-pub(crate) fn inexact(sum: i64) -> u64
-    ensures { λ f. ⌜ f ≡ fraction sum matrixUnit ⌝ }
-{
-    if arrays::magnitude(sum) % 65536 == 0 {
-        0
-    } else {
-        1
-    }
-}
-
 // The next e of a column, from its sum of errors and its N.
 pub(crate) fn next_error(errors: u64, sum: i64) -> i64
     requires { ⌜ errors ≤ 6 * (entryLimit * growthLimit) ⌝ }
     ensures { λ e. ⌜ e ≡ pos (ceilDivℕ errors matrixUnit + fraction sum matrixUnit) ⌝ }
 {
-    ((errors + 65535) / 65536 + inexact(sum)) as i64
+    ((errors + 65535) / 65536 + arrays::fraction(sum, 65536)) as i64
 }
 
 // r and e one step on, in place.

@@ -1,0 +1,259 @@
+// Filling the rows of a sweep, once the model and the direction's number have been tested.
+use crate::model::Model;
+use crate::sets::Shape;
+use crate::sets::reaches_of;
+use crate::sets::support_of;
+use crate::sweep::Filled;
+use crate::sweep::rounding::bound_of;
+use crate::sweep::rounding::slack_of;
+use stepping::Spare;
+use stepping::Stepped;
+
+ghost use mathlib.Core.Path.{_≡_};
+ghost use Prim.Native.Nat.{_≤_, _<_, _+_, _*_};
+ghost use lib.ListN.{length, getD};
+ghost use lib.IntN.{pos, natAbs, _+ℤ_};
+ghost use Rattle.integers.specs.Sums.{vector, magnitudes, matrix, tabulate, dotℕ};
+ghost use Rattle.stepping.specs.Recurrence.{spare};
+ghost use Rattle.stepping.specs.Refusals.{steppedNumber};
+ghost use Rattle.reachability.specs.Sets.{supportOf, points as pointsOf};
+ghost use Rattle.reachability.specs.Inner.{Counted, Tested};
+ghost use Rattle.reachability.specs.Filling.{Row, Errors, RawParts, sumOf, LineAsks, LineGives, Askable, Prepared, Fills};
+
+// 257 zeros. The contract gives the length alone.
+pub(crate) fn blank() -> [i64; 257]
+    ensures { λ r. ⌜ 257 ≡ length r ⌝ }
+{
+    [0i64; 257]
+}
+
+// Direction number k of the directions.
+fn row(entries: &[i32; 96], k: usize) -> [i32; 6]
+    requires { ⌜ k < 16 ⌝ }
+    ensures { λ r. ⌜ r ≡ tabulate 6 (matrix (now (entries .entry)) k) ⌝ }
+{
+    let mut d = [0i32; 6];
+    let mut i: usize = 0;
+    while i < 6 {
+        d[i] = entries[6 * k + i];
+        i += 1;
+    }
+    d
+}
+
+// sum + e × reach.
+fn error_add(sum: u64, e: i64, reach: i64) -> u64
+    requires { ⌜ Errors sum e reach ⌝ }
+    ensures { λ s. ⌜ s ≡ sum + natAbs e * natAbs reach ⌝ }
+{
+    sum + (e as u64) * (reach as u64)
+}
+
+// e · reach.
+fn errors_of(e: &[i64; 6], reaches: &[i64; 6]) -> u64
+    requires { ⌜ Row (now e) (now reaches) ⌝ }
+    ensures { λ s. ⌜ s ≡ dotℕ 6 (magnitudes (now (e .entry))) (magnitudes (now (reaches .entry))) ⌝ }
+{
+    let mut sum: u64 = 0;
+    let mut i: usize = 0;
+    while i < 6 {
+        sum = error_add(sum, e[i], reaches[i]);
+        i += 1;
+    }
+    sum
+}
+
+// What a set adds to a step: its support at r, and e · reach.
+struct Terms {
+    support: i64,
+    errors: u64,
+}
+
+fn terms_of(shape: Shape, count: usize, points: &[i32; 96], reaches: &[i64; 6], r: &[i64; 6], e: &[i64; 6]) -> Terms
+    requires { ⌜ Counted count × Tested (now points) (now r) × Row (now e) (now reaches) ⌝ }
+    ensures { λ t. ⌜ (t .support ≡ supportOf 6 shape count (pointsOf (now (points .entry))) (vector (now (r .entry)))) × (t .errors ≡ dotℕ 6 (magnitudes (now (e .entry))) (magnitudes (now (reaches .entry)))) ⌝ }
+{
+    let support = support_of(shape, count, points, r);
+    let errors = errors_of(e, reaches);
+    Terms { support, errors }
+}
+
+// support + errors + before.
+fn raw_of(support: i64, errors: u64, before: i64) -> i64
+    requires { ⌜ RawParts support errors before ⌝ }
+    ensures { λ s. ⌜ s ≡ (support +ℤ pos errors) +ℤ before ⌝ }
+{
+    support + (errors as i64) + before
+}
+
+// The growth sum of an answer of the stepping arithmetic; 0 for a refusal, which never comes here.
+fn sum_of(a: Stepped) -> u64
+    ensures { λ s. ⌜ s ≡ sumOf a ⌝ }
+{
+    match a {
+        Stepped::Sum(s) => s,
+        Stepped::Refused => 0,
+    }
+}
+
+// The spare figure of a largest sum from 1 to 1,073,741,824.
+pub(crate) fn spare_of(sum: u64) -> u32
+    requires { ⌜ (1 ≤ sum) × (sum ≤ 1073741824) ⌝ }
+    ensures { λ h. ⌜ h ≡ spare sum ⌝ }
+{
+    match stepping::spare_bits(sum) {
+        Spare::Bits(h) => h,
+        Spare::NoSpare => 0,
+    }
+}
+
+// What one step gives: its bound and slack, and what the inputs and errors of all steps so far come to.
+struct Line {
+    bound: i64,
+    slack: i64,
+    inputs: i64,
+    errors: u64,
+}
+
+// One step: r and e are its working direction, `inputs` and `errors` what the steps before it came to.
+fn line_of(
+    initial_shape: Shape,
+    initial_count: usize,
+    initial_points: &[i32; 96],
+    initial_reaches: &[i64; 6],
+    input_shape: Shape,
+    input_count: usize,
+    input_points: &[i32; 96],
+    input_reaches: &[i64; 6],
+    r: &[i64; 6],
+    e: &[i64; 6],
+    inputs: i64,
+    errors: u64,
+) -> Line
+    requires { ⌜ LineAsks «initial_shape» «initial_count» (now «initial_points») (now «initial_reaches») «input_shape» «input_count» (now «input_points») (now «input_reaches») (now r) (now e) inputs errors ⌝ }
+    ensures { λ l. ⌜ LineGives «initial_shape» «initial_count» (now («initial_points» .entry)) (now («initial_reaches» .entry)) «input_shape» «input_count» (now («input_points» .entry)) (now («input_reaches» .entry)) (now (r .entry)) (now (e .entry)) inputs errors (l .bound) (l .slack) (l .inputs) (l .errors) ⌝ }
+{
+    let here = terms_of(initial_shape, initial_count, initial_points, initial_reaches, r, e);
+    let raw = raw_of(here.support, here.errors, inputs);
+    let entering = terms_of(input_shape, input_count, input_points, input_reaches, r, e);
+    Line {
+        bound: bound_of(raw),
+        slack: slack_of(raw, 2 * (here.errors + errors)),
+        inputs: raw_of(entering.support, entering.errors, inputs),
+        errors: errors + entering.errors,
+    }
+}
+
+// Both rows for steps 0 to K, and the largest growth sum, or the first step with growth. The arrays are those of the model, r
+// and e the first working direction.
+fn fill_rows(
+    model: Model,
+    direction: usize,
+    n: usize,
+    matrix: &[i32; 36],
+    initial_shape: Shape,
+    initial_count: usize,
+    initial_points: &[i32; 96],
+    initial_reaches: &[i64; 6],
+    input_shape: Shape,
+    input_count: usize,
+    input_points: &[i32; 96],
+    input_reaches: &[i64; 6],
+    r: &mut [i64; 6],
+    e: &mut [i64; 6],
+    bounds: &mut [i64; 257],
+    slacks: &mut [i64; 257],
+) -> Filled
+    requires { ⌜ Askable model direction (now bounds) (now slacks) ⌝ }
+    requires { ⌜ Prepared model direction n (now matrix) «initial_shape» «initial_count» (now «initial_points») (now «initial_reaches») «input_shape» «input_count» (now «input_points») (now «input_reaches») (now r) (now e) ⌝ }
+    ensures { λ a. ⌜ Fills model direction a (now (bounds .exit)) (now (slacks .exit)) ⌝ }
+{
+    let mut sum = sum_of(stepping::growth(n, r, e));
+    let mut most: u64 = 0;
+    let mut inputs: i64 = 0;
+    let mut errors: u64 = 0;
+    let mut k: usize = 0;
+    while k <= model.steps {
+        if 1073741824 < sum {
+            return Filled::Grown(k);
+        }
+        let line = line_of(
+            initial_shape,
+            initial_count,
+            initial_points,
+            initial_reaches,
+            input_shape,
+            input_count,
+            input_points,
+            input_reaches,
+            r,
+            e,
+            inputs,
+            errors,
+        );
+        let bound = line.bound;
+        bounds[k] = bound;
+        let slack = line.slack;
+        slacks[k] = slack;
+        inputs = line.inputs;
+        errors = line.errors;
+        most = arrays::larger(most, sum);
+        sum = sum_of(stepping::step(n, matrix, r, e));
+        k += 1;
+    }
+    Filled::Largest(most)
+}
+
+// Bounds and slacks of the direction for steps 0 to K in the rows, and the largest growth sum, or the first step with growth.
+// Every loop below runs to six coordinates, the sets are not tested again, and the reaches are taken once.
+pub(crate) fn fill(model: Model, direction: usize, bounds: &mut [i64; 257], slacks: &mut [i64; 257]) -> Filled
+    requires { ⌜ Askable model direction (now bounds) (now slacks) ⌝ }
+    ensures { λ a. ⌜ Fills model direction a (now (bounds .exit)) (now (slacks .exit)) ⌝ }
+{
+    let matrix = model.matrix;
+    let initial = model.initial;
+    let initial_shape = initial.shape;
+    let initial_count = initial.count;
+    let initial_points = initial.points;
+    let input = model.input;
+    let input_shape = input.shape;
+    let input_count = input.count;
+    let input_points = input.points;
+    let entries = model.entries;
+    let initial_reaches = reaches_of(initial_shape, initial_count, &initial_points);
+    let input_reaches = reaches_of(input_shape, input_count, &input_points);
+    let d = row(&entries, direction);
+    let mut r = [0i64; 6];
+    let mut e = [0i64; 6];
+    stepping::first(&d, &mut r, &mut e);
+    fill_rows(
+        model,
+        direction,
+        model.n,
+        &matrix,
+        initial_shape,
+        initial_count,
+        &initial_points,
+        &initial_reaches,
+        input_shape,
+        input_count,
+        &input_points,
+        &input_reaches,
+        &mut r,
+        &mut e,
+        bounds,
+        slacks,
+    )
+}
+
+// The first elements of the row.
+pub(crate) fn copy(row: &[i64; 257], out: &mut [i64])
+    requires { ⌜ length (now out) ≤ 257 ⌝ }
+    ensures { λ _. ⌜ now (out .exit) ≡ tabulate (length (now (out .entry))) (vector (now (row .entry))) ⌝ }
+{
+    let mut k: usize = 0;
+    while k < out.len() {
+        out[k] = row[k];
+        k += 1;
+    }
+}
