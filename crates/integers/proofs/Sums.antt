@@ -239,6 +239,19 @@ allBelow-at (suc n) f t i h =
     let both = and-true (allBelow n f) (f n) t in
     elim (decLt i n) [ yes l ↦ allBelow-at n f (both .0) i l | no g ↦ subst (λ (k : ℕ). f k ≡ true) (omega (arith, g)) (both .1) ]
 
+-- a test that fails fails somewhere
+pub allBelow-some : (n : ℕ) (f : ℕ → Bool) → allBelow n f ≡ false → (i : ℕ) × (i < n) × (f i ≡ false)
+unfolding allBelow
+allBelow-some zero f e = let z : _≡_ {A = ℕ} 0 1 = cc in absurd (omega arith)
+allBelow-some (suc n) f e = cases (allBelow n f) refl (f n) refl (allBelow-some n f)
+  where
+    clash : true ≡ false → ⊥
+    clash p = let z : _≡_ {A = ℕ} 0 1 = cc in omega arith
+    cases : (a : Bool) → allBelow n f ≡ a → (b : Bool) → f n ≡ b → (allBelow n f ≡ false → (i : ℕ) × (i < n) × (f i ≡ false)) → (i : ℕ) × (i < suc n) × (f i ≡ false)
+    cases true p true q earlier = absurd (clash (sym (ap₂ _&&_ p q) ∙ e))
+    cases true p false q earlier = (n, here n, q)
+    cases false p b q earlier = let w = earlier p in (w .0, wider (w .1), w .2)
+
 pub allBelow-intro : (n : ℕ) (f : ℕ → Bool) → ((i : ℕ) → i < n → f i ≡ true) → allBelow n f ≡ true
 unfolding allBelow
 allBelow-intro zero f h = refl

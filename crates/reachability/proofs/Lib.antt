@@ -5,3 +5,4 @@ pub mod FirstPlace
 pub mod Walks
 pub mod AccuracyRule
 pub mod Turns
+pub mod SweepAnswers

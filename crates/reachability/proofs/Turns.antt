@@ -52,7 +52,7 @@ walk-next : (n : ℕ) (a : ℕ → ℕ → ℤ) (w : Working) (k : ℕ) → walk
 unfolding walk
 walk-next n a w k = ap (next n a) (walk-same n a w (suc k) k k)
 
-walk-start : (n : ℕ) (a : ℕ → ℕ → ℕ → ℤ) (w : Working) → walk n a 0 w 0 ≡ w
+pub walk-start : (n : ℕ) (a : ℕ → ℕ → ℕ → ℤ) (w : Working) → walk n a 0 w 0 ≡ w
 unfolding walk
 walk-start n a w = refl
 

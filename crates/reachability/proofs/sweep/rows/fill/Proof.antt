@@ -1,0 +1,86 @@
+-- `reachability::sweep::rows::fill` meets its contract: what it hands over is the model's own. Assumes nothing.
+use Rattle.integers.proofs.Basics.{_≡_, refl, ap, _∙_, Bool, ℕ, _≤_, needs, ℤ, pos, negsuc, _*ℤ_}
+use mathlib.Core.Bool.{_&&_}
+use mathlib.Core.List.{List}
+use borrow.Author.Tests.{leb-true}
+use lib.Dec.{leb}
+use Rattle.integers.specs.Sums.{vector, matrix, tabulate}
+use Rattle.integers.proofs.Machine.{getD-tabulate, tabulate-cong}
+use Rattle.arrays.specs.Tests.{zeroOutside, allBetween}
+use Rattle.arrays.proofs.Laws.{and-true}
+use Rattle.reachability.specs.Limits.{someNonzero}
+use Rattle.stepping.specs.Recurrence.{firstR}
+use Rattle.reachability.specs.declared.model.Model.{Model}
+use Rattle.reachability.proofs.AccuracyRule.{ModelFacts, model-facts}
+use Rattle.reachability.proofs.sweep.rows.fill.Statement.{statement}
+use Rattle.reachability.proofs.sweep.rows.fill.Tie as tie
+
+facts : (c : tie.Start) → ModelFacts (c .args .model)
+facts c = model-facts (c .args .model) (c .pre .accepts)
+
+reaches-of-requires : tie.Need-reaches-of-requires
+reaches-of-requires c κs =
+    let f = facts (c .before .before .before .before .before .before .before) in
+    (f .initial .counted, f .initial .reach-small)
+
+reaches-of-requires-2 : tie.Need-reaches-of-requires-2
+reaches-of-requires-2 c κs =
+    let f = facts (c .before .before .before .before .before .before .before .before .before) in
+    (f .input .counted, f .input .reach-small)
+
+-- the rest of the test of the directions
+abbrev directionsRest : Model → Bool
+directionsRest m = zeroOutside (m .directions) (m .n) (m .entries) && (allBetween (negsuc 999) (pos 1000) (m .entries) && someNonzero (m .directions) (m .entries))
+
+few : (m : Model) → ModelFacts m → m .directions ≤ 16
+few m f = leb-true (m .directions) 16 (and-true (leb 1 (m .directions)) (leb (m .directions) 16) (and-true (leb 1 (m .directions) && leb (m .directions) 16) (directionsRest m) (f .directions) .0) .1)
+
+row-requires : tie.Need-row-requires
+row-requires c κs =
+    let start = c .before .before .before .before .before .before .before .before .before .before .before in
+    native.Mathlib.Nat.lt-of-lt-of-le (start .pre .inside) (few (start .args .model) (facts start))
+
+first-requires : tie.Need-first-requires
+first-requires c κs = search needs
+
+-- the first working direction of the row is that of the direction
+first-own : (m : Model) (k : ℕ) (d r : List ℤ) → d ≡ tabulate 6 (matrix (m .entries) k) → r ≡ tabulate 6 (firstR (vector d)) → r ≡ tabulate 6 (firstR (matrix (m .entries) k))
+first-own m k d r p q =
+    q ∙ tabulate-cong 6 (λ i h. ap (λ (z : ℤ). pos 1048576 *ℤ z) (ap (λ (l : List ℤ). vector l i) p ∙ getD-tabulate 6 (matrix (m .entries) k) i (pos 0) h))
+
+fill-rows-requires : tie.Need-fill-rows-requires
+fill-rows-requires c κs =
+    let at-first = c .before .before .before .before .before .before .before .before .before in
+    let at-row = at-first .before .before .before .before in
+    let at-input = at-row .before .before in
+    let at-initial = at-input .before .before in
+    let start = at-initial .before .before .before .before .before .before .before .before in
+    (start .pre,
+    record {
+      n-is = refl;
+      matrix-is = refl;
+      shape-is = refl;
+      count-is = refl;
+      points-are = refl;
+      reaches-are = at-initial .reaches-of .ensures;
+      input-shape-is = refl;
+      input-count-is = refl;
+      input-points-are = refl;
+      input-reaches-are = at-input .reaches-of2 .ensures;
+      r-is = first-own (start .args .model) (start .args .direction) (at-row .row .result) _ (at-row .row .ensures) (at-first .first .ensures .direction);
+      e-is = at-first .first .ensures .errors;
+    })
+
+returns : tie.Need-returns
+returns c = search needs
+
+pub fill-spec : {M : Type 1} → statement M
+fill-spec =
+    tie.close
+    (tie.spec
+    reaches-of-requires
+    reaches-of-requires-2
+    row-requires
+    first-requires
+    fill-rows-requires
+    returns)
