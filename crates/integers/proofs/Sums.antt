@@ -247,6 +247,7 @@ allBelow-some (suc n) f e = cases (allBelow n f) refl (f n) refl (allBelow-some 
   where
     clash : true ≡ false → ⊥
     clash p = let z : _≡_ {A = ℕ} 0 1 = cc in omega arith
+
     cases : (a : Bool) → allBelow n f ≡ a → (b : Bool) → f n ≡ b → (allBelow n f ≡ false → (i : ℕ) × (i < n) × (f i ≡ false)) → (i : ℕ) × (i < suc n) × (f i ≡ false)
     cases true p true q earlier = absurd (clash (sym (ap₂ _&&_ p q) ∙ e))
     cases true p false q earlier = (n, here n, q)

@@ -244,17 +244,23 @@ module _ (m : Model) (facts : ModelFacts m) (d : ℕ) where
       where
         h : ℕ
         h = firstPlace (suc (m .steps)) (hitAt m d level)
+
         u : ℕ
         u = firstPlace (suc (m .steps)) (unknownAt m d level)
+
         inside : {k : ℕ} → leb k (m .steps) ≡ true → k ≤ m .steps
         inside {k} t = leb-true k (m .steps) t
+
         beyond : {j k : ℕ} → leb k (m .steps) ≡ false → j ≤ m .steps → j < k
         beyond {j} {k} f l = native.Mathlib.Nat.lt-of-le-of-lt l (leb-false k (m .steps) f)
+
         below : {k : ℕ} → k ≤ m .steps → k < suc (m .steps)
         below l = Prim.Native.Nat.suc-le-suc l
+
         unknown : leb h (m .steps) ≡ false → (b : Bool) → leb u (m .steps) ≡ b → VerdictHolds m d level (slacksOf m d) (cond b (Unknown u) Clear)
         unknown f true t = (inside t, unknown-holds u (inside t) (firstPlace-before (suc (m .steps)) (hitAt m d level) u (beyond f (inside t))) (firstPlace-passes (suc (m .steps)) (unknownAt m d level) (below (inside t))))
         unknown f false g = λ k l. clear-holds k l (firstPlace-before (suc (m .steps)) (unknownAt m d level) k (beyond g l))
+
         hit : (b : Bool) → leb h (m .steps) ≡ b → VerdictHolds m d level (slacksOf m d) (cond b (Hit h) (cond (leb u (m .steps)) (Unknown u) Clear))
         hit true t = (inside t, hit-holds h (firstPlace-passes (suc (m .steps)) (hitAt m d level) (below (inside t))))
         hit false f = unknown f (leb u (m .steps)) refl

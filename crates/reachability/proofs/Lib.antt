@@ -6,3 +6,5 @@ pub mod Walks
 pub mod AccuracyRule
 pub mod Turns
 pub mod SweepAnswers
+pub mod JudgeLaws
+pub mod JudgeAnswers

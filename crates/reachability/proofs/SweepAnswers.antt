@@ -117,23 +117,28 @@ module _ (m : Model) (facts : ModelFacts m) (d : ℕ) (inside : d < m .direction
     where
       i : ℕ
       i = some-entry .0
+
       positive : 1 ≤ natAbs (direction m d i)
       positive = above (natAbs (direction m d i)) (eqb-false (natAbs (direction m d i)) 0 (some-entry .2))
         where
           above : (x : ℕ) → (x ≡ 0 → ⊥) → 1 ≤ x
           above x f = omega (arith, f)
+
       below-n : i < m .n
       below-n = elim (native.Mathlib.Decide.decLt i (m .n)) [ yes l ↦ l | no f ↦ absurd (vanish (omega (arith, f))) ]
         where
           outside : zeroOutside (m .directions) (m .n) (m .entries) ≡ true
           outside = and-true (zeroOutside (m .directions) (m .n) (m .entries)) _ (and-true (leb 1 (m .directions) && leb (m .directions) 16) _ (facts .directions) .1) .0
+
           vanish : m .n ≤ i → ⊥
           vanish l = omega (arith, positive, ap natAbs (zeroOutside-column (m .directions) (m .n) (m .entries) outside d i (some-entry .1) l))
+
       walk-start : walk (m .n) (moves m) 0 (first (direction m d)) 0 ≡ first (direction m d)
       walk-start = start
         where
           start : walk (m .n) (moves m) 0 (first (direction m d)) 0 ≡ first (direction m d)
           start = Rattle.reachability.proofs.Turns.walk-start (m .n) (moves m) (first (direction m d))
+
       first-sum : 1 ≤ sumAt m d 0
       first-sum =
           subst (λ (w : Working). 1 ≤ growthSum (m .n) (w .r) (w .e)) (sym walk-start)
@@ -152,7 +157,9 @@ sweeps m facts d b₀ s₀ b s row-b row-s a f fills calm lb ls p q answer h =
   where
     zero-number : eqb (sweptNumber a) 0 ≡ true
     zero-number = ap (λ (x : Swept). eqb (sweptNumber x) 0) answer
+
     in-b : b ≡ boundsOf m d
     in-b = p ∙ ap (λ (k : ℕ). tabulate k (vector row-b)) (lb ∙ native.Mathlib.Numerals.add-one (m .steps)) ∙ tabulate-cong (suc (m .steps)) (λ k l. fills .bounds calm k (native.Mathlib.Nat.le-of-suc-le-suc l))
+
     in-s : s ≡ slacksOf m d
     in-s = q ∙ ap (λ (k : ℕ). tabulate k (vector row-s)) (ls ∙ native.Mathlib.Numerals.add-one (m .steps)) ∙ tabulate-cong (suc (m .steps)) (λ k l. fills .slacks calm k (native.Mathlib.Nat.le-of-suc-le-suc l))

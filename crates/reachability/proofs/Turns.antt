@@ -157,8 +157,10 @@ module _ (n : ℕ) (n≤6 : n ≤ 6) (w : Working) (r e : List ℤ) (stored : St
         where
           six : (n : ℕ) → n ≤ 6 → n + (6 - n) ≡ 6
           six n h = omega arith
+
           below : (i : ℕ) → i < n + (6 - n) → i < 6
           below i h = subst (λ (k : ℕ). i < k) (six n n≤6) h
+
           zero-times : (k : ℕ) → 0 * k ≡ 0
           zero-times k = omega arith
 
@@ -311,6 +313,7 @@ module _ (m : Model) (facts : ModelFacts m) (d : ℕ) (d-inside : d < m .directi
       where
         enough : {a : ℕ} → a ≤ k * (2 * termLimit) → k ≤ 256 → a ≤ 257 * (2 * termLimit)
         enough h l = omega arith
+
         enough-errors : {a : ℕ} → a ≤ k * termLimit → k ≤ 256 → a ≤ 257 * termLimit
         enough-errors h l = omega arith
 
@@ -375,8 +378,10 @@ module _ (m : Model) (facts : ModelFacts m) (d : ℕ) (d-inside : d < m .directi
         where
           below : {p : ℕ} → p < m .n → p < 6
           below h = lt-of-lt-of-le h n≤6
+
           column : (i : ℕ) → Rattle.integers.specs.Sums.transposed (m .n) (matrix (m .matrix)) (vector r) i ≡ Rattle.integers.specs.Sums.transposed (m .n) (matrix (m .matrix)) (at k .r) i
           column i = sum-cong (m .n) (λ p h. ap (λ (z : ℤ). matrix (m .matrix) p i *ℤ z) (r-at (m .n) n≤6 (at k) r e (so .stored) p (below h)))
+
           error-column : (i : ℕ) → errorSum (m .n) (matrix (m .matrix)) (magnitudes e) i ≡ errorSum (m .n) (matrix (m .matrix)) (at k .e) i
           error-column i = sumℕ-cong (m .n) (λ p h. ap (λ (j : ℕ). natAbs (matrix (m .matrix) p i) * j) (e-at (m .n) n≤6 (at k) r e (so .stored) p (below h)))
 
@@ -417,8 +422,10 @@ module _ (m : Model) (facts : ModelFacts m) (d : ℕ) (d-inside : d < m .directi
     where
       at-growth : growthStep m d ≡ k
       at-growth = firstPlace-is (suc (m .steps)) (growsAt m d) k (Prim.Native.Nat.suc-le-suc h) (lt-ltb growthLimit (sumAt m d k) (subst (λ (x : ℕ). growthLimit < x) (so .sum-is) g)) (so .calm)
+
       inside-growth : leb (growthStep m d) (m .steps) ≡ true
       inside-growth = le-leb _ _ (subst (λ (j : ℕ). j ≤ m .steps) (sym at-growth) h)
+
       never : leb (growthStep m d) (m .steps) ≡ false → ⊥
       never f = let z : _≡_ {A = ℕ} 0 1 = clash inside-growth f in omega arith
         where
@@ -435,8 +442,10 @@ module _ (m : Model) (facts : ModelFacts m) (d : ℕ) (d-inside : d < m .directi
     where
       done : k ≡ suc (m .steps)
       done = omega (arith, so .within, h)
+
       none : growthStep m d ≡ suc (m .steps)
       none = firstPlace-none (suc (m .steps)) (growsAt m d) (λ j l. so .calm j (subst (λ (x : ℕ). j < x) (sym done) l))
+
       beyond : leb (growthStep m d) (m .steps) ≡ false
       beyond = lt-leb _ _ (subst (λ (j : ℕ). m .steps < j) (sym none) (le-refl (suc (m .steps))))
 

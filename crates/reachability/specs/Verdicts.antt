@@ -2,7 +2,9 @@
 -- rules. Definitions only. Assumes nothing.
 use mathlib.Core.Bool.{Bool, cond}
 use Prim.Native.Nat.{ℕ, suc}
-use lib.Dec.{leb}
+use mathlib.Core.List.{List}
+use lib.Dec.{leb, ltb}
+use lib.ListN.{length}
 use lib.IntN.{ℤ, pos, _-ℤ_}
 use lib.Signed.{leZ}
 use Rattle.integers.specs.Sums.{vector}
@@ -29,3 +31,17 @@ verdict m d level =
     let h = firstPlace (suc (m .steps)) (hitAt m d level) in
     let u = firstPlace (suc (m .steps)) (unknownAt m d level) in
     cond (leb h (m .steps)) (Hit h) (cond (leb u (m .steps)) (Unknown u) Clear)
+
+-- ---- the same over the two lists that a sweep left
+
+abbrev pub listHit : ℤ → List ℤ → List ℤ → ℕ → Bool
+listHit level b s k = reaches level (vector b k -ℤ vector s k)
+
+abbrev pub listUnknown : ℤ → List ℤ → ℕ → Bool
+listUnknown level b k = reaches level (vector b k)
+
+abbrev pub listVerdict : ℤ → List ℤ → List ℤ → Judged
+listVerdict level b s =
+    let h = firstPlace (length b) (listHit level b s) in
+    let u = firstPlace (length b) (listUnknown level b) in
+    cond (ltb h (length b)) (Hit h) (cond (ltb u (length b)) (Unknown u) Clear)

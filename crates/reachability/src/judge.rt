@@ -1,7 +1,15 @@
 // The judge of a guard: whether its level can be reached.
+mod places;
+
+use crate::model::Model;
+use crate::model::accepts;
+use crate::sweep::Swept;
+use crate::sweep::sweep;
+ghost use Rattle.reachability.specs.Answers.{JudgeLeaves};
 
 // What `judge` answers: the verdict, with its step if any; 11, the model breaks a rule; 12, no such guard; 13, a lent list isn't
-// K + 1 long; 14, growth, with the first such step.
+// K + 1 long; 14, growth, with the first such step. HIT names the first step at which the level is certainly reached: a run may
+// reach it earlier.
 pub enum Judged {
     Hit(usize),
     Unknown(usize),
@@ -10,4 +18,28 @@ pub enum Judged {
     NoGuard,
     WrongLength,
     Growth(usize),
+}
+
+// The verdict on guard number `guard`, with the sweep of its direction in the lent lists. On a refusal both lists keep every
+// element.
+pub fn judge(model: Model, guard: usize, bounds: &mut [i64], slacks: &mut [i64]) -> Judged
+    ensures { λ a. ⌜ JudgeLeaves model guard (now (bounds .entry)) (now (slacks .entry)) a (now (bounds .exit)) (now (slacks .exit)) ⌝ }
+{
+    if !accepts(model) {
+        return Judged::Invalid;
+    }
+    if model.guards <= guard {
+        return Judged::NoGuard;
+    }
+    let watched = model.watched;
+    let levels = model.levels;
+    let direction = watched[guard];
+    let level = levels[guard];
+    match sweep(model, direction, bounds, slacks) {
+        Swept::Spare(_) => places::verdict_of(level, bounds, slacks),
+        Swept::Invalid => Judged::Invalid,
+        Swept::NoDirection => Judged::NoGuard,
+        Swept::WrongLength => Judged::WrongLength,
+        Swept::Growth(k) => Judged::Growth(k),
+    }
 }

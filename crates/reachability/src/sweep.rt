@@ -4,7 +4,6 @@ mod rows;
 
 use crate::model::Model;
 use crate::model::accepts;
-
 ghost use Rattle.reachability.specs.Answers.{SweepLeaves};
 
 // What `sweep` answers: the spare figure; 11, the model breaks a rule; 12, no such direction; 13, a lent list isn't K + 1 long;

@@ -8,7 +8,6 @@ use crate::sweep::rounding::bound_of;
 use crate::sweep::rounding::slack_of;
 use stepping::Spare;
 use stepping::Stepped;
-
 ghost use mathlib.Core.Path.{_≡_};
 ghost use Prim.Native.Nat.{_≤_, _<_, _+_, _*_};
 ghost use lib.ListN.{length, getD};
@@ -69,7 +68,14 @@ struct Terms {
     errors: u64,
 }
 
-fn terms_of(shape: Shape, count: usize, points: &[i32; 96], reaches: &[i64; 6], r: &[i64; 6], e: &[i64; 6]) -> Terms
+fn terms_of(
+    shape: Shape,
+    count: usize,
+    points: &[i32; 96],
+    reaches: &[i64; 6],
+    r: &[i64; 6],
+    e: &[i64; 6],
+) -> Terms
     requires { ⌜ Counted count × Tested (now points) (now r) × Row (now e) (now reaches) ⌝ }
     ensures { λ t. ⌜ (t .support ≡ supportOf 6 shape count (pointsOf (now (points .entry))) (vector (now (r .entry)))) × (t .errors ≡ dotℕ 6 (magnitudes (now (e .entry))) (magnitudes (now (reaches .entry)))) ⌝ }
 {
@@ -133,7 +139,14 @@ fn line_of(
     requires { ⌜ LineAsks «initial_shape» «initial_count» (now «initial_points») (now «initial_reaches») «input_shape» «input_count» (now «input_points») (now «input_reaches») (now r) (now e) inputs errors ⌝ }
     ensures { λ l. ⌜ LineGives «initial_shape» «initial_count» (now («initial_points» .entry)) (now («initial_reaches» .entry)) «input_shape» «input_count» (now («input_points» .entry)) (now («input_reaches» .entry)) (now (r .entry)) (now (e .entry)) inputs errors (l .bound) (l .slack) (l .inputs) (l .errors) ⌝ }
 {
-    let here = terms_of(initial_shape, initial_count, initial_points, initial_reaches, r, e);
+    let here = terms_of(
+        initial_shape,
+        initial_count,
+        initial_points,
+        initial_reaches,
+        r,
+        e,
+    );
     let raw = raw_of(here.support, here.errors, inputs);
     let entering = terms_of(input_shape, input_count, input_points, input_reaches, r, e);
     Line {
@@ -206,7 +219,12 @@ fn fill_rows(
 
 // Bounds and slacks of the direction for steps 0 to K in the rows, and the largest growth sum, or the first step with growth.
 // Every loop below runs to six coordinates, the sets are not tested again, and the reaches are taken once.
-pub(crate) fn fill(model: Model, direction: usize, bounds: &mut [i64; 257], slacks: &mut [i64; 257]) -> Filled
+pub(crate) fn fill(
+    model: Model,
+    direction: usize,
+    bounds: &mut [i64; 257],
+    slacks: &mut [i64; 257],
+) -> Filled
     requires { ⌜ Askable model direction (now bounds) (now slacks) ⌝ }
     ensures { λ a. ⌜ Fills model direction a (now (bounds .exit)) (now (slacks .exit)) ⌝ }
 {

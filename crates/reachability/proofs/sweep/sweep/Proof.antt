@@ -31,10 +31,13 @@ returns c =
 module _ (c : tie.Else1) where
   abbrev m : Model
   m = c .before .before .args .model
+
   abbrev d : ℕ
   d = c .before .before .args .direction
+
   abbrev b₀ : List ℤ
   b₀ = c .before .before .args .bounds .now
+
   abbrev s₀ : List ℤ
   s₀ = c .before .before .args .slacks .now
 

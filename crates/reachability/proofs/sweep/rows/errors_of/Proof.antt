@@ -44,8 +44,10 @@ element-copy-out-error-add-2 c = omega arith
 module _ (c : tie.After-error-add-arg2 Inv-loop μ-loop) where
   abbrev e : List ℤ
   e = c .before .before .before .before .args .e .now
+
   abbrev w : List ℤ
   w = c .before .before .before .before .args .reaches .now
+
   abbrev i : ℕ
   i = c .before .before .before .loop .i
 

@@ -54,22 +54,23 @@ fill-rows-requires c κs =
     let at-row = at-first .before .before .before .before in
     let at-input = at-row .before .before in
     let at-initial = at-input .before .before in
-    let start = at-initial .before .before .before .before .before .before .before .before in
-    (start .pre,
-    record {
-      n-is = refl;
-      matrix-is = refl;
-      shape-is = refl;
-      count-is = refl;
-      points-are = refl;
-      reaches-are = at-initial .reaches-of .ensures;
-      input-shape-is = refl;
-      input-count-is = refl;
-      input-points-are = refl;
-      input-reaches-are = at-input .reaches-of2 .ensures;
-      r-is = first-own (start .args .model) (start .args .direction) (at-row .row .result) _ (at-row .row .ensures) (at-first .first .ensures .direction);
-      e-is = at-first .first .ensures .errors;
-    })
+    let start = at-initial .before .before .before .before .before .before .before .before in (
+      start .pre,
+      record {
+        n-is = refl;
+        matrix-is = refl;
+        shape-is = refl;
+        count-is = refl;
+        points-are = refl;
+        reaches-are = at-initial .reaches-of .ensures;
+        input-shape-is = refl;
+        input-count-is = refl;
+        input-points-are = refl;
+        input-reaches-are = at-input .reaches-of2 .ensures;
+        r-is = first-own (start .args .model) (start .args .direction) (at-row .row .result) _ (at-row .row .ensures) (at-first .first .ensures .direction);
+        e-is = at-first .first .ensures .errors;
+      },
+    )
 
 returns : tie.Need-returns
 returns c = search needs

@@ -26,6 +26,7 @@ abbrev μ-loop : tie.MeasureT-loop
 module _ (c : tie.Start Inv-loop μ-loop) where
   abbrev m : Model
   m = c .args .model
+
   abbrev d : ℕ
   d = c .args .direction
 
