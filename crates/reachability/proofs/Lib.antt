@@ -8,3 +8,4 @@ pub mod Turns
 pub mod SweepAnswers
 pub mod JudgeLaws
 pub mod JudgeAnswers
+pub mod MarkedCases

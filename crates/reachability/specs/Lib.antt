@@ -7,3 +7,4 @@ pub mod Rule
 pub mod Answers
 pub mod Inner
 pub mod Filling
+pub mod Cases

@@ -1,0 +1,31 @@
+-- The twelve marked cases of document 01 (`specs.Cases`) hold, each by computation. Assumes nothing.
+use mathlib.Core.Path.{refl}
+use mathlib.Core.List.{[], _∷_}
+use lib.IntN.{pos}
+use Rattle.integers.specs.Sums.{sum, sumℕ, maxℕ, allBelow}
+use Rattle.stepping.specs.Recurrence.{greatest}
+use Rattle.reachability.specs.Sets.{largest}
+use Rattle.reachability.specs.Recurrence.{walk, firstPlace}
+use Rattle.reachability.specs.Cases.{reaches, Holds, none, _and_, AllHold, zonotope, cases}
+
+-- The reach in case 9.
+zonotope-reaches : Holds (reaches 2 zonotope (pos 5 ∷ pos 5 ∷ []))
+unfolding sum sumℕ maxℕ allBelow
+zonotope-reaches = record { number-is = refl; reaches-are = refl }
+
+pub marked : AllHold cases
+unfolding sum sumℕ maxℕ allBelow greatest largest walk firstPlace
+marked =
+    (refl and refl and refl and none)
+    and (refl and none)
+    and (refl and none)
+    and (refl and refl and refl and none)
+    and (refl and refl and refl and refl and refl and refl and refl and none)
+    and (refl and refl and refl and refl and none)
+    and (refl and refl and none)
+    and (refl and refl and none)
+    and (refl and zonotope-reaches and none)
+    and (refl and none)
+    and (refl and none)
+    and (refl and refl and none)
+    and none

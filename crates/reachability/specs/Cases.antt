@@ -1,0 +1,237 @@
+-- Document 01, "Figures to test against": the twelve marked cases as one list, and what it means that they hold. Definitions
+-- only. A case is the list of what the document says in it; a saying sets the document's figure beside what the contracts of
+-- `support`, `reach`, `sweep` and `judge` say is answered or left. Sweeps are of direction 0 and judges of guard 0, with both
+-- lent lists K + 1 long. Where the document names no K, it is the last step that has a figure.
+-- In order: stored values; sayings; the sets and models; the cases. Not here: the theorem (`proofs.MarkedCases`).
+-- Assumes nothing.
+use mathlib.Core.Path.{_≡_}
+use mathlib.Core.List.{List, [], _∷_, _++_}
+use Prim.Native.Nat.{ℕ, zero, suc}
+use lib.ListN.{length, replicate}
+use lib.IntN.{ℤ, pos, negℤ}
+use Rattle.integers.specs.Sums.{vector}
+use Rattle.reachability.specs.Sets.{supportAnswer, ReachAnswer}
+use Rattle.reachability.specs.Recurrence.{working}
+use Rattle.reachability.specs.Answers.{sweepAnswer, sweptNumber, judgeAnswer, boundsOf, slacksOf}
+use Rattle.reachability.specs.declared.sets.Shape.{Shape}
+use Rattle.reachability.specs.declared.sets.Shape.the-variants.{Box, Zonotope, Vertices}
+use Rattle.reachability.specs.declared.sets.Set.{Set}
+use Rattle.reachability.specs.declared.sets.Supported.the-variants.{Value}
+use Rattle.reachability.specs.declared.model.Model.{Model}
+use Rattle.reachability.specs.declared.sweep.Swept.{Swept}
+use Rattle.reachability.specs.declared.sweep.Swept.the-variants.{Spare, Growth}
+use Rattle.reachability.specs.declared.judge.Judged.{Judged}
+use Rattle.reachability.specs.declared.judge.Judged.the-variants.{Hit, Clear}
+
+-- ---- stored values
+
+-- The first k elements of xs, with zeros after its end.
+abbrev pub padded : ℕ → List ℤ → List ℤ
+padded zero xs = []
+padded (suc k) [] = pos 0 ∷ padded k []
+padded (suc k) (x ∷ xs) = x ∷ padded k xs
+
+-- Rows of six, one after the other.
+abbrev pub rows : List (List ℤ) → List ℤ
+rows [] = []
+rows (x ∷ xs) = padded 6 x ++ rows xs
+
+-- A set of these points.
+abbrev pub setOf : Shape → List (List ℤ) → Set
+setOf shape ps = record { shape = shape; count = length ps; points = padded 96 (rows ps) }
+
+-- Of one coordinate: the box [low, high].
+abbrev pub interval : ℤ → ℤ → Set
+interval low high = setOf Box ((low ∷ []) ∷ (high ∷ []) ∷ [])
+
+-- A model with one direction, and guards with these levels on it.
+abbrev pub modelOf : ℕ → ℕ → List (List ℤ) → Set → Set → List ℤ → List ℤ → Model
+modelOf n steps matrix initial input direction levels =
+    record {
+      n = n;
+      steps = steps;
+      matrix = padded 36 (rows matrix);
+      initial = initial;
+      input = input;
+      directions = 1;
+      entries = padded 96 direction;
+      guards = length levels;
+      watched = replicate 16 0;
+      levels = padded 16 levels;
+    }
+
+-- "One coordinate unless said".
+abbrev pub single : ℕ → ℤ → Set → Set → ℤ → List ℤ → Model
+single steps entry initial input direction levels = modelOf 1 steps ((entry ∷ []) ∷ []) initial input (direction ∷ []) levels
+
+-- ---- sayings
+
+-- What a sweep and a judge answer.
+abbrev pub swept : Model → Swept
+swept m = sweepAnswer m 0 (suc (m .steps)) (suc (m .steps))
+
+abbrev pub judged : Model → Judged
+judged m = judgeAnswer m 0 (suc (m .steps)) (suc (m .steps))
+
+pub data Saying : Type 0 where
+  -- A sweep's number, 0 where it refuses nothing, and its answer.
+  numbered : Model → ℕ → Saying
+  sweeps : Model → Swept → Saying
+  -- The bounds and the slacks that a sweep leaves where it refuses nothing: all of them, or one bound at its step.
+  bounds : Model → List ℤ → Saying
+  slacks : Model → List ℤ → Saying
+  boundAt : Model → ℕ → ℤ → Saying
+  -- r(k) and e(k), of one coordinate.
+  rAt : Model → ℕ → ℤ → Saying
+  eAt : Model → ℕ → ℕ → Saying
+  -- A judge's answer.
+  judges : Model → Judged → Saying
+  -- Of n coordinates: a set's support at r, and its reach.
+  supports : ℕ → Set → List ℤ → ℤ → Saying
+  reaches : ℕ → Set → List ℤ → Saying
+
+abbrev pub Holds : Saying → Type 0
+Holds (numbered m number) = sweptNumber (swept m) ≡ number
+Holds (sweeps m a) = swept m ≡ a
+Holds (bounds m bs) = boundsOf m 0 ≡ bs
+Holds (slacks m ss) = slacksOf m 0 ≡ ss
+Holds (boundAt m k b) = vector (boundsOf m 0) k ≡ b
+Holds (rAt m k r) = working m 0 k k .r 0 ≡ r
+Holds (eAt m k e) = working m 0 k k .e 0 ≡ e
+Holds (judges m a) = judged m ≡ a
+Holds (supports n s r v) = supportAnswer n s (padded 6 r) ≡ Value v
+Holds (reaches n s xs) = ReachAnswer n s 0 (padded 6 xs)
+
+abbrev pub Case : Type 0
+Case = List Saying
+
+-- P holds of each element.
+infixr 5 _and_
+pub data All {A : Type 0} (P : A → Type 0) : List A → Type 0 where
+  none : All P []
+  _and_ : {x : A} {xs : List A} → P x → All P xs → All P (x ∷ xs)
+
+-- Each saying of each case holds.
+abbrev pub AllHold : List Case → Type 0
+AllHold = All (All Holds)
+
+-- ---- the sets and models
+
+-- "[0,0]", and of more coordinates "zero".
+abbrev pub zeroBox : Set
+zeroBox = setOf Box ([] ∷ [] ∷ [])
+
+-- "M 65,536, initial [2,5], input [-1,1], direction 3", K = 2, with guards at these levels.
+abbrev pub kept : List ℤ → Model
+kept = single 2 (pos 65536) (interval (pos 2) (pos 5)) (interval (negℤ (pos 1)) (pos 1)) (pos 3)
+
+-- "M 32,768, initial [0,100], input [0,0], direction 1", K = 3.
+abbrev pub halved : Model
+halved = single 3 (pos 32768) (interval (pos 0) (pos 100)) zeroBox (pos 1) []
+
+-- "M 1, initial [0,100], input [0,0]" and the direction, K = 2.
+abbrev pub faded : ℤ → Model
+faded direction = single 2 (pos 1) (interval (pos 0) (pos 100)) zeroBox direction []
+
+-- "M 131,072, both sets [0,0], direction 1" and K.
+abbrev pub doubled : ℕ → Model
+doubled steps = single steps (pos 131072) zeroBox zeroBox (pos 1) []
+
+-- "Zonotope, centre (1,-2), generators (3,1), (-1,2)".
+abbrev pub zonotope : Set
+zonotope = setOf Zonotope ((pos 1 ∷ negℤ (pos 2) ∷ []) ∷ (pos 3 ∷ pos 1 ∷ []) ∷ (negℤ (pos 1) ∷ pos 2 ∷ []) ∷ [])
+
+-- "Vertices (0,0), (4,0), (0,3)".
+abbrev pub vertices : Set
+vertices = setOf Vertices ((pos 0 ∷ pos 0 ∷ []) ∷ (pos 4 ∷ pos 0 ∷ []) ∷ (pos 0 ∷ pos 3 ∷ []) ∷ [])
+
+-- "Box [-2,1], [3,4]": its lower and its upper corner.
+abbrev pub box : Set
+box = setOf Box ((negℤ (pos 2) ∷ pos 3 ∷ []) ∷ (pos 1 ∷ pos 4 ∷ []) ∷ [])
+
+-- "Rows (0, 65,536) and (0, 0), initial [0,1], [7,9], input zero, direction (1,0)", K = 1.
+abbrev pub moved : Model
+moved =
+    modelOf
+    2
+    1
+    ((pos 0 ∷ pos 65536 ∷ []) ∷ (pos 0 ∷ pos 0 ∷ []) ∷ [])
+    (setOf Box ((pos 0 ∷ pos 7 ∷ []) ∷ (pos 1 ∷ pos 9 ∷ []) ∷ []))
+    zeroBox
+    (pos 1 ∷ pos 0 ∷ [])
+    []
+
+-- ---- the cases
+
+-- 1: "bounds 15, 18, 21 at steps 0 to 2, slack 0."
+abbrev pub case1 : Case
+case1 =
+    numbered (kept []) 0
+    ∷ bounds (kept []) (pos 15 ∷ pos 18 ∷ pos 21 ∷ [])
+    ∷ slacks (kept []) (pos 0 ∷ pos 0 ∷ pos 0 ∷ [])
+    ∷ []
+
+-- 2: "The same with K = 2: level 21 HIT at 2."
+abbrev pub case2 : Case
+case2 = judges (kept (pos 21 ∷ [])) (Hit 2) ∷ []
+
+-- 3: "The same: level 22 CLEAR."
+abbrev pub case3 : Case
+case3 = judges (kept (pos 22 ∷ [])) Clear ∷ []
+
+-- 4: "bounds 100, 50, 25, 13; slacks 0, 0, 0, 1."
+abbrev pub case4 : Case
+case4 =
+    numbered halved 0
+    ∷ bounds halved (pos 100 ∷ pos 50 ∷ pos 25 ∷ pos 13 ∷ [])
+    ∷ slacks halved (pos 0 ∷ pos 0 ∷ pos 0 ∷ pos 1 ∷ [])
+    ∷ []
+
+-- 5: direction 1: "r is 1,048,576, 16, 0; e(2) = 1; bounds 100, 1, 1; slacks 0, 1, 2."
+abbrev pub case5 : Case
+case5 =
+    numbered (faded (pos 1)) 0
+    ∷ rAt (faded (pos 1)) 0 (pos 1048576)
+    ∷ rAt (faded (pos 1)) 1 (pos 16)
+    ∷ rAt (faded (pos 1)) 2 (pos 0)
+    ∷ eAt (faded (pos 1)) 2 1
+    ∷ bounds (faded (pos 1)) (pos 100 ∷ pos 1 ∷ pos 1 ∷ [])
+    ∷ slacks (faded (pos 1)) (pos 0 ∷ pos 1 ∷ pos 2 ∷ [])
+    ∷ []
+
+-- 6: "The same, direction -1: r(2) = -1, e(2) = 1; bounds 0, 0, 1."
+abbrev pub case6 : Case
+case6 =
+    numbered (faded (negℤ (pos 1))) 0
+    ∷ rAt (faded (negℤ (pos 1))) 2 (negℤ (pos 1))
+    ∷ eAt (faded (negℤ (pos 1))) 2 1
+    ∷ bounds (faded (negℤ (pos 1))) (pos 0 ∷ pos 0 ∷ pos 1 ∷ [])
+    ∷ []
+
+-- 7: "K = 10: accepted, spare 0."
+abbrev pub case7 : Case
+case7 = numbered (doubled 10) 0 ∷ sweeps (doubled 10) (Spare 0) ∷ []
+
+-- 8: "The same, K = 11: number 14 at step 11."
+abbrev pub case8 : Case
+case8 = numbered (doubled 11) 14 ∷ sweeps (doubled 11) (Growth 11) ∷ []
+
+-- 9: "r (1,1): support 4; reach (5,5)."
+abbrev pub case9 : Case
+case9 = supports 2 zonotope (pos 1 ∷ pos 1 ∷ []) (pos 4) ∷ reaches 2 zonotope (pos 5 ∷ pos 5 ∷ []) ∷ []
+
+-- 10: "r (1,2): support 6."
+abbrev pub case10 : Case
+case10 = supports 2 vertices (pos 1 ∷ pos 2 ∷ []) (pos 6) ∷ []
+
+-- 11: "r (-1,1): support 6."
+abbrev pub case11 : Case
+case11 = supports 2 box (negℤ (pos 1) ∷ pos 1 ∷ []) (pos 6) ∷ []
+
+-- 12: "bound 9 at step 1."
+abbrev pub case12 : Case
+case12 = numbered moved 0 ∷ boundAt moved 1 (pos 9) ∷ []
+
+-- "Marked (*) cases, twelve in all, are proved together as entries of a single statement that runs over them".
+abbrev pub cases : List Case
+cases = case1 ∷ case2 ∷ case3 ∷ case4 ∷ case5 ∷ case6 ∷ case7 ∷ case8 ∷ case9 ∷ case10 ∷ case11 ∷ case12 ∷ []

@@ -1,0 +1,14 @@
+pub mod OrderTable
+pub mod Rows
+pub mod Taking
+pub mod Turning
+pub mod Turns
+pub mod Standing
+pub mod Blocks
+pub mod OrderFacts
+pub mod PartsSoFar
+pub mod Good
+pub mod Sizes
+pub mod ReadModels
+pub mod Answers
+pub mod Sample

@@ -1,0 +1,73 @@
+-- What the order of records tells of the place where a kind may stand: one test of every pair of `order`, which antt computes.
+-- Assumes nothing.
+use mathlib.Core.Path.{_≡_, refl, sym, ap, _∙_, ap₂}
+use mathlib.Core.Bool.{Bool, true, false, cond, _&&_, _||_}
+use mathlib.Core.List.{List, _∷_, []}
+use Prim.Native.Nat.{ℕ, _+_, _≤_}
+use native.Mathlib.Omega.{arith}
+use borrow.Author.Tests.{eqb-true, ne-eqb, le-leb, lt-leb}
+use lib.Dec.{eqb, leb, ltb}
+use Rattle.arrays.proofs.Laws.{and-true, or-true}
+use Rattle.reader.specs.declared.parts.Part.{Part}
+use Rattle.reader.specs.declared.parts.Part.the-variants.{Head, Row, Initial, Input, Direction, Guard, End}
+use Rattle.reader.specs.Order.{order, listed, mayFollow, partOf}
+
+-- ---- what every pair passes holds where a kind may stand
+
+abbrev pub every : (ℕ → ℕ → Bool) → List (ℕ × ℕ) → Bool
+every p [] = true
+every p (e ∷ es) = p (e .0) (e .1) && every p es
+
+or-cases : (a b : Bool) → a || b ≡ true → (C : Type 0) → (a ≡ true → C) → (b ≡ true → C) → C
+or-cases true b e C f g = f refl
+or-cases false b e C f g = g e
+
+listed-at : (p : ℕ → ℕ → Bool) (place kind : ℕ) (es : List (ℕ × ℕ)) → every p es ≡ true → listed place kind es ≡ true → p place kind ≡ true
+listed-at p place kind [] t l = let z : _≡_ {A = ℕ} 0 1 = cc in absurd (omega arith)
+listed-at p place kind (e ∷ es) t l =
+    let both = and-true (p (e .0) (e .1)) (every p es) t in
+    or-cases (eqb (e .0) place && eqb (e .1) kind) (listed place kind es) l (p place kind ≡ true) (λ here. found (and-true (eqb (e .0) place) (eqb (e .1) kind) here) (both .0)) (λ rest. listed-at p place kind es (both .1) rest)
+  where
+    found : (eqb (e .0) place ≡ true) × (eqb (e .1) kind ≡ true) → p (e .0) (e .1) ≡ true → p place kind ≡ true
+    found q h = sym (ap (λ (a : ℕ). p a kind) (eqb-true (e .0) place (q .0))) ∙ sym (ap (λ (b : ℕ). p (e .0) b) (eqb-true (e .1) kind (q .1))) ∙ h
+
+pub order-at : (p : ℕ → ℕ → Bool) → every p order ≡ true → (place kind : ℕ) → mayFollow place kind ≡ true → p place kind ≡ true
+unfolding mayFollow
+order-at p t place kind m = listed-at p place kind order t m
+
+-- ---- the facts, part by part
+
+-- The set whose kinds begin at `base` is whole: behind its upper corner, a generator or a vertex, and behind it.
+abbrev pub isDone : ℕ → ℕ → Bool
+isDone base place = eqb place (base + 1) || leb (base + 3) place
+
+pub isDone-late : (base place : ℕ) → base + 3 ≤ place → isDone base place ≡ true
+isDone-late base place h = ap (λ (b : Bool). eqb place (base + 1) || b) (le-leb (base + 3) place h) ∙ or-true (eqb place (base + 1))
+
+pub isDone-early : (base place : ℕ) → place ≤ base → isDone base place ≡ true → ⊥
+isDone-early base place h t = never (eqb place (base + 1)) (leb (base + 3) place) (ne-eqb place (base + 1) (λ e. omega arith)) (lt-leb (base + 3) place (omega arith)) t
+  where
+    never : (a b : Bool) → a ≡ false → b ≡ false → a || b ≡ true → ⊥
+    never a b e f t = let z : _≡_ {A = ℕ} 0 1 = cc (ap₂ _||_ e f) in omega arith
+
+-- Where a point may stand: a lower corner and a centre only where no point was before, an upper corner behind the lower one, a
+-- generator behind the centre or a generator.
+abbrev pub pointMay : ℕ → ℕ → ℕ → Bool
+pointMay base place kind =
+    (leb base kind && leb kind (base + 4))
+    && cond (eqb kind base) (ltb place base)
+    (cond (eqb kind (base + 1)) (eqb place base)
+    (cond (eqb kind (base + 3)) (leb (base + 2) place && leb place (base + 3)) true))
+
+unfoldable pub fact : Part → ℕ → ℕ → Bool
+fact Head place kind = eqb place 0x00
+fact Row place kind = eqb place 0x01
+fact Initial place kind = pointMay 0x10 place kind && (leb 0x02 place && ltb place 0x20)
+fact Input place kind = pointMay 0x20 place kind && (isDone 0x10 place && leb 0x02 place)
+fact Direction place kind = eqb kind 0x30 && (isDone 0x20 place && leb 0x20 place)
+fact Guard place kind = eqb kind 0x40 && leb 0x30 place
+fact End place kind = eqb kind 0xFF && leb 0x30 place
+
+pub order-fact : (place kind : ℕ) → mayFollow place kind ≡ true → fact (partOf kind) place kind ≡ true
+unfolding fact partOf
+order-fact place kind m = order-at (λ a b. fact (partOf b) a b) refl place kind m

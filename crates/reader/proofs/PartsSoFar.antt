@@ -1,0 +1,268 @@
+-- What each part of a state that the reader reaches satisfies, and that one record more of the part keeps it. In order: the six
+-- numbers of a body; n, the steps and the matrix; a set; directions; guards. The place is the one in the order of records. Not
+-- here: the whole state (`Good`). Assumes nothing.
+use mathlib.Core.Path.{_≡_, refl, sym, ap, ap₂, subst, _∙_}
+use mathlib.Core.Bool.{Bool, true, false, not, cond, _&&_, _||_}
+use mathlib.Core.List.{List}
+use Prim.Native.Nat.{ℕ, _+_, _*_, _%_, _≤_, _<_}
+use native.Mathlib.Decide.{decLt}
+use native.Mathlib.Omega.{arith}
+use borrow.Author.Tests.{le-ltb, le-leb, lt-leb, eq-eqb, ne-eqb, leb-true, ltb-true, eqb-true, ltb-false}
+use lib.Dec.{leb, ltb, eqb}
+use lib.ListN.{length, set, List·getD-eq-default}
+use lib.IntN.{ℤ, pos}
+use Rattle.integers.specs.Sums.{vector, tabulate}
+use Rattle.integers.proofs.Machine.{getD-tabulate}
+use Rattle.arrays.proofs.Laws.{and-true}
+use Rattle.stepping.specs.Refusals.{dimensionOk}
+use Rattle.records.specs.Numbers.{signedAt}
+use Rattle.reachability.specs.declared.sets.Shape.{Shape}
+use Rattle.reachability.specs.declared.sets.Shape.the-variants.{Box, Zonotope, Vertices}
+use Rattle.reachability.specs.declared.sets.Set.{Set}
+use Rattle.reachability.specs.Sets.{points, countOk, orderedOk, reachOk, setOk, reachWithin}
+use Rattle.reachability.specs.Limits.{stepsOk, setAccepted, allZero}
+use Rattle.reader.specs.Order.{shapeOf, isUpper, mostOf}
+use Rattle.reader.specs.Models.{entryAt, sixAt, putRow, rowPlace, withPoint}
+use Rattle.reader.specs.Values.{within, pointOk, directionOk, unless}
+use Rattle.reader.proofs.Rows.{length-putRow}
+use Rattle.reader.proofs.Taking.{lt-of-mostOf}
+use Rattle.reader.proofs.Blocks.{Zeros, zeros-putRow, zeroOutside-of, Small, small-putRow, Nonzero, nonzero-putRow, Guarded}
+use Rattle.reader.proofs.OrderFacts.{isDone, pointMay, isDone-early}
+
+-- ---- the six numbers of a body are zero beyond n
+
+pub sixAt-beyond : (n : ℕ) (body : List ℕ) (at i : ℕ) → n ≤ i → vector (sixAt n body at) i ≡ pos 0
+unfolding sixAt
+sixAt-beyond n body at i h = elim (decLt i 6) [ yes l ↦ getD-tabulate 6 (entryAt n body at) i (pos 0) l ∙ ap (λ (b : Bool). cond b (signedAt 4 body (at + 4 * i)) (pos 0)) (le-ltb i n h) | no g ↦ List·getD-eq-default (tabulate 6 (entryAt n body at)) (pos 0) {n = i} (omega (arith, g)) ]
+
+pub passed : (ok : Bool) (number : ℕ) → 0 < number → unless ok number ≡ 0 → ok ≡ true
+passed true number h e = refl
+passed false number h e = absurd (omega arith)
+
+-- ---- n, the steps and the matrix
+
+pub record FrameAt (place rows n steps : ℕ) (matrix : List ℤ) : Type 0 where
+  pub dimension : 0 < place → dimensionOk n ≡ true
+  pub steps-ok : 0 < place → stepsOk steps ≡ true
+  pub few : place ≡ 1 → rows < n
+  pub all : 1 < place → rows ≡ n
+  pub matrix-length : length matrix ≡ 36
+  pub matrix-zeros : Zeros rows n matrix
+  pub matrix-small : Small 131072 matrix
+
+pub n-most : (n : ℕ) → dimensionOk n ≡ true → n ≤ 6
+n-most n t = leb-true n 6 (and-true (leb 1 n) (leb n 6) t .1)
+
+pub n-least : (n : ℕ) → dimensionOk n ≡ true → 1 ≤ n
+n-least n t = leb-true 1 n (and-true (leb 1 n) (leb n 6) t .0)
+
+module _ {place rows n steps : ℕ} {matrix : List ℤ} (f : FrameAt place rows n steps matrix) where
+  -- at a later place
+  pub frame-on : (kind : ℕ) → 1 < place → 1 < kind → FrameAt kind rows n steps matrix
+  frame-on kind h k =
+      record {
+        dimension = λ l. f .dimension (omega arith);
+        steps-ok = λ l. f .steps-ok (omega arith);
+        few = λ e. absurd (omega arith);
+        all = λ l. f .all h;
+        matrix-length = f .matrix-length;
+        matrix-zeros = f .matrix-zeros;
+        matrix-small = f .matrix-small;
+      }
+
+  -- one row more
+  pub frame-row : (body : List ℕ) → place ≡ 1 → within 131072 (sixAt n body 1) ≡ true → FrameAt (rowPlace (rows + 1) n) (rows + 1) n steps (putRow matrix rows (sixAt n body 1))
+  frame-row body e small =
+      let room : 6 * rows + 6 ≤ length matrix = omega (arith, f .few e, n-most n (f .dimension (omega arith)), f .matrix-length) in
+      record {
+        dimension = λ l. f .dimension (omega arith);
+        steps-ok = λ l. f .steps-ok (omega arith);
+        few = λ p. left (ltb (rows + 1) n) refl p;
+        all = λ p. full (ltb (rows + 1) n) refl p;
+        matrix-length = length-putRow rows (sixAt n body 1) matrix ∙ f .matrix-length;
+        matrix-zeros = zeros-putRow n matrix rows (sixAt n body 1) room (λ i h. sixAt-beyond n body 1 i h) (f .matrix-zeros);
+        matrix-small = small-putRow 131072 matrix rows (sixAt n body 1) room small (f .matrix-small);
+      }
+    where
+      left : (b : Bool) → ltb (rows + 1) n ≡ b → _≡_ {A = ℕ} (cond b 0x01 0x02) 1 → rows + 1 < n
+      left true t p = ltb-true (rows + 1) n t
+      left false t p = absurd (omega arith)
+
+      full : (b : Bool) → ltb (rows + 1) n ≡ b → 1 < cond b 0x01 0x02 → rows + 1 ≡ n
+      full true t p = absurd (omega arith)
+      full false t p = omega (arith, ltb-false (rows + 1) n t, f .few e)
+
+-- ---- a set whose kinds begin at `base`
+
+pub record Held (n : ℕ) (set : Set) : Type 0 where
+  pub length-is : length (set .points) ≡ 96
+  pub outside : Zeros (set .count) n (set .points)
+  pub most : set .count ≤ 16
+
+pub record SetAt (base place n : ℕ) (set : Set) : Type 0 where
+  pub held : Held n set
+  pub none : place < base → set .count ≡ 0
+  pub one : place ≡ base → set .count ≡ 1
+  pub some : base + 2 ≤ place → place ≤ base + 3 → 1 ≤ set .count
+  pub done : isDone base place ≡ true → setAccepted n set ≡ true
+
+module _ {base place n : ℕ} {set : Set} (s : SetAt base place n set) where
+  -- before its own points
+  pub set-early : (kind : ℕ) → place < base → kind < base → SetAt base kind n set
+  set-early kind h k =
+      record {
+        held = s .held;
+        none = λ l. s .none h;
+        one = λ e. absurd (omega arith);
+        some = λ l m. absurd (omega arith);
+        done = λ t. absurd (isDone-early base kind (omega arith) t);
+      }
+
+  -- behind its own points
+  pub set-late : (kind : ℕ) → base + 4 < kind → isDone base place ≡ true → SetAt base kind n set
+  set-late kind k t =
+      record {
+        held = s .held;
+        none = λ l. absurd (omega arith);
+        one = λ e. absurd (omega arith);
+        some = λ l m. absurd (omega arith);
+        done = λ u. s .done t;
+      }
+
+-- one point more
+module _ (base place n : ℕ) (set : Set) (kind : ℕ) (body : List ℕ) (s : SetAt base place n set) (even : base % 16 ≡ 0) (may : pointMay base place kind ≡ true) (few : set .count < mostOf kind) (ok : pointOk n kind (withPoint n set kind body) ≡ true) where
+  abbrev count : ℕ
+  count = set .count + 1
+
+  abbrev block : List ℤ
+  block = putRow (set .points) (set .count) (sixAt n body 0)
+
+  count-few : set .count < 16
+  count-few = lt-of-mostOf kind few
+
+  room : 6 * set .count + 6 ≤ length (set .points)
+  room = omega (arith, count-few, s .held .length-is)
+
+  block-zeros : Zeros count n block
+  block-zeros = zeros-putRow n (set .points) (set .count) (sixAt n body 0) room (λ i h. sixAt-beyond n body 0 i h) (s .held .outside)
+
+  pub point-low : base ≤ kind
+  point-low = leb-true base kind (and-true (leb base kind) (leb kind (base + 4)) (and-true (leb base kind && leb kind (base + 4)) _ may .0) .0)
+
+  pub point-high : kind ≤ base + 4
+  point-high = leb-true kind (base + 4) (and-true (leb base kind) (leb kind (base + 4)) (and-true (leb base kind && leb kind (base + 4)) _ may .0) .1)
+
+  which : cond (eqb kind base) (ltb place base) (cond (eqb kind (base + 1)) (eqb place base) (cond (eqb kind (base + 3)) (leb (base + 2) place && leb place (base + 3)) true)) ≡ true
+  which = and-true (leb base kind && leb kind (base + 4)) _ may .1
+
+  first-place : kind ≡ base → place < base
+  first-place e = ltb-true place base (simp (eq-eqb kind base e) at which)
+
+  upper-place : kind ≡ base + 1 → place ≡ base
+  upper-place e = eqb-true place base (simp (ne-eqb kind base (λ f. omega arith), eq-eqb kind (base + 1) e) at which)
+
+  generator-place : kind ≡ base + 3 → (base + 2 ≤ place) × (place ≤ base + 3)
+  generator-place e =
+      let both = and-true (leb (base + 2) place) (leb place (base + 3)) (simp (ne-eqb kind base (λ f. omega arith), ne-eqb kind (base + 1) (λ f. omega arith), eq-eqb kind (base + 3) e) at which) in
+      (leb-true (base + 2) place (both .0), leb-true place (base + 3) (both .1))
+
+  -- what the test of number 6 says
+  reach-ok : reachOk (shapeOf kind) count (points block) ≡ true
+  unfolding pointOk withPoint
+  reach-ok = and-true (leb 1 count && leb count 16) _ (and-true (reachWithin (shapeOf kind) count block) _ ok .0) .1
+
+  ordered : isUpper kind ≡ true → orderedOk n Box (points block) ≡ true
+  unfolding pointOk withPoint
+  ordered u = and-true (leb n 6) _ (tested (isUpper kind) _ u (and-true (reachWithin (shapeOf kind) count block) _ ok .1)) .1
+    where
+      tested : (u b : Bool) → u ≡ true → not u || b ≡ true → b ≡ true
+      tested u b t e = sym (ap (λ (x : Bool). not x || b) t) ∙ e
+
+  whole : (shape : Shape) → shapeOf kind ≡ shape → countOk shape count ≡ true → orderedOk n shape (points block) ≡ true → setOk n (shapeOf kind) count block ≡ true
+  whole shape e c o =
+      ap₂ _&&_ (ap (λ (x : Shape). countOk x count) e ∙ c)
+      (ap₂ _&&_ (zeroOutside-of count n block block-zeros) (ap₂ _&&_ reach-ok (ap (λ (x : Shape). orderedOk n x (points block)) e ∙ o)))
+
+  upper-done : kind ≡ base + 1 → setOk n (shapeOf kind) count block ≡ true
+  upper-done e =
+      let w : kind % 16 ≡ 1 = omega arith in
+      whole Box (ap (λ (b : Bool). cond b Box (cond (leb (kind % 16) 3) Zonotope Vertices)) (le-leb (kind % 16) 1 (omega arith)))
+      (eq-eqb count 2 (omega (arith, s .one (upper-place e))))
+      (ordered (eq-eqb (kind % 16) 1 w))
+
+  generator-done : kind ≡ base + 3 → setOk n (shapeOf kind) count block ≡ true
+  generator-done e =
+      let w : kind % 16 ≡ 3 = omega arith in
+      let p = generator-place e in
+      let nine : set .count < 9 = subst (λ (b : Bool). set .count < cond b 9 16) (eq-eqb (kind % 16) 3 w) few in
+      whole Zonotope (simp (lt-leb (kind % 16) 1 (omega arith), le-leb (kind % 16) 3 (omega arith)))
+      (ap₂ _&&_ (le-leb 2 count (omega (arith, s .some (p .0) (p .1)))) (le-leb count 9 (omega arith)))
+      refl
+
+  vertex-done : kind ≡ base + 4 → setOk n (shapeOf kind) count block ≡ true
+  vertex-done e =
+      let w : kind % 16 ≡ 4 = omega arith in
+      whole Vertices (simp (lt-leb (kind % 16) 1 (omega arith), lt-leb (kind % 16) 3 (omega arith)))
+      (ap₂ _&&_ (le-leb 1 count (omega arith)) (le-leb count 16 (omega (arith, count-few))))
+      refl
+
+  point-done : isDone base kind ≡ true → setOk n (shapeOf kind) count block ≡ true
+  point-done t = elim (decLt base kind) [ yes a ↦ elim (decLt (base + 1) kind) [ yes b ↦ elim (decLt (base + 3) kind) [ yes d ↦ vertex-done (omega (arith, point-high, d)) | no g ↦ third (omega (arith, g)) b ] | no g ↦ upper-done (omega (arith, a, g)) ] | no g ↦ absurd (isDone-early base kind (omega (arith, g)) t) ]
+    where
+      third : kind ≤ base + 3 → base + 1 < kind → setOk n (shapeOf kind) count block ≡ true
+      third h b = generator-done (omega (arith, leb-true (base + 3) kind (second (eqb kind (base + 1)) (leb (base + 3) kind) (ne-eqb kind (base + 1) (λ e. omega arith)) t)))
+        where
+          second : (a b : Bool) → a ≡ false → a || b ≡ true → b ≡ true
+          second a b f t = sym (ap (λ (x : Bool). x || b) f) ∙ t
+
+  pub set-point : SetAt base kind n (withPoint n set kind body)
+  unfolding withPoint
+  set-point =
+      record {
+        held = record { length-is = length-putRow (set .count) (sixAt n body 0) (set .points) ∙ s .held .length-is; outside = block-zeros; most = omega (arith, count-few) };
+        none = λ l. absurd (omega (arith, point-low));
+        one = λ e. omega (arith, s .none (first-place e));
+        some = λ l m. omega arith;
+        done = λ t. point-done t;
+      }
+
+-- ---- directions and guards
+
+pub record DirectionsAt (place n count : ℕ) (entries : List ℤ) : Type 0 where
+  pub entries-length : length entries ≡ 96
+  pub entries-zeros : Zeros count n entries
+  pub entries-small : Small 1000 entries
+  pub nonzero : Nonzero count entries
+  pub few : count ≤ 16
+  pub some : 0x30 ≤ place → 1 ≤ count
+
+module _ {place n count : ℕ} {entries : List ℤ} (d : DirectionsAt place n count entries) where
+  pub directions-early : (kind : ℕ) → kind < 0x30 → DirectionsAt kind n count entries
+  directions-early kind k = record { entries-length = d .entries-length; entries-zeros = d .entries-zeros; entries-small = d .entries-small; nonzero = d .nonzero; few = d .few; some = λ l. absurd (omega arith) }
+
+  pub directions-late : (kind : ℕ) → 0x30 ≤ place → DirectionsAt kind n count entries
+  directions-late kind k = record { entries-length = d .entries-length; entries-zeros = d .entries-zeros; entries-small = d .entries-small; nonzero = d .nonzero; few = d .few; some = λ l. d .some k }
+
+  -- one direction more
+  pub directions-more : (kind : ℕ) (body : List ℕ) → count < 16 → directionOk n body ≡ true → DirectionsAt kind n (count + 1) (putRow entries count (sixAt n body 0))
+  unfolding directionOk
+  directions-more kind body h ok =
+      let both = and-true (within 1000 (sixAt n body 0)) _ ok in
+      let room : 6 * count + 6 ≤ length entries = omega (arith, d .entries-length) in
+      record {
+        entries-length = length-putRow count (sixAt n body 0) entries ∙ d .entries-length;
+        entries-zeros = zeros-putRow n entries count (sixAt n body 0) room (λ i l. sixAt-beyond n body 0 i l) (d .entries-zeros);
+        entries-small = small-putRow 1000 entries count (sixAt n body 0) room (both .0) (d .entries-small);
+        nonzero = nonzero-putRow entries count (sixAt n body 0) room (turned (allZero (sixAt n body 0) 0) (both .1)) (d .nonzero);
+        few = omega arith;
+        some = λ l. omega arith;
+      }
+    where
+      turned : (b : Bool) → not b ≡ true → b ≡ false
+      turned true e = sym e
+      turned false e = refl
+
+pub record GuardsAt (directions guards : ℕ) (watched : List ℕ) (levels : List ℤ) : Type 0 where
+  pub watched-length : length watched ≡ 16
+  pub few : guards ≤ 16
+  pub guarded : Guarded directions guards watched levels

@@ -1,0 +1,73 @@
+-- What a value test makes of a record that is taken: refused with the test's number, or passed. Then what a kind that passes 3
+-- and 9 is known to satisfy. Assumes nothing.
+use mathlib.Core.Path.{_≡_, refl, sym, ap, ap₂, _∙_}
+use mathlib.Core.Bool.{Bool, true, false, cond}
+use Prim.Native.Nat.{ℕ, _%_, _≤_, _<_}
+use native.Mathlib.Omega.{arith}
+use borrow.Author.Tests.{leb-false}
+use lib.Dec.{eqb, leb}
+use Rattle.reader.specs.declared.parts.Part.{Part}
+use Rattle.reader.specs.declared.state.State.{State}
+use Rattle.reader.specs.Order.{mayFollow, partOf, mostOf}
+use Rattle.reader.specs.Values.{unless}
+use Rattle.reader.specs.Refusals.{countOf, oneTooMany, kindNumber}
+use Rattle.reader.specs.Inner.{Takes}
+
+pub takes-refused : {ok : Bool} (number : ℕ) {next s : State} → ok ≡ false → 0 < number → Takes (unless ok number) next (record { number = number; state = s })
+takes-refused {ok} number e h =
+    let is : unless ok number ≡ number = ap (λ (b : Bool). unless b number) e in
+    record { number-is = sym is; state-is = λ z. absurd (omega (arith, sym is ∙ z)) }
+
+pub takes-passed : {ok : Bool} (number : ℕ) {next s : State} → ok ≡ true → s ≡ next → Takes (unless ok number) next (record { number = 0; state = s })
+takes-passed {ok} number e is = record { number-is = sym (ap (λ (b : Bool). unless b number) e); state-is = λ z. is }
+
+-- ---- 3 and 9
+
+-- the tests of a program, as numbers, are the tests of the definition
+pub oneTooMany-is : (s : State) (kind : ℕ) {m n : ℕ} {p : Part} → m ≡ mostOf kind → p ≡ partOf kind → n ≡ countOf p s → leb m n ≡ oneTooMany s kind
+oneTooMany-is s kind e p f = ap₂ leb e (f ∙ ap (λ (q : Part). countOf q s) p)
+
+mostOf-le : (kind : ℕ) → mostOf kind ≤ 16
+mostOf-le kind = split (eqb (kind % 16) 3)
+  where
+    split : (b : Bool) → cond b 9 16 ≤ 16
+    split true = omega arith
+    split false = omega arith
+
+pub lt-of-mostOf : (kind : ℕ) {n : ℕ} → n < mostOf kind → n < 16
+lt-of-mostOf kind {n} h = within n (mostOf kind) (mostOf-le kind) h
+  where
+    within : (n m : ℕ) → m ≤ 16 → n < m → n < 16
+    within n m h k = omega arith
+
+pub count-lt : (s : State) (kind : ℕ) {p : Part} → oneTooMany s kind ≡ false → partOf kind ≡ p → countOf p s < 16
+count-lt s kind {p} few e = within (countOf p s) (mostOf kind) (mostOf-le kind) (ap (λ (q : Part). leb (mostOf kind) (countOf q s)) (sym e) ∙ few)
+  where
+    within : (n m : ℕ) → m ≤ 16 → leb m n ≡ false → n < 16
+    within n m h f = omega (arith, leb-false m n f)
+
+abbrev pick : Bool → Bool → ℕ
+pick a b = cond a (cond b 9 0) 3
+
+module _ (s : State) (kind : ℕ) where
+  pub kindNumber-order : mayFollow (s .last) kind ≡ false → kindNumber s kind ≡ 3
+  unfolding kindNumber
+  kindNumber-order e = simp e
+
+  pub kindNumber-many : mayFollow (s .last) kind ≡ true → oneTooMany s kind ≡ true → kindNumber s kind ≡ 9
+  unfolding kindNumber
+  kindNumber-many e m = ap (λ (b : Bool). pick b (oneTooMany s kind)) e ∙ ap (λ (b : Bool). pick true b) m
+
+  pub kindNumber-none : mayFollow (s .last) kind ≡ true → oneTooMany s kind ≡ false → kindNumber s kind ≡ 0
+  unfolding kindNumber
+  kindNumber-none e m = ap (λ (b : Bool). pick b (oneTooMany s kind)) e ∙ ap (λ (b : Bool). pick true b) m
+
+  -- back
+  pub kindNumber-zero : kindNumber s kind ≡ 0 → (mayFollow (s .last) kind ≡ true) × (oneTooMany s kind ≡ false)
+  unfolding kindNumber
+  kindNumber-zero z = by (mayFollow (s .last) kind) (oneTooMany s kind) z
+    where
+      by : (a b : Bool) → _≡_ {A = ℕ} (cond a (cond b 9 0) 3) 0 → (a ≡ true) × (b ≡ false)
+      by true true e = absurd (omega arith)
+      by true false e = (refl, refl)
+      by false b e = absurd (omega arith)

@@ -1,0 +1,61 @@
+-- `reader::order::may_follow` meets its contract. The loop's invariant: a search of the pairs that are left gives the answer. At
+-- the start the table is the list of `order`, which antt computes. The measure is the number of pairs left. Assumes nothing.
+use Rattle.integers.proofs.Basics.{_-_, refl, sym, _∙_, arith, needs}
+use Rattle.reader.specs.Order.{mayFollow}
+use Rattle.reader.proofs.OrderTable.{found, Sought, sought-found, sought-next, sought-none}
+use Rattle.reader.proofs.order.may_follow.Statement.{statement}
+use Rattle.reader.proofs.order.may_follow.Tie as tie
+
+abbrev Inv-loop : tie.InvT-loop
+Inv-loop place kind table i₀ i = Sought place kind table i
+
+abbrev μ-loop : tie.MeasureT-loop
+μ-loop place kind table i₀ i = 30 - i
+
+loop-holds : tie.Need-loop-holds Inv-loop μ-loop
+unfolding found mayFollow
+loop-holds c = record { within = omega arith; rest = refl }
+
+mul-pair : tie.Need-mul-pair Inv-loop μ-loop
+mul-pair c = omega arith
+
+array-copy-out-pair : tie.Need-array-copy-out-pair Inv-loop μ-loop
+array-copy-out-pair c = omega arith
+
+is-pair-requires : tie.Need-is-pair-requires Inv-loop μ-loop
+is-pair-requires c κs = search needs
+
+returns : tie.Need-returns Inv-loop μ-loop
+returns c =
+    let at-loop = c .before .before .before .before in
+    sought-found (at-loop .loop .inv) _ (c .before .before .before .loop-test .taken) (sym (c .before .is-pair .ensures) ∙ c .if1 .taken)
+
+add-i : tie.Need-add-i Inv-loop μ-loop
+add-i c = omega arith
+
+loop-less : tie.Need-loop-less Inv-loop μ-loop
+loop-less c = omega arith
+
+loop-again : tie.Need-loop-again Inv-loop μ-loop
+loop-again c =
+    let at-loop = c .before .before .before .before in
+    sought-next (at-loop .loop .inv) _ (c .before .before .before .loop-test .taken) (sym (c .before .is-pair .ensures) ∙ c .if1 .left)
+
+returns-2 : tie.Need-returns-2 Inv-loop μ-loop
+returns-2 c = sought-none (c .before .loop .inv) (c .loop-test .left)
+
+pub may-follow-spec : {M : Type 1} → statement M
+may-follow-spec =
+    tie.close
+    (tie.spec
+    Inv-loop
+    μ-loop
+    loop-holds
+    mul-pair
+    array-copy-out-pair
+    is-pair-requires
+    returns
+    add-i
+    loop-less
+    loop-again
+    returns-2)

@@ -1,0 +1,35 @@
+-- `reader::store::with_point` meets its contract. Assumes nothing.
+use Rattle.integers.proofs.Basics.{ap, ap₂, _∙_, ℕ, _+_, needs, set, ℤ}
+use mathlib.Core.List.{List}
+use Rattle.reachability.specs.declared.sets.Set.{Set}
+use Rattle.reachability.specs.declared.sets.Shape.{Shape}
+use Rattle.reader.specs.Models.{putRow, withPoint}
+use Rattle.reader.proofs.store.with_point.Statement.{statement}
+use Rattle.reader.proofs.store.with_point.Tie as tie
+
+point : Shape → ℕ → List ℤ → Set
+point shape count points = record { shape = shape; count = count; points = points }
+
+six-at-requires : tie.Need-six-at-requires
+six-at-requires c κs = search needs
+
+with-row-of-six-requires : tie.Need-with-row-of-six-requires
+with-row-of-six-requires c κs = search needs
+
+shape-of-requires : tie.Need-shape-of-requires
+shape-of-requires c κs = search needs
+
+add-t12 : tie.Need-add-t12
+add-t12 c = search needs
+
+returns : tie.Need-returns
+unfolding withPoint point
+returns c =
+    let at-six = c .before .before .before in
+    let s = at-six .before .before .before .args .set in
+    ap₂ (λ (sh : Shape) (ps : List ℤ). point sh (s .count + 1) ps) (c .shape-of .ensures)
+    (c .before .with-row-of-six .ensures ∙ ap (λ (six : List ℤ). putRow (s .points) (s .count) six) (at-six .six-at .ensures))
+
+pub with-point-spec : {M : Type 1} → statement M
+with-point-spec =
+    tie.close (tie.spec six-at-requires with-row-of-six-requires shape-of-requires add-t12 returns)

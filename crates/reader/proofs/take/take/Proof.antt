@@ -1,0 +1,107 @@
+-- `reader::take::take` meets its contract, part by part. Assumes nothing.
+use Rattle.integers.proofs.Basics.{_≡_, refl, sym, subst, _∙_, ℕ, needs}
+use mathlib.Core.List.{List}
+use Rattle.reader.specs.declared.parts.Part.{Part}
+use Rattle.reader.specs.declared.parts.Part.the-variants.{Head, Row, Initial, Input, Direction, Guard, End}
+use Rattle.reader.specs.declared.state.State.{State}
+use Rattle.reader.specs.declared.take.Taken.{Taken}
+use Rattle.reader.specs.Order.{partOf}
+use Rattle.reader.specs.Values.{valueNumber}
+use Rattle.reader.specs.Refusals.{storedIn, stored}
+use Rattle.reader.specs.Inner.{Takes}
+use Rattle.reader.proofs.Taking.{count-lt}
+use Rattle.reader.proofs.take.take.Statement.{statement}
+use Rattle.reader.proofs.take.take.Tie as tie
+
+by-part : (s : State) (kind : ℕ) (body : List ℕ) {r : Taken} (p : Part) → Takes (valueNumber p s kind body) (storedIn p s kind body) r → partOf kind ≡ p → Takes (valueNumber (partOf kind) s kind body) (stored s kind body) r
+unfolding stored
+by-part s kind body {r} p t e = subst (λ (q : Part). Takes (valueNumber q s kind body) (storedIn q s kind body) r) (sym e) t
+
+part-of-requires : tie.Need-part-of-requires
+part-of-requires c κs = search needs
+
+enum-told : tie.Need-enum-told
+enum-told c = search needs
+
+take-head-requires : tie.Need-take-head-requires
+take-head-requires c κs = search needs
+
+enum-told-2 : tie.Need-enum-told-2
+enum-told-2 c = search needs
+
+take-row-requires : tie.Need-take-row-requires
+take-row-requires c κs = search needs
+
+enum-told-3 : tie.Need-enum-told-3
+enum-told-3 c = search needs
+
+take-initial-requires : tie.Need-take-initial-requires
+take-initial-requires c κs = count-lt (c .before .before .before .before .args .state) (c .before .before .before .before .args .kind) (c .before .before .before .before .pre) (sym (c .before .before .part-of .ensures) ∙ c .enum-told3 .given .1)
+
+enum-told-4 : tie.Need-enum-told-4
+enum-told-4 c = search needs
+
+take-input-requires : tie.Need-take-input-requires
+take-input-requires c κs = count-lt (c .before .before .before .before .args .state) (c .before .before .before .before .args .kind) (c .before .before .before .before .pre) (sym (c .before .before .part-of .ensures) ∙ c .enum-told4 .given .1)
+
+enum-told-5 : tie.Need-enum-told-5
+enum-told-5 c = search needs
+
+take-direction-requires : tie.Need-take-direction-requires
+take-direction-requires c κs = count-lt (c .before .before .before .before .args .state) (c .before .before .before .before .args .kind) (c .before .before .before .before .pre) (sym (c .before .before .part-of .ensures) ∙ c .enum-told5 .given .1)
+
+enum-told-6 : tie.Need-enum-told-6
+enum-told-6 c = search needs
+
+take-guard-requires : tie.Need-take-guard-requires
+take-guard-requires c κs = count-lt (c .before .before .before .before .args .state) (c .before .before .before .before .args .kind) (c .before .before .before .before .pre) (sym (c .before .before .part-of .ensures) ∙ c .enum-told6 .given .1)
+
+enum-told-7 : tie.Need-enum-told-7
+enum-told-7 c = search needs
+
+returns : tie.Need-returns
+returns c = by-part (c .before .before .before .before .before .args .state) (c .before .before .before .before .before .args .kind) (c .before .before .before .before .before .args .body .now) Head (c .take-head .ensures) (sym (c .before .before .before .part-of .ensures) ∙ c .before .enum-told .given .1)
+
+returns-2 : tie.Need-returns-2
+returns-2 c = by-part (c .before .before .before .before .before .args .state) (c .before .before .before .before .before .args .kind) (c .before .before .before .before .before .args .body .now) Row (c .take-row .ensures) (sym (c .before .before .before .part-of .ensures) ∙ c .before .enum-told2 .given .1)
+
+returns-3 : tie.Need-returns-3
+returns-3 c = by-part (c .before .before .before .before .before .args .state) (c .before .before .before .before .before .args .kind) (c .before .before .before .before .before .args .body .now) Initial (c .take-initial .ensures) (sym (c .before .before .before .part-of .ensures) ∙ c .before .enum-told3 .given .1)
+
+returns-4 : tie.Need-returns-4
+returns-4 c = by-part (c .before .before .before .before .before .args .state) (c .before .before .before .before .before .args .kind) (c .before .before .before .before .before .args .body .now) Input (c .take-input .ensures) (sym (c .before .before .before .part-of .ensures) ∙ c .before .enum-told4 .given .1)
+
+returns-5 : tie.Need-returns-5
+returns-5 c = by-part (c .before .before .before .before .before .args .state) (c .before .before .before .before .before .args .kind) (c .before .before .before .before .before .args .body .now) Direction (c .take-direction .ensures) (sym (c .before .before .before .part-of .ensures) ∙ c .before .enum-told5 .given .1)
+
+returns-6 : tie.Need-returns-6
+returns-6 c = by-part (c .before .before .before .before .before .args .state) (c .before .before .before .before .before .args .kind) (c .before .before .before .before .before .args .body .now) Guard (c .take-guard .ensures) (sym (c .before .before .before .part-of .ensures) ∙ c .before .enum-told6 .given .1)
+
+returns-7 : tie.Need-returns-7
+returns-7 c = by-part (c .before .before .before .before .args .state) (c .before .before .before .before .args .kind) (c .before .before .before .before .args .body .now) End (record { number-is = refl; state-is = λ z. refl }) (sym (c .before .before .part-of .ensures) ∙ c .enum-told7 .given .1)
+
+pub take-spec : {M : Type 1} → statement M
+take-spec =
+    tie.close
+    (tie.spec
+    part-of-requires
+    enum-told
+    take-head-requires
+    enum-told-2
+    take-row-requires
+    enum-told-3
+    take-initial-requires
+    enum-told-4
+    take-input-requires
+    enum-told-5
+    take-direction-requires
+    enum-told-6
+    take-guard-requires
+    enum-told-7
+    returns
+    returns-2
+    returns-3
+    returns-4
+    returns-5
+    returns-6
+    returns-7)

@@ -1,0 +1,83 @@
+-- `reader::take::take_direction` meets its contract: the entries first, then that not all are zero. Assumes nothing.
+use Rattle.integers.proofs.Basics.{_+_, ℤ, _≡_, refl, sym, ap, _∙_, ℕ, arith, needs}
+use borrow.Author.Tests.{not-true, not-false}
+use mathlib.Core.Bool.{not}
+use mathlib.Core.List.{List}
+use Rattle.integers.specs.Sums.{allBelow}
+use Rattle.arrays.specs.Tests.{zeroOutside}
+use Rattle.arrays.proofs.Laws.{and-skip, and-stop}
+use Rattle.reachability.specs.Limits.{allZero}
+use Rattle.reader.specs.Models.{stateOf, setDirections, sixAt, putRow, withDirection}
+use Rattle.reader.specs.Values.{within, directionOk}
+use Rattle.reader.proofs.Taking.{takes-refused, takes-passed}
+use Rattle.reader.proofs.take.take_direction.Statement.{statement}
+use Rattle.reader.proofs.take.take_direction.Tie as tie
+
+-- six numbers are zero outside no row and no column where all are
+zeros-is : (n : ℕ) (body : List ℕ) → zeroOutside 0 0 (sixAt n body 0) ≡ allZero (sixAt n body 0) 0
+unfolding allBelow sixAt
+zeros-is n body = refl
+
+six-at-requires : tie.Need-six-at-requires
+six-at-requires c κs = search needs
+
+slice-aggregate-all-between : tie.Need-slice-aggregate-all-between
+slice-aggregate-all-between c = search needs
+
+all-between-requires : tie.Need-all-between-requires
+all-between-requires c κs = search needs
+
+returns : tie.Need-returns
+unfolding directionOk
+returns c =
+    takes-refused 7
+    (and-stop _ (ap (within 1000) (sym (c .before .before .before .six-at .ensures)) ∙ sym (c .before .all-between .ensures) ∙ not-true _ (c .if1 .taken)))
+    (omega arith)
+
+slice-aggregate-zero-outside : tie.Need-slice-aggregate-zero-outside
+slice-aggregate-zero-outside c = search needs
+
+zero-outside-requires : tie.Need-zero-outside-requires
+zero-outside-requires c κs = search needs
+
+returns-2 : tie.Need-returns-2
+unfolding directionOk
+returns-2 c =
+    let at-if = c .before .before .before in
+    let small = ap (within 1000) (sym (at-if .before .before .before .six-at .ensures)) ∙ sym (at-if .before .all-between .ensures) ∙ not-false _ (at-if .if1 .left) in
+    takes-refused 7
+    (and-skip _ small ∙ ap not (sym (zeros-is _ _) ∙ ap (zeroOutside 0 0) (sym (at-if .before .before .before .six-at .ensures)) ∙ sym (c .before .zero-outside .ensures) ∙ c .if2 .taken))
+    (omega arith)
+
+with-row-of-six-requires : tie.Need-with-row-of-six-requires
+with-row-of-six-requires c κs = search needs
+
+add-model : tie.Need-add-model
+add-model c = search needs
+
+returns-3 : tie.Need-returns-3
+unfolding directionOk withDirection
+returns-3 c =
+    let a = c .before .before .before .before .before .before .before .before .before .before .before .before .args in
+    let m = a .state .model in
+    let six = c .before .before .before .before .before .before .before .before .before .six-at .ensures in
+    let small = ap (within 1000) (sym six) ∙ sym (c .before .before .before .before .before .before .before .all-between .ensures) ∙ not-false _ (c .before .before .before .before .before .before .if1 .left) in
+    let some = sym (zeros-is _ _) ∙ ap (zeroOutside 0 0) (sym six) ∙ sym (c .before .before .before .before .zero-outside .ensures) ∙ c .before .before .before .if2 .left in
+    takes-passed 7 (and-skip _ small ∙ ap not some)
+    (ap (λ (xs : List ℤ). stateOf (a .kind) (a .state .rows) (setDirections m (m .directions + 1) xs))
+    (c .with-row-of-six .ensures ∙ ap (λ (l : List ℤ). putRow (m .entries) (m .directions) l) six))
+
+pub take-direction-spec : {M : Type 1} → statement M
+take-direction-spec =
+    tie.close
+    (tie.spec
+    six-at-requires
+    slice-aggregate-all-between
+    all-between-requires
+    returns
+    slice-aggregate-zero-outside
+    zero-outside-requires
+    returns-2
+    with-row-of-six-requires
+    add-model
+    returns-3)

@@ -1,0 +1,58 @@
+-- `reader::take::take_guard` meets its contract. Assumes nothing.
+use Rattle.integers.proofs.Basics.{sym, ap, ap₂, _∙_, ℕ, _+_, arith, needs, set, ℤ, toZ-ofZ}
+use borrow.Author.Tests.{lt-ltb, le-ltb}
+use lib.Dec.{ltb}
+use Rattle.reader.specs.Models.{stateOf, setGuards, withGuard}
+use Rattle.reader.proofs.Taking.{takes-refused, takes-passed}
+use Rattle.reader.proofs.take.take_guard.Statement.{statement}
+use Rattle.reader.proofs.take.take_guard.Tie as tie
+
+first-byte-requires : tie.Need-first-byte-requires
+first-byte-requires c κs = search needs
+
+returns : tie.Need-returns
+returns c =
+    let s = c .before .before .before .before .before .args .state in
+    takes-refused 8 (ap (λ (d : ℕ). ltb d (s .model .directions)) (sym (c .before .before .first-byte .ensures)) ∙ le-ltb _ _ (c .if1 .taken)) (omega arith)
+
+mul-watched : tie.Need-mul-watched
+mul-watched c = search needs
+
+array-write-watched : tie.Need-array-write-watched
+array-write-watched c = search needs
+
+i64-at-requires : tie.Need-i64-at-requires
+i64-at-requires c κs = search needs
+
+mul-levels : tie.Need-mul-levels
+mul-levels c = search needs
+
+array-set-from-levels : tie.Need-array-set-from-levels
+array-set-from-levels c = search needs
+
+add-model : tie.Need-add-model
+add-model c = search needs
+
+returns-2 : tie.Need-returns-2
+unfolding withGuard
+returns-2 c =
+    let a = c .before .before .before .before .before .before .before .before .args in
+    let m = a .state .model in
+    let first = c .before .before .before .before .before .first-byte .ensures in
+    let level = toZ-ofZ (record { sfits = c .i64-at .ok }) ∙ c .i64-at .ensures in
+    takes-passed 8 (ap (λ (d : ℕ). ltb d (m .directions)) (sym first) ∙ lt-ltb _ _ (c .before .before .before .if1 .left))
+    (ap₂ (λ (d : ℕ) (l : ℤ). stateOf (a .kind) (a .state .rows) (setGuards m (m .guards + 1) (set (m .watched) (m .guards) d) (set (m .levels) (m .guards) l))) first level)
+
+pub take-guard-spec : {M : Type 1} → statement M
+take-guard-spec =
+    tie.close
+    (tie.spec
+    first-byte-requires
+    returns
+    mul-watched
+    array-write-watched
+    i64-at-requires
+    mul-levels
+    array-set-from-levels
+    add-model
+    returns-2)

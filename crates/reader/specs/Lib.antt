@@ -1,0 +1,6 @@
+pub mod Order
+pub mod Models
+pub mod Values
+pub mod Refusals
+pub mod Reading
+pub mod Inner

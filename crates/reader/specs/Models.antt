@@ -1,0 +1,209 @@
+-- How far a file has been read, and what each record adds to the model. Definitions only. A record that a block has no room for
+-- changes nothing in it; none such is ever let in. Assumes nothing.
+use mathlib.Core.Bool.{cond}
+use mathlib.Core.List.{List}
+use Prim.Native.Nat.{ℕ, _+_, _*_}
+use lib.Dec.{eqb, ltb}
+use lib.ListN.{getD, set, replicate}
+use lib.IntN.{ℤ, pos}
+use Rattle.integers.specs.Sums.{vector, tabulate}
+use Rattle.records.specs.Numbers.{littleEndian, signedAt}
+use Rattle.reachability.specs.declared.sets.Shape.the-variants.{Box}
+use Rattle.reachability.specs.declared.sets.Set.{Set}
+use Rattle.reachability.specs.declared.model.Model.{Model}
+use Rattle.reader.specs.declared.state.State.{State}
+use Rattle.reader.specs.Order.{shapeOf}
+
+-- ---- the blank model
+
+unfoldable pub zeros : ℕ → List ℤ
+zeros n = replicate n (pos 0)
+
+unfoldable pub blankSet : Set
+blankSet = record { shape = Box; count = 0; points = zeros 96 }
+
+-- The fixed model beside a refusal: zero everywhere, with no point, no direction and no guard.
+unfoldable pub blankModel : Model
+blankModel =
+    record {
+      n = 0;
+      steps = 0;
+      matrix = zeros 36;
+      initial = blankSet;
+      input = blankSet;
+      directions = 0;
+      entries = zeros 96;
+      guards = 0;
+      watched = replicate 16 0;
+      levels = zeros 16;
+    }
+
+-- Before the first record: the place 00 of `order`, no row, a blank model.
+unfoldable pub start : State
+start = record { last = 0x00; rows = 0; model = blankModel }
+
+-- ---- the numbers in a body
+
+-- "Numbers are little-endian": the byte that a body starts with.
+abbrev pub firstByte : List ℕ → ℕ
+firstByte body = getD body 0 0
+
+-- "six numbers (4 each)". "Entries beyond n are ignored and stored as zero."
+abbrev pub entryAt : ℕ → List ℕ → ℕ → ℕ → ℤ
+entryAt n body at i = cond (ltb i n) (signedAt 4 body (at + 4 * i)) (pos 0)
+
+unfoldable pub sixAt : ℕ → List ℕ → ℕ → List ℤ
+sixAt n body at = tabulate 6 (entryAt n body at)
+
+-- "Limits": "a head that says 0 means 60."
+abbrev pub defaultSteps : ℕ → ℕ
+defaultSteps k = cond (eqb k 0) 60 k
+
+-- ---- a model with one part changed
+
+abbrev pub setHead : Model → ℕ → ℕ → Model
+setHead m n steps =
+    record {
+      n = n;
+      steps = steps;
+      matrix = m .matrix;
+      initial = m .initial;
+      input = m .input;
+      directions = m .directions;
+      entries = m .entries;
+      guards = m .guards;
+      watched = m .watched;
+      levels = m .levels;
+    }
+
+abbrev pub setMatrix : Model → List ℤ → Model
+setMatrix m matrix =
+    record {
+      n = m .n;
+      steps = m .steps;
+      matrix = matrix;
+      initial = m .initial;
+      input = m .input;
+      directions = m .directions;
+      entries = m .entries;
+      guards = m .guards;
+      watched = m .watched;
+      levels = m .levels;
+    }
+
+abbrev pub setInitial : Model → Set → Model
+setInitial m initial =
+    record {
+      n = m .n;
+      steps = m .steps;
+      matrix = m .matrix;
+      initial = initial;
+      input = m .input;
+      directions = m .directions;
+      entries = m .entries;
+      guards = m .guards;
+      watched = m .watched;
+      levels = m .levels;
+    }
+
+abbrev pub setInput : Model → Set → Model
+setInput m input =
+    record {
+      n = m .n;
+      steps = m .steps;
+      matrix = m .matrix;
+      initial = m .initial;
+      input = input;
+      directions = m .directions;
+      entries = m .entries;
+      guards = m .guards;
+      watched = m .watched;
+      levels = m .levels;
+    }
+
+abbrev pub setDirections : Model → ℕ → List ℤ → Model
+setDirections m directions entries =
+    record {
+      n = m .n;
+      steps = m .steps;
+      matrix = m .matrix;
+      initial = m .initial;
+      input = m .input;
+      directions = directions;
+      entries = entries;
+      guards = m .guards;
+      watched = m .watched;
+      levels = m .levels;
+    }
+
+abbrev pub setGuards : Model → ℕ → List ℕ → List ℤ → Model
+setGuards m guards watched levels =
+    record {
+      n = m .n;
+      steps = m .steps;
+      matrix = m .matrix;
+      initial = m .initial;
+      input = m .input;
+      directions = m .directions;
+      entries = m .entries;
+      guards = guards;
+      watched = watched;
+      levels = levels;
+    }
+
+-- ---- what each record adds
+
+-- A place in the order, the rows read and the model so far.
+abbrev pub stateOf : ℕ → ℕ → Model → State
+stateOf last rows m = record { last = last; rows = rows; model = m }
+
+abbrev pub putAt : ℕ → List ℤ → ℕ → List ℤ → List ℤ
+putAt row six i xs = set xs (6 * row + i) (vector six i)
+
+-- Six numbers stored as one row of rows of six.
+unfoldable pub putRow : List ℤ → ℕ → List ℤ → List ℤ
+putRow xs row six = putAt row six 5 (putAt row six 4 (putAt row six 3 (putAt row six 2 (putAt row six 1 (putAt row six 0 xs)))))
+
+-- "01 | n (1 byte), steps (2)".
+unfoldable pub withHead : State → List ℕ → State
+withHead s body = stateOf 0x01 0 (setHead (s .model) (firstByte body) (defaultSteps (littleEndian 2 body 1)))
+
+-- The place stays 01 until all n rows are in, and is 02 then.
+abbrev pub rowPlace : ℕ → ℕ → ℕ
+rowPlace rows n = cond (ltb rows n) 0x01 0x02
+
+-- "02 | row number from 0 (1), six entries (4 each)".
+unfoldable pub withRow : State → List ℕ → State
+withRow s body =
+    stateOf (rowPlace (s .rows + 1) (s .model .n)) (s .rows + 1)
+    (setMatrix (s .model) (putRow (s .model .matrix) (s .rows) (sixAt (s .model .n) body 1)))
+
+-- "10, 11 | initial lower corner, upper corner", "12, 13 | initial centre, generator", "14 | initial vertex": one point more.
+unfoldable pub withPoint : ℕ → Set → ℕ → List ℕ → Set
+withPoint n set kind body =
+    record {
+      shape = shapeOf kind;
+      count = set .count + 1;
+      points = putRow (set .points) (set .count) (sixAt n body 0);
+    }
+
+unfoldable pub withInitial : State → ℕ → List ℕ → State
+withInitial s kind body = stateOf kind (s .rows) (setInitial (s .model) (withPoint (s .model .n) (s .model .initial) kind body))
+
+-- "20 to 24 | the same five for the input set".
+unfoldable pub withInput : State → ℕ → List ℕ → State
+withInput s kind body = stateOf kind (s .rows) (setInput (s .model) (withPoint (s .model .n) (s .model .input) kind body))
+
+-- "30 | direction, six entries".
+unfoldable pub withDirection : State → ℕ → List ℕ → State
+withDirection s kind body =
+    stateOf kind (s .rows)
+    (setDirections (s .model) (s .model .directions + 1) (putRow (s .model .entries) (s .model .directions) (sixAt (s .model .n) body 0)))
+
+-- "40 | direction number from 0 (1), level (8)".
+unfoldable pub withGuard : State → ℕ → List ℕ → State
+withGuard s kind body =
+    stateOf kind (s .rows)
+    (setGuards (s .model) (s .model .guards + 1)
+    (set (s .model .watched) (s .model .guards) (firstByte body))
+    (set (s .model .levels) (s .model .guards) (signedAt 8 body 1)))

@@ -1,0 +1,56 @@
+-- Document 01, "Refusals by place": the number of a record, and what a record that is not refused adds. Definitions only.
+-- Assumes nothing.
+use mathlib.Core.Bool.{Bool, cond}
+use mathlib.Core.List.{List}
+use Prim.Native.Nat.{ℕ}
+use lib.Dec.{eqb, leb}
+use Rattle.records.specs.Records.{Record, whole, short, unknown, nothing}
+use Rattle.reader.specs.declared.parts.Part.{Part}
+use Rattle.reader.specs.declared.parts.Part.the-variants.{Head, Row, Initial, Input, Direction, Guard, End}
+use Rattle.reader.specs.declared.state.State.{State}
+use Rattle.reader.specs.Order.{mayFollow, partOf, mostOf}
+use Rattle.reader.specs.Models.{withHead, withRow, withInitial, withInput, withDirection, withGuard}
+use Rattle.reader.specs.Values.{valueNumber}
+
+-- How many a part has that "9" counts. A head, rows and the end are not counted, so there is never one too many.
+abbrev pub countOf : Part → State → ℕ
+countOf Head s = 0
+countOf Row s = 0
+countOf Initial s = s .model .initial .count
+countOf Input s = s .model .input .count
+countOf Direction s = s .model .directions
+countOf Guard s = s .model .guards
+countOf End s = 0
+
+-- "9 | a 9th generator, 17th vertex, direction or guard".
+abbrev pub oneTooMany : State → ℕ → Bool
+oneTooMany s kind = leb (mostOf kind) (countOf (partOf kind) s)
+
+-- "each record, kind": "3 | kind not allowed here by the order", then 9, else 0.
+unfoldable pub kindNumber : State → ℕ → ℕ
+kindNumber s kind = cond (mayFollow (s .last) kind) (cond (oneTooMany s kind) 9 0) 3
+
+-- "The first number that applies, from the top, is returned."
+abbrev pub firstOf : ℕ → ℕ → ℕ
+firstOf a b = cond (eqb a 0) b a
+
+-- The number of the record that stands at an offset, 0 where it is read: "1 | no byte is left", "2 | unknown kind", 3 and 9,
+-- "1 | fewer bytes left than the body needs", 4 to 8.
+unfoldable pub refusal : State → Record → ℕ
+refusal s nothing = 1
+refusal s (unknown kind) = 2
+refusal s (short kind) = firstOf (kindNumber s kind) 1
+refusal s (whole kind body) = firstOf (kindNumber s kind) (valueNumber (partOf kind) s kind body)
+
+-- What a record adds. The end adds nothing.
+abbrev pub storedIn : Part → State → ℕ → List ℕ → State
+storedIn Head s kind body = withHead s body
+storedIn Row s kind body = withRow s body
+storedIn Initial s kind body = withInitial s kind body
+storedIn Input s kind body = withInput s kind body
+storedIn Direction s kind body = withDirection s kind body
+storedIn Guard s kind body = withGuard s kind body
+storedIn End s kind body = s
+
+unfoldable pub stored : State → ℕ → List ℕ → State
+stored s kind body = storedIn (partOf kind) s kind body

@@ -1,0 +1,60 @@
+-- Document 01, "Refusals by place", numbers 4 to 8: what a body may hold. Definitions only. Assumes nothing.
+use mathlib.Core.Bool.{Bool, cond, not, _&&_, _||_}
+use mathlib.Core.List.{List}
+use Prim.Native.Nat.{ℕ}
+use lib.Dec.{eqb, leb, ltb}
+use lib.IntN.{ℤ, pos, negℤ}
+use Rattle.arrays.specs.Tests.{allBetween}
+use Rattle.stepping.specs.Limits.{entryLimit}
+use Rattle.stepping.specs.Refusals.{dimensionOk}
+use Rattle.records.specs.Numbers.{littleEndian}
+use Rattle.reachability.specs.Sets.{reachWithin, cornersOrdered}
+use Rattle.reachability.specs.Limits.{directionLimit, allZero}
+use Rattle.reachability.specs.declared.sets.Set.{Set}
+use Rattle.reader.specs.declared.parts.Part.{Part}
+use Rattle.reader.specs.declared.parts.Part.the-variants.{Head, Row, Initial, Input, Direction, Guard, End}
+use Rattle.reader.specs.declared.state.State.{State}
+use Rattle.reader.specs.Order.{isUpper}
+use Rattle.reader.specs.Models.{firstByte, sixAt, withPoint}
+
+-- "4 | n or steps outside 1 to 6, 0 to 256": neither.
+abbrev pub headValuesOk : ℕ → ℕ → Bool
+headValuesOk n steps = dimensionOk n && leb steps 256
+
+abbrev pub headOk : List ℕ → Bool
+headOk body = headValuesOk (firstByte body) (littleEndian 2 body 1)
+
+-- Numbers from minus the limit to the limit. Those beyond n are zero, so only the first n can fail.
+abbrev pub within : ℕ → List ℤ → Bool
+within limit six = allBetween (negℤ (pos limit)) (pos limit) six
+
+-- "5 | not the next row number, or an entry beyond its limit": neither.
+unfoldable pub rowOk : State → List ℕ → Bool
+rowOk s body = eqb (firstByte body) (s .rows) && within entryLimit (sixAt (s .model .n) body 1)
+
+-- "6 | reach beyond its limit with this point, or upper below lower in any of the n coordinates": neither, of the set with this
+-- point. The corners are compared at the upper one.
+unfoldable pub pointOk : ℕ → ℕ → Set → Bool
+pointOk n kind set =
+    reachWithin (set .shape) (set .count) (set .points) && (not (isUpper kind) || cornersOrdered n (set .points))
+
+-- "7 | entry beyond its limit, or all n zero": neither.
+unfoldable pub directionOk : ℕ → List ℕ → Bool
+directionOk n body = within directionLimit (sixAt n body 0) && not (allZero (sixAt n body 0) 0)
+
+-- "8 | no such direction": there is one.
+abbrev pub guardOk : State → List ℕ → Bool
+guardOk s body = ltb (firstByte body) (s .model .directions)
+
+abbrev pub unless : Bool → ℕ → ℕ
+unless ok number = cond ok 0 number
+
+-- The number of the value test of a record's part, 0 where the body passes. The end has no body.
+abbrev pub valueNumber : Part → State → ℕ → List ℕ → ℕ
+valueNumber Head s kind body = unless (headOk body) 4
+valueNumber Row s kind body = unless (rowOk s body) 5
+valueNumber Initial s kind body = unless (pointOk (s .model .n) kind (withPoint (s .model .n) (s .model .initial) kind body)) 6
+valueNumber Input s kind body = unless (pointOk (s .model .n) kind (withPoint (s .model .n) (s .model .input) kind body)) 6
+valueNumber Direction s kind body = unless (directionOk (s .model .n) body) 7
+valueNumber Guard s kind body = unless (guardOk s body) 8
+valueNumber End s kind body = 0

@@ -1,0 +1,55 @@
+// How far a file has been read.
+use reachability::model::Model;
+use reachability::sets::Set;
+use reachability::sets::Shape;
+ghost use mathlib.Core.Path.{_≡_};
+ghost use Rattle.reader.specs.Models.{blankSet, blankModel};
+
+// The place in the order, the number of rows read, and the model so far.
+pub struct State {
+    pub last: u8,
+    pub rows: usize,
+    pub model: Model,
+}
+
+fn blank_set() -> Set
+    ensures { λ r. ⌜ r ≡ blankSet ⌝ }
+{
+    Set {
+        shape: Shape::Box,
+        count: 0,
+        points: [0i32; 96],
+    }
+}
+
+// A model that is zero everywhere.
+pub(crate) fn blank_model() -> Model
+    ensures { λ r. ⌜ r ≡ blankModel ⌝ }
+{
+    let initial = blank_set();
+    let input = blank_set();
+    Model {
+        n: 0,
+        steps: 0,
+        matrix: [0i32; 36],
+        initial,
+        input,
+        directions: 0,
+        entries: [0i32; 96],
+        guards: 0,
+        watched: [0usize; 16],
+        levels: [0i64; 16],
+    }
+}
+
+// Before the first record.
+pub(crate) fn start() -> State
+    ensures { λ r. ⌜ r ≡ Rattle.reader.specs.Models.start ⌝ }
+{
+    let model = blank_model();
+    State {
+        last: 0x00,
+        rows: 0,
+        model,
+    }
+}

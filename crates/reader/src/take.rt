@@ -1,0 +1,230 @@
+// Taking a whole record: its value test, number 4 to 8, and the state behind it.
+use crate::parts::Part;
+use crate::parts::part_of;
+use crate::state::State;
+use crate::store::default_steps;
+use crate::store::first_byte;
+use crate::store::six_at;
+use crate::store::with_matrix_row;
+use crate::store::with_point;
+use crate::store::with_row_of_six;
+use reachability::sets::Set;
+ghost use mathlib.Core.Path.{_≡_};
+ghost use mathlib.Core.Bool.{false};
+ghost use Prim.Native.Nat.{_<_};
+ghost use Rattle.reader.specs.Order.{partOf};
+ghost use Rattle.reader.specs.Models.{rowPlace, withHead, withRow, withInitial, withInput, withDirection, withGuard};
+ghost use Rattle.reader.specs.Values.{headValuesOk, headOk, rowOk, pointOk, directionOk, guardOk, unless, valueNumber};
+ghost use Rattle.reader.specs.Refusals.{oneTooMany, stored};
+ghost use Rattle.reader.specs.Inner.{Takes};
+
+// The number of the value test that the record fails, 0 where it passes, and then the state behind the record.
+pub struct Taken {
+    pub number: u8,
+    pub state: State,
+}
+
+fn head_ok(n: usize, steps: usize) -> bool
+    ensures { λ b. ⌜ b ≡ headValuesOk n steps ⌝ }
+{
+    if n < 1 {
+        return false;
+    }
+    if 6 < n {
+        return false;
+    }
+    steps <= 256
+}
+
+fn take_head(state: State, body: &[u8]) -> Taken
+    ensures { λ r. ⌜ Takes (unless (headOk (now (body .entry))) 4) (withHead state (now (body .entry))) r ⌝ }
+{
+    let n = first_byte(body);
+    let said = records::u16_at(body, 1) as usize;
+    if !head_ok(n, said) {
+        return Taken { number: 4, state };
+    }
+    let mut model = state.model;
+    model.n = n;
+    model.steps = default_steps(said);
+    let next = State {
+        last: 0x01,
+        rows: 0,
+        model,
+    };
+    Taken {
+        number: 0,
+        state: next,
+    }
+}
+
+// The place in the order after a row, so many being read.
+fn place_of(rows: usize, n: usize) -> u8
+    ensures { λ r. ⌜ r ≡ rowPlace rows n ⌝ }
+{
+    if rows < n { 0x01 } else { 0x02 }
+}
+
+fn take_row(state: State, body: &[u8]) -> Taken
+    ensures { λ r. ⌜ Takes (unless (rowOk state (now (body .entry))) 5) (withRow state (now (body .entry))) r ⌝ }
+{
+    let rows = state.rows;
+    let row = first_byte(body);
+    if row != rows {
+        return Taken { number: 5, state };
+    }
+    let mut model = state.model;
+    let n = model.n;
+    let six = six_at(n, body, 1);
+    if !arrays::all_between(-131072, 131072, &six) {
+        return Taken { number: 5, state };
+    }
+    let matrix = model.matrix;
+    let filled = with_matrix_row(matrix, row, &six);
+    model.matrix = filled;
+    let next = State {
+        last: place_of(row + 1, n),
+        rows: row + 1,
+        model,
+    };
+    Taken {
+        number: 0,
+        state: next,
+    }
+}
+
+// The reach of the set so far is within its limit, and a box's corners, once both are read, are in order.
+fn point_ok(n: usize, kind: u8, set: Set) -> bool
+    ensures { λ b. ⌜ b ≡ pointOk n kind set ⌝ }
+{
+    let shape = set.shape;
+    let count = set.count;
+    let points = set.points;
+    if !reachability::sets::reach_within(shape, count, &points) {
+        return false;
+    }
+    let which = kind % 16;
+    if which != 1 {
+        return true;
+    }
+    reachability::sets::corners_ordered(n, &points)
+}
+
+fn take_initial(state: State, kind: u8, body: &[u8]) -> Taken
+    requires { ⌜ state .model .initial .count < 16 ⌝ }
+    ensures { λ r. ⌜ Takes (valueNumber Part.Initial state kind (now (body .entry))) (withInitial state kind (now (body .entry))) r ⌝ }
+{
+    let mut model = state.model;
+    let n = model.n;
+    let before = model.initial;
+    let set = with_point(n, before, kind, body);
+    if !point_ok(n, kind, set) {
+        return Taken { number: 6, state };
+    }
+    model.initial = set;
+    let next = State {
+        last: kind,
+        rows: state.rows,
+        model,
+    };
+    Taken {
+        number: 0,
+        state: next,
+    }
+}
+
+fn take_input(state: State, kind: u8, body: &[u8]) -> Taken
+    requires { ⌜ state .model .input .count < 16 ⌝ }
+    ensures { λ r. ⌜ Takes (valueNumber Part.Input state kind (now (body .entry))) (withInput state kind (now (body .entry))) r ⌝ }
+{
+    let mut model = state.model;
+    let n = model.n;
+    let before = model.input;
+    let set = with_point(n, before, kind, body);
+    if !point_ok(n, kind, set) {
+        return Taken { number: 6, state };
+    }
+    model.input = set;
+    let next = State {
+        last: kind,
+        rows: state.rows,
+        model,
+    };
+    Taken {
+        number: 0,
+        state: next,
+    }
+}
+
+fn take_direction(state: State, kind: u8, body: &[u8]) -> Taken
+    requires { ⌜ state .model .directions < 16 ⌝ }
+    ensures { λ r. ⌜ Takes (unless (directionOk (state .model .n) (now (body .entry))) 7) (withDirection state kind (now (body .entry))) r ⌝ }
+{
+    let mut model = state.model;
+    let six = six_at(model.n, body, 0);
+    if !arrays::all_between(-1000, 1000, &six) {
+        return Taken { number: 7, state };
+    }
+    if arrays::zero_outside(0, 0, &six) {
+        return Taken { number: 7, state };
+    }
+    let directions = model.directions;
+    let entries = model.entries;
+    let filled = with_row_of_six(entries, directions, &six);
+    model.directions = directions + 1;
+    model.entries = filled;
+    let next = State {
+        last: kind,
+        rows: state.rows,
+        model,
+    };
+    Taken {
+        number: 0,
+        state: next,
+    }
+}
+
+fn take_guard(state: State, kind: u8, body: &[u8]) -> Taken
+    requires { ⌜ state .model .guards < 16 ⌝ }
+    ensures { λ r. ⌜ Takes (unless (guardOk state (now (body .entry))) 8) (withGuard state kind (now (body .entry))) r ⌝ }
+{
+    let mut model = state.model;
+    let direction = first_byte(body);
+    if model.directions <= direction {
+        return Taken { number: 8, state };
+    }
+    let guards = model.guards;
+    let mut watched = model.watched;
+    let mut levels = model.levels;
+    watched[guards] = direction;
+    levels[guards] = records::i64_at(body, 1);
+    model.guards = guards + 1;
+    model.watched = watched;
+    model.levels = levels;
+    let next = State {
+        last: kind,
+        rows: state.rows,
+        model,
+    };
+    Taken {
+        number: 0,
+        state: next,
+    }
+}
+
+// The record's value test and the state behind it. The kind has passed 3 and 9.
+pub(crate) fn take(state: State, kind: u8, body: &[u8]) -> Taken
+    requires { ⌜ oneTooMany state kind ≡ false ⌝ }
+    ensures { λ r. ⌜ Takes (valueNumber (partOf kind) state kind (now (body .entry))) (stored state kind (now (body .entry))) r ⌝ }
+{
+    let part = part_of(kind);
+    match part {
+        Part::Head => take_head(state, body),
+        Part::Row => take_row(state, body),
+        Part::Initial => take_initial(state, kind, body),
+        Part::Input => take_input(state, kind, body),
+        Part::Direction => take_direction(state, kind, body),
+        Part::Guard => take_guard(state, kind, body),
+        Part::End => Taken { number: 0, state },
+    }
+}

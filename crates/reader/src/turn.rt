@@ -1,0 +1,80 @@
+// One turn of the reader: the record at an offset.
+use crate::parts::kind_number;
+use crate::state::State;
+use crate::take::take;
+ghost use mathlib.Core.Path.{_≡_};
+ghost use Rattle.records.specs.Records.{recordAt, whole};
+ghost use Rattle.reader.specs.Refusals.{kindNumber};
+ghost use Rattle.reader.specs.Inner.{Turns};
+
+// What a turn comes to: reading goes on at an offset, the file has ended, or it is refused, with the number and its offset.
+pub enum Outcome {
+    Next(usize),
+    Ended,
+    Stopped(u8, usize),
+}
+
+pub struct Turn {
+    pub outcome: Outcome,
+    pub state: State,
+}
+
+fn stop(number: u8, offset: usize, state: State) -> Turn
+    ensures { λ r. ⌜ (r .outcome ≡ Outcome.Stopped number offset) ⌝ }
+{
+    Turn {
+        outcome: Outcome::Stopped(number, offset),
+        state,
+    }
+}
+
+// A whole record whose kind has passed 3 and 9.
+fn take_whole(file: &[u8], at: usize, state: State, kind: u8, body: &[u8]) -> Turn
+    requires { ⌜ recordAt (now file) at ≡ whole kind (now body) ⌝ }
+    requires { ⌜ kindNumber state kind ≡ 0 ⌝ }
+    ensures { λ r. ⌜ Turns (now (file .entry)) at state r ⌝ }
+{
+    let start = at + 1;
+    let taken = take(state, kind, body);
+    let failed = taken.number;
+    if failed != 0 {
+        return stop(failed, at, state);
+    }
+    if kind == 0xFF {
+        if start < file.len() {
+            return stop(10, start, state);
+        }
+        return Turn {
+            outcome: Outcome::Ended,
+            state,
+        };
+    }
+    let next = taken.state;
+    Turn {
+        outcome: Outcome::Next(start + body.len()),
+        state: next,
+    }
+}
+
+// The record at the offset. The kind's numbers stand above a short body's.
+pub(crate) fn turn_at(file: &[u8], at: usize, state: State) -> Turn
+    ensures { λ r. ⌜ Turns (now (file .entry)) at state r ⌝ }
+{
+    let mut kind: u8 = 0;
+    let mut found: u8 = 0;
+    let body = records::record_at(file, at, &mut kind, &mut found);
+    if found == 2 {
+        return stop(2, at, state);
+    }
+    if kind == 0 {
+        return stop(1, file.len(), state);
+    }
+    let number = kind_number(state, kind);
+    if number != 0 {
+        return stop(number, at, state);
+    }
+    if found != 0 {
+        return stop(1, at, state);
+    }
+    take_whole(file, at, state, kind, body)
+}
