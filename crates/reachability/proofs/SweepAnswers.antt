@@ -3,12 +3,13 @@
 use mathlib.Core.Path.{_≡_, refl, sym, ap, ap₂, subst, _∙_}
 use mathlib.Core.Bool.{Bool, true, false, cond, not, _&&_}
 use mathlib.Core.List.{List}
-use Prim.Native.Nat.{ℕ, suc, _+_, _*_, _≤_, _<_}
+use Prim.Native.Nat.{ℕ, suc, _+_, _*_, _^_, _≤_, _<_}
 use native.Mathlib.Nat.{le-trans}
 use native.Mathlib.Omega.{arith}
 use borrow.Author.Tests.{lt-ltb, le-ltb, le-leb, leb-false, leb-true, eq-eqb, ne-eqb, ltb-false, eqb-false}
-use lib.Dec.{leb, ltb, eqb}
+use lib.Dec.{leb, ltb, eqb, lit≤}
 use lib.ListN.{length}
+use lib.Pow.{pow-mono}
 use lib.IntN.{ℤ, pos, natAbs, _*ℤ_}
 use Rattle.integers.specs.Sums.{vector, magnitudes, matrix, maxℕ, tabulate, allBelow}
 use Rattle.integers.proofs.Order.{natAbs-mul}
@@ -18,6 +19,7 @@ use Rattle.arrays.specs.Tests.{zeroOutside, allBetween}
 use Rattle.arrays.proofs.Laws.{and-true, and-false, zeroOutside-column}
 use Rattle.stepping.specs.Limits.{directionUnit, growthLimit}
 use Rattle.stepping.specs.Recurrence.{firstR, firstE, growthSum}
+use Rattle.stepping.proofs.SpareFigure.{spare-is}
 use Rattle.reachability.specs.Limits.{accepted, directionLimit, someNonzero, allZero}
 use Rattle.reachability.specs.Runs.{moves, direction}
 use Rattle.reachability.specs.Recurrence.{Working, first, walk, working, sumAt, growsAt, growthStep, spareFigure, bound, slack}
@@ -112,8 +114,8 @@ module _ (m : Model) (facts : ModelFacts m) (d : ℕ) (inside : d < m .direction
       not-not true e = sym e
       not-not false e = refl
 
-  pub largest-least : 1 ≤ maxℕ (suc (m .steps)) (sumAt m d)
-  largest-least = le-trans first-sum (le-maxℕ (suc (m .steps)) (sumAt m d) 0 (native.Mathlib.Nat.zero-lt-suc (m .steps)))
+  largest-unit : directionUnit ≤ maxℕ (suc (m .steps)) (sumAt m d)
+  largest-unit = le-trans first-sum (le-maxℕ (suc (m .steps)) (sumAt m d) 0 (native.Mathlib.Nat.zero-lt-suc (m .steps)))
     where
       i : ℕ
       i = some-entry .0
@@ -139,10 +141,20 @@ module _ (m : Model) (facts : ModelFacts m) (d : ℕ) (inside : d < m .direction
           start : walk (m .n) (moves m) 0 (first (direction m d)) 0 ≡ first (direction m d)
           start = Rattle.reachability.proofs.Turns.walk-start (m .n) (moves m) (first (direction m d))
 
-      first-sum : 1 ≤ sumAt m d 0
+      first-sum : directionUnit ≤ sumAt m d 0
       first-sum =
-          subst (λ (w : Working). 1 ≤ growthSum (m .n) (w .r) (w .e)) (sym walk-start)
+          subst (λ (w : Working). directionUnit ≤ growthSum (m .n) (w .r) (w .e)) (sym walk-start)
           (le-trans (omega (arith, natAbs-mul (pos directionUnit) (direction m d i), positive)) (le-maxℕ (m .n) (λ j. natAbs (firstR (direction m d) j) + firstE j) i below-n))
+
+  pub largest-least : 1 ≤ maxℕ (suc (m .steps)) (sumAt m d)
+  largest-least = le-trans (lit≤ tt) largest-unit
+
+  -- "it is 0 to 10"
+  pub spare-most : leb (growthStep m d) (m .steps) ≡ false → spareFigure m d ≤ 10
+  spare-most calm = elim (native.Mathlib.Decide.decLt 10 (spareFigure m d)) [ yes l ↦ absurd (beyond (spareFigure m d) (maxℕ (suc (m .steps)) (sumAt m d)) (pow-mono l) (spare-is (maxℕ (suc (m .steps)) (sumAt m d)) largest-least (largest-most calm) .holds) largest-unit) | no f ↦ omega (arith, f) ]
+    where
+      beyond : (h s : ℕ) → 2 ^ 11 ≤ 2 ^ h → 2 ^ h * s ≤ growthLimit → directionUnit ≤ s → ⊥
+      beyond h s high low unit = omega (arith, low, native.Mathlib.Nat.mul-le-mul high unit)
 
 -- ---- a whole sweep
 
