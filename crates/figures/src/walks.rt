@@ -7,7 +7,7 @@ use stepping::Spare;
 use stepping::Stepped;
 
 // One row and one column.
-fn single(entry: i32) -> [i32; 36] {
+pub fn single(entry: i32) -> [i32; 36] {
     let mut m = [0i32; 36];
     m[0] = entry;
     m
