@@ -79,6 +79,17 @@ class ReaderFiles(unittest.TestCase):
         self.assertEqual(status, 1)
         self.assertIn("cannot be made", said)
 
+    def test_the_run_test_has_these_files(self):
+        """crates/readings reads the same files and is held to the same replies."""
+        made = readerfiles.contents()
+        kept = Path(__file__).resolve().parents[2] / "crates" / "readings"
+        texts = {"names": kept / "args", "expected": kept / "stdout", "about": None}
+        for name, data in made.items():
+            place = texts.get(name, kept / "data" / name)
+            if place is not None:
+                self.assertEqual(place.read_bytes(), data, name)
+        self.assertEqual({path.name for path in (kept / "data").iterdir()}, set(made) - set(texts))
+
 
 if __name__ == "__main__":
     unittest.main()
