@@ -1,5 +1,6 @@
 // Runs the figures of document 01 that are tested by running, and those that its list lacks, and writes what comes out.
 // The file `stdout` has what should come out, taken from the documents by hand.
+mod judges;
 mod sets;
 mod sweeps;
 mod text;
@@ -15,4 +16,7 @@ fn main() {
     sweeps::marked();
     sweeps::further();
     sweeps::refusals();
+    judges::marked();
+    judges::limits();
+    judges::refusals();
 }

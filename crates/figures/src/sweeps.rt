@@ -11,10 +11,20 @@ use reachability::sets::Set;
 use reachability::sets::Shape;
 use reachability::sweep::Swept;
 
-// A model of one coordinate and one direction, without guards.
-fn line(steps: usize, entry: i32, initial: Set, input: Set, first: i32) -> Model {
+// A model of one coordinate and one direction, with `guards` guards: none, or one on that direction.
+pub fn guarded(
+    steps: usize,
+    entry: i32,
+    initial: Set,
+    input: Set,
+    first: i32,
+    guards: usize,
+    level: i64,
+) -> Model {
     let mut entries = [0i32; 96];
     entries[0] = first;
+    let mut levels = [0i64; 16];
+    levels[0] = level;
     Model {
         n: 1,
         steps,
@@ -23,10 +33,15 @@ fn line(steps: usize, entry: i32, initial: Set, input: Set, first: i32) -> Model
         input,
         directions: 1,
         entries,
-        guards: 0,
+        guards,
         watched: [0usize; 16],
-        levels: [0i64; 16],
+        levels,
     }
+}
+
+// The same without guards.
+fn line(steps: usize, entry: i32, initial: Set, input: Set, first: i32) -> Model {
+    guarded(steps, entry, initial, input, first, 0, 0)
 }
 
 // The model of case 12.
@@ -66,7 +81,7 @@ fn tell(a: Swept) {
     end();
 }
 
-fn list(xs: &[i64]) {
+pub fn list(xs: &[i64]) {
     let mut k: usize = 0;
     while k < xs.len() {
         number(xs[k]);

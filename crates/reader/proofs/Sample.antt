@@ -1,4 +1,4 @@
--- Document 01, "Figures": the sample of 186 bytes, "For n 1, steps 3, M 32,768, initial [0,0], input [0,1], direction 1, guards
+-- Document 01, "Figures to test against": the sample of 186 bytes, "For n 1, steps 3, M 32,768, initial [0,0], input [0,1], direction 1, guards
 -- on direction 0 with levels 1, 2, 3", is read as its model. By computation. Assumes nothing.
 use mathlib.Core.Path.{_≡_, refl}
 use mathlib.Core.List.{List, _∷_, _++_, []}

@@ -44,7 +44,7 @@ start = record { last = 0x00; rows = 0; model = blankModel }
 
 -- ---- the numbers in a body
 
--- "Numbers are little-endian": the byte that a body starts with.
+-- "n (1 byte)", "row number from 0 (1)", "direction number from 0 (1)": the byte that a body starts with.
 abbrev pub firstByte : List ℕ → ℕ
 firstByte body = getD body 0 0
 

@@ -40,7 +40,7 @@ fn refuse(number: u8, offset: usize) -> Reading
     }
 }
 
-// The model of the file, or the number of its first record that is refused, with that record's offset.
+// The model of the file, or the first number that applies to it, with its offset.
 pub fn read(file: &[u8]) -> Reading
     ensures { λ r. ⌜ r ≡ readModel (now (file .entry)) ⌝ }
 {
