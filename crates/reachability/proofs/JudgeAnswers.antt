@@ -5,7 +5,7 @@ use mathlib.Core.Bool.{Bool, true, false, cond, _&&_}
 use mathlib.Core.List.{List}
 use Prim.Native.Nat.{ℕ, suc, _+_, _≤_, _<_}
 use native.Mathlib.Omega.{arith}
-use borrow.Author.Tests.{lt-ltb, le-ltb, ltb-true, ltb-false, le-leb, leb-true}
+use borrow.Author.Tests.{lt-ltb, le-ltb, ltb-true, le-leb, leb-true, eq-eqb}
 use lib.Dec.{T, leb, ltb, eqb}
 use lib.ListN.{length, getD}
 use lib.IntN.{ℤ, pos, natAbs, _-ℤ_}
@@ -16,9 +16,8 @@ use Rattle.integers.proofs.Machine.{length-tabulate, getD-tabulate}
 use Rattle.arrays.proofs.Laws.{and-true}
 use Rattle.reachability.specs.Limits.{accepted, guardOk}
 use Rattle.reachability.specs.Recurrence.{growthStep, spareFigure, bound, slack, firstPlace}
-use Rattle.reachability.specs.Verdicts.{reaches, hitAt, unknownAt, verdict, listHit, listUnknown, listVerdict}
+use Rattle.reachability.specs.Verdicts.{reaches, hitAt, unknownAt, verdict, listHit, listUnknown, listVerdict, listAnswer, carried, sweptVerdict}
 use Rattle.reachability.specs.Rule.{Accurate, VerdictHolds}
-use Rattle.reachability.specs.Inner.{Slacks}
 use Rattle.reachability.specs.Answers.{sweepAnswer, judgeAnswer, lengthsOk, boundsOf, slacksOf, sweptNumber, judgedNumber, SweepLeaves, JudgeLeaves}
 use Rattle.reachability.specs.declared.model.Model.{Model}
 use Rattle.reachability.specs.declared.sweep.Swept.{Swept}
@@ -63,14 +62,7 @@ module _ (m : Model) (d : ℕ) where
   slacks-at : (k : ℕ) → k < K+1 → vector (slacksOf m d) k ≡ pos (slack m d k)
   slacks-at k h = getD-tabulate K+1 (λ j. pos (slack m d j)) k (pos 0) h
 
-  pub slacks-natural : Slacks (boundsOf m d) (slacksOf m d)
-  slacks-natural =
-      record {
-        as-many = length-tabulate K+1 (λ k. pos (slack m d k)) ∙ sym long;
-        natural = λ k h. subst (λ (z : ℤ). T (nonNeg z)) (sym (slacks-at k (subst (λ (n : ℕ). k < n) long h))) tt;
-      }
-
-  pub list-verdict : (level : ℤ) → listVerdict level (boundsOf m d) (slacksOf m d) ≡ verdict m d level
+  list-verdict : (level : ℤ) → listVerdict level (boundsOf m d) (slacksOf m d) ≡ verdict m d level
   list-verdict level =
       ap (λ (n : ℕ). chosen n (firstPlace n (listHit level (boundsOf m d) (slacksOf m d))) (firstPlace n (listUnknown level (boundsOf m d)))) long
       ∙ ap₂ (chosen K+1) hits unknowns
@@ -88,6 +80,11 @@ module _ (m : Model) (d : ℕ) where
       unknowns : firstPlace K+1 (listUnknown level (boundsOf m d)) ≡ u
       unknowns = firstPlace-cong K+1 (listUnknown level (boundsOf m d)) (unknownAt m d level) (λ k l. ap (reaches level) (bounds-at k l))
 
+  -- the lists that a sweep left are as long as each other
+  list-answer : (level : ℤ) → listAnswer level (boundsOf m d) (slacksOf m d) ≡ verdict m d level
+  list-answer level =
+      ap (λ (t : Bool). cond t (listVerdict level (boundsOf m d) (slacksOf m d)) J.WrongLength) (eq-eqb (length (slacksOf m d)) (length (boundsOf m d)) (length-tabulate K+1 (λ k. pos (slack m d k)) ∙ sym long)) ∙ list-verdict level
+
 -- a verdict is no refusal
 verdict-number : (m : Model) (d : ℕ) (level : ℤ) → judgedNumber (verdict m d level) ≡ 0
 verdict-number m d level = cases (leb (firstPlace (suc (m .steps)) (hitAt m d level)) (m .steps)) (leb (firstPlace (suc (m .steps)) (unknownAt m d level)) (m .steps)) _ _
@@ -98,13 +95,6 @@ verdict-number m d level = cases (leb (firstPlace (suc (m .steps)) (hitAt m d le
     cases false false h u = refl
 
 -- ---- what a judge makes of a sweep's answer
-
-abbrev pub carried : Swept → Judged → Judged
-carried (S.Spare h) v = v
-carried S.Invalid v = J.Invalid
-carried S.NoDirection v = J.NoGuard
-carried S.WrongLength v = J.WrongLength
-carried (S.Growth k) v = J.Growth k
 
 module _ (m : Model) (g : ℕ) where
   abbrev d : ℕ
@@ -165,16 +155,6 @@ module _ (m : Model) (g : ℕ) where
         cases false t = refl
 
     module _ (b₀ s₀ : List ℤ) where
-      -- no refusal: the lists are the sweep's
-      pub swept-slacks : (a : Swept) (b s : List ℤ) → sweptNumber a ≡ 0 → SweepLeaves m d b₀ s₀ a b s → Slacks b s
-      swept-slacks a b s z w = subst (λ (x : List ℤ). Slacks x s) (sym (swept-b a b s z w)) (subst (Slacks (boundsOf m d)) (sym (swept-s a b s z w)) (slacks-natural m d))
-        where
-          swept-b : (a : Swept) (b s : List ℤ) → sweptNumber a ≡ 0 → SweepLeaves m d b₀ s₀ a b s → b ≡ boundsOf m d
-          swept-b a b s z w = w .bounds ∙ ap (λ (n : ℕ). cond (eqb n 0) (boundsOf m d) b₀) z
-
-          swept-s : (a : Swept) (b s : List ℤ) → sweptNumber a ≡ 0 → SweepLeaves m d b₀ s₀ a b s → s ≡ slacksOf m d
-          swept-s a b s z w = w .slacks ∙ ap (λ (n : ℕ). cond (eqb n 0) (slacksOf m d) s₀) z
-
       refused : (a : Swept) (v : Judged) (b s : List ℤ) (r : Judged) (n : ℕ) → SweepLeaves m d b₀ s₀ a b s → eqb (sweptNumber a) 0 ≡ false → judgedNumber v ≡ suc n → carried a (verdict m d level) ≡ v → r ≡ v → VerdictHolds m d level s₀ v → JudgeLeaves m g b₀ s₀ r b s
       refused a v b s r n w e f c is holds =
           let in-b : b ≡ b₀ = w .bounds ∙ ap (λ (t : Bool). cond t (boundsOf m d) b₀) e in
@@ -183,10 +163,10 @@ module _ (m : Model) (g : ℕ) where
           subst (λ (x : List ℤ). JudgeLeaves m g b₀ s₀ r x s) (sym in-b) (subst (JudgeLeaves m g b₀ s₀ r b₀) (sym in-s) (judge-refuses b₀ s₀ r n (ap judgedNumber is ∙ f) answer (subst (VerdictHolds m d level s₀) (sym is) holds)))
 
       -- what the judge answers from a sweep is what it should, with the verdict rule
-      pub judges : (a : Swept) (b s : List ℤ) (r : Judged) → SweepLeaves m d b₀ s₀ a b s → r ≡ carried a (listVerdict level b s) → JudgeLeaves m g b₀ s₀ r b s
+      pub judges : (a : Swept) (b s : List ℤ) (r : Judged) → SweepLeaves m d b₀ s₀ a b s → r ≡ sweptVerdict a level b s → JudgeLeaves m g b₀ s₀ r b s
       judges (S.Spare h) b s r w e =
           let in-s : s ≡ slacksOf m d = w .slacks in
-          let is : r ≡ verdict m d level = e ∙ ap₂ (listVerdict level) (w .bounds) (w .slacks) ∙ list-verdict m d level in
+          let is : r ≡ verdict m d level = e ∙ ap₂ (listAnswer level) (w .bounds) (w .slacks) ∙ list-answer m d level in
           let number : eqb (judgedNumber r) 0 ≡ true = ap (λ (x : Judged). eqb (judgedNumber x) 0) is ∙ ap (λ (n : ℕ). eqb n 0) (verdict-number m d level) in
           record {
             answer = is ∙ ap (λ (x : Swept). carried x (verdict m d level)) (w .answer) ∙ carried-answer (length b₀) (length s₀);

@@ -47,10 +47,6 @@ across-fits (pos x) (pos y) f g u = omega (arith, f .sfits, g .sfits)
 across-fits (negsuc x) (pos y) f g u = omega (arith, f .sfits, g .sfits)
 across-fits l (negsuc y) f g u = absurd (never u)
 
-pub natural-fits : (s : ℤ) → T (nonNeg s) → SFits w64 s → Fits w64 (natAbs s)
-natural-fits (pos s) n f = record { fits = omega (arith, f .sfits) }
-natural-fits (negsuc s) n f = absurd n
-
 -- ---- the level against a bound less its slack
 
 pub iff : (p q : Bool) → (p ≡ true → q ≡ true) → (q ≡ true → p ≡ true) → p ≡ q
@@ -65,20 +61,34 @@ leZ-of-⩽ a b h = told (leZ a b) (h .le)
     told true h = refl
     told false h = absurd h
 
-pub hit-below : (l b s : ℤ) → T (nonNeg s) → ltZ b l ≡ true → leZ l (b -ℤ s) ≡ false
-hit-below l b (pos s) n t = told (leZ l (b -ℤ pos s)) (λ h. omega (arith, le? (v b ⊕ # 1) (v l) (lt-of-ltZ b l t), le? (v l) (v b ⊖ # s) (⩽-of-leZ l (b -ℤ pos s) h)))
-  where
-    told : (t : Bool) → (t ≡ true → ⊥) → t ≡ false
-    told true f = absurd (f refl)
-    told false f = refl
-hit-below l b (negsuc s) n t = absurd n
+told-false : (t : Bool) → (t ≡ true → ⊥) → t ≡ false
+told-false true f = absurd (f refl)
+told-false false f = refl
 
-pub hit-gap : (l b s : ℤ) → T (nonNeg s) → l ⩽ b → leb (natAbs s) (natAbs (b -ℤ l)) ≡ leZ l (b -ℤ s)
+-- the level above the bound, no slack below 0
+pub hit-below : (l b s : ℤ) → leZ (pos 0) s ≡ true → ltZ b l ≡ true → leZ l (b -ℤ s) ≡ false
+hit-below l b s n t =
+    told-false (leZ l (b -ℤ s)) (λ h. omega (arith, le? (# 0) (v s) (⩽-of-leZ (pos 0) s n), le? (v b ⊕ # 1) (v l) (lt-of-ltZ b l t), le? (v l) (v b ⊖ v s) (⩽-of-leZ l (b -ℤ s) h)))
+
+-- the level above the bound, and a slack below 0
+pub hit-raised : (l b s : ℤ) → leZ (pos 0) s ≡ false → b ⩽ l → leb (natAbs (l -ℤ b)) (natAbs s) ≡ leZ l (b -ℤ s)
+hit-raised l b (pos s) n h = absurd (omega (arith, le? (v (pos s) ⊕ # 1) (# 0) (lt-of-leZ-false (pos 0) (pos s) n)))
+hit-raised l b (negsuc s) n h =
+    iff (leb (natAbs (l -ℤ b)) (suc s)) (leZ l (b -ℤ negsuc s))
+    (λ t. leZ-of-⩽ l (b -ℤ negsuc s) (le! (v l) (v b ⊖ v (negsuc s)) (omega (arith, leb-true (natAbs (l -ℤ b)) (suc s) t, difference b l h))))
+    (λ t. le-leb (natAbs (l -ℤ b)) (suc s) (omega (arith, le? (v l) (v b ⊖ v (negsuc s)) (⩽-of-leZ l (b -ℤ negsuc s) t), difference b l h)))
+
+-- the level at or below the bound, and a slack below 0
+pub hit-above : (l b s : ℤ) → ltZ s (pos 0) ≡ true → l ⩽ b → leZ l (b -ℤ s) ≡ true
+hit-above l b s n h = leZ-of-⩽ l (b -ℤ s) (le! (v l) (v b ⊖ v s) (omega (arith, le? (v s ⊕ # 1) (# 0) (lt-of-ltZ s (pos 0) n), le? (v l) (v b) h)))
+
+-- the level at or below the bound, no slack below 0
+pub hit-gap : (l b s : ℤ) → ltZ s (pos 0) ≡ false → l ⩽ b → leb (natAbs s) (natAbs (b -ℤ l)) ≡ leZ l (b -ℤ s)
 hit-gap l b (pos s) n h =
     iff (leb s (natAbs (b -ℤ l))) (leZ l (b -ℤ pos s))
     (λ t. leZ-of-⩽ l (b -ℤ pos s) (le! (v l) (v b ⊖ # s) (omega (arith, leb-true s (natAbs (b -ℤ l)) t, difference l b h))))
     (λ t. le-leb s (natAbs (b -ℤ l)) (omega (arith, le? (v l) (v b ⊖ # s) (⩽-of-leZ l (b -ℤ pos s) t), difference l b h)))
-hit-gap l b (negsuc s) n h = absurd n
+hit-gap l b (negsuc s) n h = absurd (never n)
 
 -- ---- first places
 

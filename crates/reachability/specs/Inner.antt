@@ -1,11 +1,7 @@
 -- What the inner functions ask of each other, after the public ones have tested their arguments. Definitions only; no public
 -- contract cites them. Assumes nothing.
 use Prim.Native.Nat.{ℕ, _+_, _*_, _≤_, _<_}
-use mathlib.Core.Path.{_≡_}
 use mathlib.Core.List.{List}
-use lib.Dec.{T}
-use lib.ListN.{length}
-use lib.Signed.{nonNeg}
 use lib.IntN.{ℤ, natAbs}
 use Rattle.integers.specs.Sums.{vector}
 use Rattle.stepping.specs.Limits.{growthLimit}
@@ -36,11 +32,3 @@ pub record TimesAdd (sum a b : ℤ) : Type 0 where
 pub record Added (sum d : ℤ) : Type 0 where
   pub sum-small : natAbs sum ≤ 15 * (6 * (growthLimit * reachLimit))
   pub dot-small : natAbs d ≤ 6 * (growthLimit * reachLimit)
-
--- As many slacks as bounds, none below 0.
-pub record SlackNatural (s : ℤ) : Type 0 where
-  pub natural : T (nonNeg s)
-
-pub record Slacks (b s : List ℤ) : Type 0 where
-  pub as-many : length s ≡ length b
-  pub natural : (k : ℕ) → k < length b → T (nonNeg (vector s k))

@@ -3,7 +3,7 @@
 use mathlib.Core.Bool.{Bool, cond}
 use Prim.Native.Nat.{ℕ, suc}
 use mathlib.Core.List.{List}
-use lib.Dec.{leb, ltb}
+use lib.Dec.{leb, ltb, eqb}
 use lib.ListN.{length}
 use lib.IntN.{ℤ, pos, _-ℤ_}
 use lib.Signed.{leZ}
@@ -11,7 +11,9 @@ use Rattle.integers.specs.Sums.{vector}
 use Rattle.reachability.specs.Recurrence.{bound, slack, firstPlace}
 use Rattle.reachability.specs.declared.model.Model.{Model}
 use Rattle.reachability.specs.declared.judge.Judged.{Judged}
-use Rattle.reachability.specs.declared.judge.Judged.the-variants.{Hit, Unknown, Clear}
+use Rattle.reachability.specs.declared.judge.Judged.the-variants.{Hit, Unknown, Clear, Invalid, NoGuard, WrongLength, Growth}
+use Rattle.reachability.specs.declared.sweep.Swept.{Swept}
+use Rattle.reachability.specs.declared.sweep.Swept.the-variants as S
 
 -- "A guard is reached where direction · state is at least its level."
 abbrev pub reaches : ℤ → ℤ → Bool
@@ -45,3 +47,19 @@ listVerdict level b s =
     let h = firstPlace (length b) (listHit level b s) in
     let u = firstPlace (length b) (listUnknown level b) in
     cond (ltb h (length b)) (Hit h) (cond (ltb u (length b)) (Unknown u) Clear)
+
+-- The same for any two lists: "a lent list isn't K + 1 long" where one is longer than the other.
+abbrev pub listAnswer : ℤ → List ℤ → List ℤ → Judged
+listAnswer level b s = cond (eqb (length s) (length b)) (listVerdict level b s) WrongLength
+
+-- What a sweep's answer makes of a verdict over its lists: a refusal stays one.
+abbrev pub carried : Swept → Judged → Judged
+carried (S.Spare h) v = v
+carried S.Invalid v = Invalid
+carried S.NoDirection v = NoGuard
+carried S.WrongLength v = WrongLength
+carried (S.Growth k) v = Growth k
+
+-- "leaves the sweep of that guard's direction in the lists and answers the verdict": from the sweep's answer and its lists.
+abbrev pub sweptVerdict : Swept → ℤ → List ℤ → List ℤ → Judged
+sweptVerdict a level b s = carried a (listAnswer level b s)

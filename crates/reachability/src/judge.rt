@@ -5,6 +5,8 @@ use crate::model::Model;
 use crate::model::accepts;
 use crate::sweep::Swept;
 use crate::sweep::sweep;
+ghost use mathlib.Core.Path.{_≡_};
+ghost use Rattle.reachability.specs.Verdicts.{sweptVerdict};
 ghost use Rattle.reachability.specs.Answers.{JudgeLeaves};
 
 // What `judge` answers: the verdict, with its step if any; 11, the model breaks a rule; 12, no such guard; 13, a lent list isn't
@@ -18,6 +20,20 @@ pub enum Judged {
     NoGuard,
     WrongLength,
     Growth(usize),
+}
+
+// The verdict on a level by what a sweep answered and left: the first-step rules over its lists, or its refusal. Number 13 where
+// the lists are not as long as each other. Guards on one direction share its sweep in this way.
+pub fn verdict(swept: Swept, level: i64, bounds: &[i64], slacks: &[i64]) -> Judged
+    ensures { λ a. ⌜ a ≡ sweptVerdict swept level (now (bounds .entry)) (now (slacks .entry)) ⌝ }
+{
+    match swept {
+        Swept::Spare(_) => places::verdict_of(level, bounds, slacks),
+        Swept::Invalid => Judged::Invalid,
+        Swept::NoDirection => Judged::NoGuard,
+        Swept::WrongLength => Judged::WrongLength,
+        Swept::Growth(k) => Judged::Growth(k),
+    }
 }
 
 // The verdict on guard number `guard`, with the sweep of its direction in the lent lists. On a refusal both lists keep every
@@ -35,11 +51,6 @@ pub fn judge(model: Model, guard: usize, bounds: &mut [i64], slacks: &mut [i64])
     let levels = model.levels;
     let direction = watched[guard];
     let level = levels[guard];
-    match sweep(model, direction, bounds, slacks) {
-        Swept::Spare(_) => places::verdict_of(level, bounds, slacks),
-        Swept::Invalid => Judged::Invalid,
-        Swept::NoDirection => Judged::NoGuard,
-        Swept::WrongLength => Judged::WrongLength,
-        Swept::Growth(k) => Judged::Growth(k),
-    }
+    let swept = sweep(model, direction, bounds, slacks);
+    verdict(swept, level, bounds, slacks)
 }

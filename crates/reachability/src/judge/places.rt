@@ -6,8 +6,7 @@ ghost use lib.ListN.{length};
 ghost use Rattle.integers.specs.Whole.{_⩽_};
 ghost use Rattle.integers.specs.Sums.{vector};
 ghost use Rattle.reachability.specs.Recurrence.{firstPlace};
-ghost use Rattle.reachability.specs.Verdicts.{reaches, listHit, listUnknown, listVerdict};
-ghost use Rattle.reachability.specs.Inner.{Slacks, SlackNatural};
+ghost use Rattle.reachability.specs.Verdicts.{reaches, listHit, listUnknown, listAnswer};
 
 // A value reaches the level.
 fn at_level(level: i64, value: i64) -> bool
@@ -32,20 +31,25 @@ fn gap(level: i64, bound: i64) -> u64
     high + low
 }
 
-// bound - slack reaches the level.
+// bound - slack reaches the level, for any three numbers.
 fn hits(level: i64, bound: i64, slack: i64) -> bool
-    requires { ⌜ SlackNatural slack ⌝ }
     ensures { λ b. ⌜ b ≡ reaches level (bound -ℤ slack) ⌝ }
 {
     if bound < level {
-        return false;
+        if 0 <= slack {
+            return false;
+        }
+        return gap(bound, level) <= arrays::magnitude(slack);
     }
-    (slack as u64) <= gap(level, bound)
+    if slack < 0 {
+        return true;
+    }
+    arrays::magnitude(slack) <= gap(level, bound)
 }
 
 // The first step whose bound less its slack reaches the level, the length where there is none.
 fn first_hit(level: i64, bounds: &[i64], slacks: &[i64]) -> usize
-    requires { ⌜ Slacks (now bounds) (now slacks) ⌝ }
+    requires { ⌜ length (now slacks) ≡ length (now bounds) ⌝ }
     ensures { λ k. ⌜ k ≡ firstPlace (length (now (bounds .entry))) (listHit level (now (bounds .entry)) (now (slacks .entry))) ⌝ }
 {
     let mut k: usize = 0;
@@ -72,11 +76,13 @@ fn first_unknown(level: i64, bounds: &[i64]) -> usize
     k
 }
 
-// HIT, else UNKNOWN, else CLEAR.
+// HIT, else UNKNOWN, else CLEAR; 13 where the lists are not as long as each other.
 pub(crate) fn verdict_of(level: i64, bounds: &[i64], slacks: &[i64]) -> Judged
-    requires { ⌜ Slacks (now bounds) (now slacks) ⌝ }
-    ensures { λ a. ⌜ a ≡ listVerdict level (now (bounds .entry)) (now (slacks .entry)) ⌝ }
+    ensures { λ a. ⌜ a ≡ listAnswer level (now (bounds .entry)) (now (slacks .entry)) ⌝ }
 {
+    if slacks.len() != bounds.len() {
+        return Judged::WrongLength;
+    }
     let h = first_hit(level, bounds, slacks);
     if h < bounds.len() {
         return Judged::Hit(h);

@@ -1,19 +1,16 @@
 -- `reachability::judge::judge` meets its contract: a test that fails gives its refusal with both lists kept; otherwise the sweep's
--- answer settles the judge's. Assumes nothing.
+-- answer and lists settle the judge's. Assumes nothing.
 use Rattle.integers.proofs.Basics.{_≡_, refl, sym, ap, _∙_, true, ℕ, _<_, arith, needs, getD, ℤ, w64}
 use mathlib.Core.List.{List}
 use borrow.Author.Tests.{not-true, not-false}
-use lib.Dec.{eqb}
 use Rattle.integers.specs.Sums.{vector}
 use Rattle.integers.proofs.Machine.{read-given}
 use Rattle.reachability.specs.Limits.{accepted}
-use Rattle.reachability.specs.Verdicts.{listVerdict}
-use Rattle.reachability.specs.Answers.{SweepLeaves, JudgeLeaves, sweptNumber}
+use Rattle.reachability.specs.Verdicts.{sweptVerdict}
+use Rattle.reachability.specs.Answers.{SweepLeaves}
 use Rattle.reachability.specs.declared.model.Model.{Model}
-use Rattle.reachability.specs.declared.sweep.Swept.{Swept}
-use Rattle.reachability.specs.declared.judge.Judged.{Judged}
-use Rattle.reachability.specs.declared.judge.Judged.the-variants.{Invalid, NoGuard, WrongLength, Growth}
-use Rattle.reachability.proofs.JudgeAnswers.{carried, judge-refuses, judged-invalid, judged-no-guard, guard-below, swept-slacks, judges}
+use Rattle.reachability.specs.declared.judge.Judged.the-variants.{Invalid, NoGuard}
+use Rattle.reachability.proofs.JudgeAnswers.{judge-refuses, judged-invalid, judged-no-guard, guard-below, judges}
 use Rattle.reachability.proofs.judge.judge.Statement.{statement}
 use Rattle.reachability.proofs.judge.judge.Tie as tie
 
@@ -66,9 +63,6 @@ array-copy-out-level c = below (c .before .before)
 sweep-requires : tie.Need-sweep-requires
 sweep-requires c κs = search needs
 
-enum-told : tie.Need-enum-told
-enum-told c = search needs
-
 -- what the sweep left and answered
 module _ (c : tie.After-sweep) where
   abbrev tested : tie.Else2
@@ -86,26 +80,8 @@ module _ (c : tie.After-sweep) where
   left : SweepLeaves (m at) (getD (m at .watched) (g at) 0) (b₀ at) (s₀ at) (c .sweep .result) b s
   left = c .sweep .ensures
 
-  settled : (r : Judged) → r ≡ carried (c .sweep .result) (listVerdict (vector (m at .levels) (g at)) b s) → JudgeLeaves (m at) (g at) (b₀ at) (s₀ at) r b s
-  settled r e = judges (m at) (g at) (ok at) (tested .if2 .left) (b₀ at) (s₀ at) (c .sweep .result) b s r left e
-
-verdict-of-requires : tie.Need-verdict-of-requires
-verdict-of-requires c κs =
-    let swept = c .before .before .before .before .before .before in
-    let told = c .before .before in
-    swept-slacks (m (at swept)) (g (at swept)) (ok (at swept)) (tested swept .if2 .left) (b₀ (at swept)) (s₀ (at swept)) (swept .sweep .result) (b swept) (s swept) (ap sweptNumber (told .enum-told .given .1)) (left swept)
-
-enum-told-2 : tie.Need-enum-told-2
-enum-told-2 c = search needs
-
-enum-told-3 : tie.Need-enum-told-3
-enum-told-3 c = search needs
-
-enum-told-4 : tie.Need-enum-told-4
-enum-told-4 c = search needs
-
-enum-known-k : tie.Need-enum-known-k
-enum-known-k c = search needs
+verdict-requires : tie.Need-verdict-requires
+verdict-requires c κs = search needs
 
 same-length : tie.Need-same-length
 same-length c = search needs
@@ -113,51 +89,12 @@ same-length c = search needs
 same-length-2 : tie.Need-same-length-2
 same-length-2 c = search needs
 
-same-length-3 : tie.Need-same-length-3
-same-length-3 c = search needs
-
-same-length-4 : tie.Need-same-length-4
-same-length-4 c = search needs
-
-same-length-5 : tie.Need-same-length-5
-same-length-5 c = search needs
-
-same-length-6 : tie.Need-same-length-6
-same-length-6 c = search needs
-
-same-length-7 : tie.Need-same-length-7
-same-length-7 c = search needs
-
-same-length-8 : tie.Need-same-length-8
-same-length-8 c = search needs
-
-same-length-9 : tie.Need-same-length-9
-same-length-9 c = search needs
-
-same-length-10 : tie.Need-same-length-10
-same-length-10 c = search needs
-
 returns-3 : tie.Need-returns-3
 returns-3 c =
-    let told = c .before .before .before in
-    let swept = told .before .before .before .before in
-    settled swept (c .verdict-of .result) (c .verdict-of .ensures ∙ ap (λ (z : ℤ). listVerdict z (b swept) (s swept)) (read-given w64 (vector (m (at swept) .levels) (g (at swept))) (swept .before .before .before .level .given)) ∙ sym (ap (λ (a : Swept). carried a (listVerdict (vector (m (at swept) .levels) (g (at swept))) (b swept) (s swept))) (told .enum-told .given .1)))
-
--- a refusal of the sweep is the judge's
-carries : (c : tie.After-sweep) (a : Swept) → c .sweep .result ≡ a → (r : Judged) → r ≡ carried a (listVerdict (vector (m (at c) .levels) (g (at c))) (b c) (s c)) → JudgeLeaves (m (at c)) (g (at c)) (b₀ (at c)) (s₀ (at c)) r (b c) (s c)
-carries c a e r f = settled c r (f ∙ sym (ap (λ (x : Swept). carried x (listVerdict (vector (m (at c) .levels) (g (at c))) (b c) (s c))) e))
-
-returns-4 : tie.Need-returns-4
-returns-4 c = carries (c .before .before .before .before) _ (c .enum-told2 .given .1) Invalid refl
-
-returns-5 : tie.Need-returns-5
-returns-5 c = carries (c .before .before .before .before) _ (c .enum-told3 .given .1) NoGuard refl
-
-returns-6 : tie.Need-returns-6
-returns-6 c = carries (c .before .before .before .before) _ (c .enum-told4 .given .1) WrongLength refl
-
-returns-7 : tie.Need-returns-7
-returns-7 c = carries (c .before .before .before .before .before) _ (c .before .k .given .1) (Growth (c .before .k .given .0 .0)) refl
+    let w = c .before .before .before .before .before in
+    let l = vector (m (at w) .levels) (g (at w)) in
+    judges (m (at w)) (g (at w)) (ok (at w)) (tested w .if2 .left) (b₀ (at w)) (s₀ (at w)) (w .sweep .result) (b w) (s w) (c .verdict .result) (left w)
+    (c .verdict .ensures ∙ ap (λ (z : ℤ). sweptVerdict (w .sweep .result) z (b w) (s w)) (read-given w64 l (w .before .before .before .level .given)))
 
 pub judge-spec : {M : Type 1} → statement M
 judge-spec =
@@ -171,24 +108,7 @@ judge-spec =
     mul-level
     array-copy-out-level
     sweep-requires
-    enum-told
-    verdict-of-requires
-    enum-told-2
-    enum-told-3
-    enum-told-4
-    enum-known-k
+    verdict-requires
     same-length
     same-length-2
-    returns-3
-    same-length-3
-    same-length-4
-    returns-4
-    same-length-5
-    same-length-6
-    returns-5
-    same-length-7
-    same-length-8
-    returns-6
-    same-length-9
-    same-length-10
-    returns-7)
+    returns-3)

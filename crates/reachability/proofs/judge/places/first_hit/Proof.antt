@@ -3,11 +3,8 @@
 use Rattle.integers.proofs.Basics.{_≡_, sym, ap, ap₂, subst, _∙_, Bool, false, ℕ, _-_, _≤_, _<_, arith, needs, length, ℤ, _-ℤ_, w64, toZ, ofZ, toZ-ofZ}
 use borrow.Author.Count.{below-none, below-more}
 use mathlib.Core.List.{List}
-use lib.Dec.{T}
-use lib.Signed.{nonNeg}
 use Rattle.integers.specs.Sums.{vector}
 use Rattle.integers.proofs.Machine.{read-given}
-use Rattle.reachability.specs.Inner.{SlackNatural}
 use Rattle.reachability.specs.Verdicts.{reaches, listHit}
 use Rattle.reachability.proofs.FirstPlace.{firstPlace-is, firstPlace-none}
 use Rattle.reachability.proofs.judge.places.first_hit.Statement.{statement}
@@ -32,13 +29,10 @@ mul-hits-2 : tie.Need-mul-hits-2 Inv-loop μ-loop
 mul-hits-2 c = search needs
 
 shared-slice-copy-out-hits-2 : tie.Need-shared-slice-copy-out-hits-2 Inv-loop μ-loop
-shared-slice-copy-out-hits-2 c = omega (arith, c .before .before .before .pre .as-many)
+shared-slice-copy-out-hits-2 c = omega (arith, c .before .before .before .pre)
 
 hits-requires : tie.Need-hits-requires Inv-loop μ-loop
-hits-requires c κs =
-    let at = c .before .before .before .before in
-    let k = c .before .before .before .loop .k in
-    record { natural = subst (λ (z : ℤ). T (nonNeg z)) (sym (read-given w64 (vector (at .args .slacks .now) k) (c .hits-arg2 .given))) (at .pre .natural k (omega arith)) }
+hits-requires c κs = search needs
 
 -- what the call says of the step
 module _ (c : tie.After-hits Inv-loop μ-loop) where
