@@ -96,6 +96,9 @@ verdict-number m d level = cases (leb (firstPlace (suc (m .steps)) (hitAt m d le
 
 -- ---- what a judge makes of a sweep's answer
 
+pub guards-most : (m : Model) → accepted m ≡ true → m .guards ≤ 16
+guards-most m ok = leb-true (m .guards) 16 (and-true (leb (m .guards) 16) _ (model-facts m ok .guards) .0)
+
 module _ (m : Model) (g : ℕ) where
   abbrev d : ℕ
   d = getD (m .watched) g 0
@@ -134,10 +137,10 @@ module _ (m : Model) (g : ℕ) where
 
   module _ (ok : accepted m ≡ true) (inside : g < m .guards) where
     pub guard-below : g < 16
-    guard-below = native.Mathlib.Nat.lt-of-lt-of-le inside (leb-true (m .guards) 16 (and-true (leb (m .guards) 16) _ (model-facts m ok .guards) .0))
+    guard-below = native.Mathlib.Nat.lt-of-lt-of-le inside (guards-most m ok)
 
     -- the guard watches a direction
-    watches : d < m .directions
+    pub watches : d < m .directions
     watches =
         let tests = and-true (leb (m .guards) 16) (allBelow 16 (λ i. guardOk (m .directions) (m .guards) i (getD (m .watched) i 0) (vector (m .levels) i))) (model-facts m ok .guards) in
         let one = allBelow-at 16 (λ i. guardOk (m .directions) (m .guards) i (getD (m .watched) i 0) (vector (m .levels) i)) (tests .1) g guard-below in

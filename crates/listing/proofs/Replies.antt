@@ -1,0 +1,61 @@
+-- The text of a file's reading at the start of the buffer is what `reply` should leave. Assumes nothing.
+use mathlib.Core.Path.{_≡_, refl, sym, ap, ap₂, subst, _∙_}
+use mathlib.Core.Bool.{Bool, true, false, cond}
+use mathlib.Core.List.{List, [], _++_}
+use Prim.Native.Nat.{ℕ, _+_, _≤_, _<_}
+use native.Mathlib.Nat.{zero-add}
+use native.Mathlib.Omega.{arith}
+use borrow.Author.Tests.{le-leb, lt-leb}
+use lib.Dec.{leb}
+use lib.ListN.{length, drop, length-append}
+use Rattle.reachability.specs.Limits.{accepted}
+use Rattle.reader.specs.Reading.{readModel}
+use Rattle.reader.specs.declared.Reading.{Reading}
+use Rattle.reader.specs.declared.Status.{Status}
+use Rattle.reader.specs.declared.Status.the-variants.{Read}
+use Rattle.reader.proofs.ReadModels.{readModel-accepted}
+use Rattle.listing.specs.Listing.{statusText, replyText, replyRoom, ReplyLeaves}
+use Rattle.listing.specs.Inner.{Put}
+use Rattle.listing.proofs.Putting.{put-is}
+
+module _ (file out₀ : List ℕ) where
+  pub reply-none : length out₀ < replyRoom → ReplyLeaves file out₀ out₀ 0
+  reply-none h =
+      let small = lt-leb replyRoom (length out₀) h in
+      record {
+        count = sym (ap (λ (t : Bool). cond t (length (replyText file)) 0) small);
+        text = sym (ap (λ (t : Bool). cond t (replyText file ++ drop (length (replyText file)) out₀) out₀) small);
+      }
+
+  module _ (room : replyRoom ≤ length out₀) (reading : Reading) (is : reading ≡ readModel file) where
+    pub reply-accepts : reading .status ≡ Read → accepted (reading .model) ≡ true
+    reply-accepts e = ap (λ (r : Reading). accepted (r .model)) is ∙ readModel-accepted file (sym (ap (λ (r : Reading). r .status) is) ∙ e)
+
+    -- from the text of the status that was told
+    pub reply-told : (status : Status) → reading .status ≡ status → (most r : ℕ) (out : List ℕ) → Put most 0 (statusText status (reading .model)) out₀ out r → ReplyLeaves file out₀ out r
+    unfolding replyText
+    reply-told status e most r out p =
+        record {
+          count = p .end ∙ zero-add (length t) ∙ ap length text-is ∙ sym (ap (λ (b : Bool). cond b (length (replyText file)) 0) large);
+          text = p .text ∙ ap (λ (k : ℕ). t ++ drop k out₀) (zero-add (length t)) ∙ ap (λ (x : List ℕ). x ++ drop (length x) out₀) text-is ∙ sym (ap (λ (b : Bool). cond b (replyText file ++ drop (length (replyText file)) out₀) out₀) large);
+        }
+      where
+        t : List ℕ
+        t = statusText status (reading .model)
+
+        text-is : t ≡ replyText file
+        text-is = sym (ap (λ (s : Status). statusText s (reading .model)) e) ∙ ap (λ (r : Reading). statusText (r .status) (r .model)) is
+
+        large : leb replyRoom (length out₀) ≡ true
+        large = le-leb replyRoom (length out₀) room
+
+-- what was written lies in the buffer
+pub reply-inside : (file out₀ out : List ℕ) (r : ℕ) → ReplyLeaves file out₀ out r → r ≤ length out
+reply-inside file out₀ out r p = cases (leb replyRoom (length out₀)) (p .count) (p .text)
+  where
+    t : List ℕ
+    t = replyText file
+
+    cases : (b : Bool) → r ≡ cond b (length t) 0 → out ≡ cond b (t ++ drop (length t) out₀) out₀ → r ≤ length out
+    cases true e f = omega (arith, e, ap length f, length-append t (drop (length t) out₀))
+    cases false e f = omega (arith, e)

@@ -1,0 +1,88 @@
+-- `listing::directions::put_rows` meets its contract: the rows of the steps passed stand in the buffer. The measure is what is left
+-- of the list. Assumes nothing.
+use Rattle.integers.proofs.Basics.{_≡_, refl, sym, ap, ap₂, subst, _∙_, ℕ, suc, _+_, _*_, _-_, _≤_, _<_, arith, add-one, needs, length, getD, set, ℤ, pos, natAbs, w64, toZ, ofZ, toZ-ofZ}
+use mathlib.Core.List.{List, [], _∷_, _++_}
+use Rattle.integers.specs.Sums.{vector}
+use Rattle.integers.proofs.Machine.{read-given}
+use Rattle.listing.specs.Text.{each}
+use Rattle.listing.specs.Listing.{rowText}
+use Rattle.listing.specs.Inner.{Put}
+use Rattle.listing.proofs.Putting.{put-then, put-is, put-most, put-none, put-length, put-near}
+use Rattle.listing.proofs.directions.put_rows.Statement.{statement}
+use Rattle.listing.proofs.directions.put_rows.Tie as tie
+
+-- the rows of the first steps
+abbrev rows : List ℤ → List ℤ → ℕ → List ℕ
+rows bounds slacks k = each k (λ j. rowText j (vector bounds j) (vector slacks j))
+
+abbrev Inv-loop : tie.InvT-loop
+Inv-loop out₀ at bounds slacks end₀ k₀ out end k = (k ≤ length bounds) × Put (k * 65) at (rows bounds slacks k) out₀ out end
+
+abbrev μ-loop : tie.MeasureT-loop
+μ-loop out₀ at bounds slacks end₀ k₀ out end k = length bounds - k
+
+loop-holds : tie.Need-loop-holds Inv-loop μ-loop
+loop-holds c =
+    let a = c .before .args in
+    (omega arith, put-none 0 (a .at) (a .out .now) (omega (arith, c .before .pre .1)))
+
+mul-put-row : tie.Need-mul-put-row Inv-loop μ-loop
+mul-put-row c = search needs
+
+shared-slice-copy-out-put-row : tie.Need-shared-slice-copy-out-put-row Inv-loop μ-loop
+shared-slice-copy-out-put-row c = c .before .loop-test .taken
+
+mul-put-row-2 : tie.Need-mul-put-row-2 Inv-loop μ-loop
+mul-put-row-2 c = search needs
+
+shared-slice-copy-out-put-row-2 : tie.Need-shared-slice-copy-out-put-row-2 Inv-loop μ-loop
+shared-slice-copy-out-put-row-2 c = omega (arith, c .before .before .before .before .before .pre .0, c .before .before .loop-test .taken)
+
+put-row-requires : tie.Need-put-row-requires Inv-loop μ-loop
+put-row-requires c κs =
+    let so = c .before .before .before .before .loop .inv in
+    omega (arith, put-length (so .1), put-near (so .1), c .before .before .before .before .before .before .pre .1, c .before .before .before .loop-test .taken)
+
+add-k : tie.Need-add-k Inv-loop μ-loop
+add-k c = omega arith
+
+loop-less : tie.Need-loop-less Inv-loop μ-loop
+loop-less c = omega arith
+
+loop-again : tie.Need-loop-again Inv-loop μ-loop
+loop-again c =
+    let l = c .before .before .before .before .before .before .before in
+    let a = c .before .before .before .before .before .before .before .before .before .args in
+    let k = l .loop .k in
+    let row-is = ap₂ (rowText k) (read-given w64 (vector (a .bounds .now) k) (c .before .before .before .before .put-row-arg2 .given)) (read-given w64 (vector (a .slacks .now) k) (c .before .before .before .put-row-arg3 .given)) in (
+      omega arith,
+      subst (λ (j : ℕ). Put (j * 65) (a .at) (rows (a .bounds .now) (a .slacks .now) j) (a .out .now) (c .before .before .put-row .last .0) (c .before .before .put-row .result)) (sym (add-one k)) (put-most (suc k * 65) (omega arith) (put-then (l .loop .inv .1) (put-is _ row-is (c .before .before .put-row .ensures)))),
+    )
+
+same-length : tie.Need-same-length Inv-loop μ-loop
+same-length c = put-length (c .before .loop .inv .1)
+
+returns : tie.Need-returns Inv-loop μ-loop
+returns c =
+    let l = c .before in
+    let a = c .before .before .before .args in
+    let all : l .loop .k ≡ length (a .bounds .now) = omega (arith, l .loop .inv .0, c .loop-test .left) in
+    subst (λ (j : ℕ). Put (j * 65) (a .at) (rows (a .bounds .now) (a .slacks .now) j) (a .out .now) (l .loop .out) (l .loop .end)) all (l .loop .inv .1)
+
+pub put-rows-spec : {M : Type 1} → statement M
+put-rows-spec =
+    tie.close
+    (tie.spec
+    Inv-loop
+    μ-loop
+    loop-holds
+    mul-put-row
+    shared-slice-copy-out-put-row
+    mul-put-row-2
+    shared-slice-copy-out-put-row-2
+    put-row-requires
+    add-k
+    loop-less
+    loop-again
+    same-length
+    returns)

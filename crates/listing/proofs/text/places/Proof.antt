@@ -1,0 +1,49 @@
+-- `listing::text::places` meets its contract: k counts the digits passed and the one that is left. The measure is the rest, which
+-- a division by ten makes smaller. Assumes nothing.
+use Rattle.integers.proofs.Basics.{_≡_, refl, sym, ap, _∙_, ℕ, suc, _+_, _<_, arith, add-one, length}
+use mathlib.Core.List.{List, [], _∷_}
+use Prim.Native.Nat.{_%_, _/_}
+use Rattle.listing.specs.Text.{digit, decimal}
+use Rattle.listing.proofs.Decimals.{Digits, digits-none, digits-more, digits-length, digits-left, length-decimal}
+use Rattle.listing.proofs.text.places.Statement.{statement}
+use Rattle.listing.proofs.text.places.Tie as tie
+
+record So (n rest k : ℕ) : Type 0 where
+  t : List ℕ
+  digits : Digits n rest t
+  count : k ≡ suc (length t)
+
+abbrev Inv-loop : tie.InvT-loop
+Inv-loop n rest₀ k₀ rest k = So n rest k
+
+abbrev μ-loop : tie.MeasureT-loop
+μ-loop n rest₀ k₀ rest k = rest
+
+loop-holds : tie.Need-loop-holds Inv-loop μ-loop
+loop-holds c = record { t = []; digits = digits-none (c .args .n) (c .fits .n .fits); count = refl }
+
+add-k : tie.Need-add-k Inv-loop μ-loop
+add-k c =
+    let so = c .before .loop .inv in
+    omega (arith, so .count, digits-left _ _ _ (so .digits), length-decimal (c .before .before .args .n))
+
+loop-less : tie.Need-loop-less Inv-loop μ-loop
+loop-less c = omega arith
+
+loop-again : tie.Need-loop-again Inv-loop μ-loop
+loop-again c =
+    let so = c .before .loop .inv in
+    let rest = c .before .loop .rest in
+    record {
+      t = digit (rest % 10) ∷ so .t;
+      digits = digits-more (c .before .before .args .n) rest (so .t) (c .loop-test .taken) (so .digits);
+      count = add-one (c .before .loop .k) ∙ ap suc (so .count);
+    }
+
+returns : tie.Need-returns Inv-loop μ-loop
+returns c =
+    let so = c .before .loop .inv in
+    so .count ∙ sym (digits-length (c .before .before .args .n) (c .before .loop .rest) (so .t) (c .loop-test .left) (so .digits))
+
+pub places-spec : {M : Type 1} → statement M
+places-spec = tie.close (tie.spec Inv-loop μ-loop loop-holds add-k loop-less loop-again returns)

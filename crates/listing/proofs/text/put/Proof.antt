@@ -1,0 +1,81 @@
+-- `listing::text::put` meets its contract: the bytes passed stand in the buffer. The measure is what is left of the word.
+-- Assumes nothing.
+use Rattle.integers.proofs.Basics.{_≡_, refl, sym, ap, _∙_, ℕ, _+_, _-_, _≤_, arith, add-one, needs, length, getD, set, Fits, w64}
+use mathlib.Core.List.{List}
+use lib.Seq.{paste, paste-zero, paste-suc, length-paste}
+use Rattle.listing.specs.Inner.{splice}
+use Rattle.listing.proofs.Putting.{splice-paste}
+use Rattle.listing.proofs.text.put.Statement.{statement}
+use Rattle.listing.proofs.text.put.Tie as tie
+
+abbrev Inv-loop : tie.InvT-loop
+Inv-loop out₀ at word i₀ out i = (i ≤ length word) × (out ≡ paste out₀ at word i)
+
+abbrev μ-loop : tie.MeasureT-loop
+μ-loop out₀ at word i₀ out i = length word - i
+
+loop-holds : tie.Need-loop-holds Inv-loop μ-loop
+loop-holds c = (omega arith, paste-zero (c .args .out .now) (c .args .at) (c .args .word .now))
+
+-- what the bytes passed leave
+long : (b : List ℕ) (at : ℕ) (w : List ℕ) (i : ℕ) (c : List ℕ) → at + length w ≤ length b → (i ≤ length w) × (c ≡ paste b at w i) → length c ≡ length b
+long b at w i c h so = ap length (so .1) ∙ length-paste b at w i (omega (arith, h, so .0)) (so .0)
+
+shared-slice-read-out : tie.Need-shared-slice-read-out Inv-loop μ-loop
+shared-slice-read-out c = omega arith
+
+add-out : tie.Need-add-out Inv-loop μ-loop
+add-out c = search needs
+
+slice-write-out : tie.Need-slice-write-out Inv-loop μ-loop
+slice-write-out c = omega (arith, long _ _ _ _ _ (c .before .before .before .pre) (c .before .before .loop .inv), c .before .before .before .pre, c .before .loop-test .taken)
+
+add-i : tie.Need-add-i Inv-loop μ-loop
+add-i c = omega arith
+
+loop-less : tie.Need-loop-less Inv-loop μ-loop
+loop-less c = omega arith
+
+loop-again : tie.Need-loop-again Inv-loop μ-loop
+loop-again c =
+    let l = c .before .before in
+    let a = l .before .args in
+    let i = l .loop .i in (
+      omega arith,
+      ap (λ (x : List ℕ). set x (a .at + i) (getD (a .word .now) i 0)) (l .loop .inv .1) ∙ paste-suc (a .out .now) (a .at) (a .word .now) i 0 (omega (arith, l .before .pre, c .before .loop-test .taken)) (c .before .loop-test .taken) ∙ sym (ap (paste (a .out .now) (a .at) (a .word .now)) (add-one i)),
+    )
+
+add-result : tie.Need-add-result Inv-loop μ-loop
+add-result c = search needs
+
+same-length : tie.Need-same-length Inv-loop μ-loop
+same-length c = long _ _ _ _ _ (c .before .before .pre) (c .before .loop .inv)
+
+returns : tie.Need-returns Inv-loop μ-loop
+returns c =
+    let l = c .before in
+    let a = l .before .args in
+    let all : l .loop .i ≡ length (a .word .now) = omega (arith, l .loop .inv .0, c .loop-test .left) in
+    record {
+      end = ap (λ (k : ℕ). a .at + k) all;
+      small = omega arith;
+      room = omega (arith, all, l .before .pre);
+      text = l .loop .inv .1 ∙ ap (paste (a .out .now) (a .at) (a .word .now)) all ∙ splice-paste (a .out .now) (a .at) (a .word .now);
+    }
+
+pub put-spec : {M : Type 1} → statement M
+put-spec =
+    tie.close
+    (tie.spec
+    Inv-loop
+    μ-loop
+    loop-holds
+    shared-slice-read-out
+    add-out
+    slice-write-out
+    add-i
+    loop-less
+    loop-again
+    add-result
+    same-length
+    returns)

@@ -1,0 +1,60 @@
+-- `listing::text::put_signed` meets its contract: the sign, where there is one, and the magnitude. Assumes nothing.
+use Rattle.integers.proofs.Basics.{_≡_, refl, sym, ap, ap₂, subst, _∙_, ℕ, suc, _+_, _*_, _-_, _≤_, _<_, arith, add-one, needs, length, getD, set, ℤ, pos, natAbs, w64, toZ, ofZ, toZ-ofZ}
+use mathlib.Core.List.{List, [], _∷_, _++_}
+use lib.Signed.{ltZ}
+use Rattle.listing.specs.Text.{word, decimal, signedDecimal}
+use Rattle.listing.proofs.Decimals.{signed-below, signed-above}
+use Rattle.listing.proofs.Putting.{put-then, put-is, put-most}
+use Rattle.listing.proofs.text.put_signed.Statement.{statement}
+use Rattle.listing.proofs.text.put_signed.Tie as tie
+
+slice-aggregate-put : tie.Need-slice-aggregate-put
+slice-aggregate-put c = search needs
+
+put-requires : tie.Need-put-requires
+put-requires c κs = search needs
+
+magnitude-requires : tie.Need-magnitude-requires
+magnitude-requires c κs = search needs
+
+put-decimal-requires : tie.Need-put-decimal-requires
+put-decimal-requires c κs = search needs
+
+same-length : tie.Need-same-length
+same-length c = search needs
+
+returns : tie.Need-returns
+returns c =
+    let at = c .before .before .before .before .before .before .before .before .before .before .before .before in
+    let size = ap decimal (c .before .before .before .magnitude .ensures ∙ ap natAbs (toZ-ofZ (at .fits .x))) in
+    put-is _ (signed-below (at .args .x) (simp (toZ-ofZ (at .fits .x)) at (c .before .before .before .before .before .before .before .before .before .before .if1 .taken))) (put-then (c .before .before .before .before .before .before .before .put .ensures) (put-is _ size (c .before .before .put-decimal .ensures)))
+
+magnitude-requires-2 : tie.Need-magnitude-requires-2
+magnitude-requires-2 c κs = search needs
+
+put-decimal-requires-2 : tie.Need-put-decimal-requires-2
+put-decimal-requires-2 c κs = search needs
+
+same-length-2 : tie.Need-same-length-2
+same-length-2 c = search needs
+
+returns-2 : tie.Need-returns-2
+returns-2 c =
+    let at = c .before .before .before .before .before .before .before in
+    let size = ap decimal (c .before .before .before .magnitude2 .ensures ∙ ap natAbs (toZ-ofZ (at .fits .x))) in
+    put-is _ (signed-above (at .args .x) (simp (toZ-ofZ (at .fits .x)) at (c .before .before .before .before .before .if1 .left))) (put-most 21 (omega arith) (put-is _ size (c .before .before .put-decimal2 .ensures)))
+
+pub put-signed-spec : {M : Type 1} → statement M
+put-signed-spec =
+    tie.close
+    (tie.spec
+    slice-aggregate-put
+    put-requires
+    magnitude-requires
+    put-decimal-requires
+    same-length
+    returns
+    magnitude-requires-2
+    put-decimal-requires-2
+    same-length-2
+    returns-2)

@@ -1,0 +1,42 @@
+-- Document 01, "Figures to test against", of the listing: "Each line ends in a line feed; numbers are decimal." Words, numbers and
+-- lines as lists of bytes. Definitions only. Assumes nothing.
+use mathlib.Core.Bool.{cond}
+use mathlib.Core.List.{List, [], _∷_, _++_}
+use Prim.Native.Nat.{ℕ, zero, suc, _+_, _/_, _%_}
+use Prim.Native.Char.{Char, code}
+use Prim.Native.String.{String}
+use Prim.Native.String.{[] as noText, _∷_ as _then_}
+use lib.Dec.{ltb}
+use lib.IntN.{ℤ, pos, negsuc}
+
+-- The bytes of a quoted text in ASCII.
+abbrev pub word : String → List ℕ
+word noText = []
+word (c then s) = code c ∷ word s
+
+-- The byte of a digit 0 to 9.
+abbrev pub digit : ℕ → ℕ
+digit d = 48 + d
+
+-- The decimal digits of a number below 10 ^ places, without zeros in front.
+abbrev pub decimalFor : ℕ → ℕ → List ℕ
+decimalFor zero n = []
+decimalFor (suc places) n = cond (ltb n 10) (digit n ∷ []) (decimalFor places (n / 10) ++ (digit (n % 10) ∷ []))
+
+-- "numbers are decimal": no number of 64 bits has more than twenty digits.
+unfoldable pub decimal : ℕ → List ℕ
+decimal n = decimalFor 20 n
+
+-- A whole number that may be below 0.
+abbrev pub signedDecimal : ℤ → List ℕ
+signedDecimal (pos n) = decimal n
+signedDecimal (negsuc n) = word "-" ++ decimal (suc n)
+
+-- Two words with a number behind each: "Each line ends in a line feed".
+abbrev pub line : List ℕ → ℕ → List ℕ → ℕ → List ℕ
+line first a second b = first ++ decimal a ++ second ++ decimal b ++ word "\n"
+
+-- The texts number 0 to n - 1, one behind the other.
+abbrev pub each : ℕ → (ℕ → List ℕ) → List ℕ
+each zero text = []
+each (suc n) text = each n text ++ text n

@@ -1,0 +1,80 @@
+// Text in a lent buffer. Each function writes from index `at` on and answers the index behind what it wrote.
+ghost use mathlib.Core.Path.{_≡_};
+ghost use Prim.Native.Nat.{_+_, _≤_};
+ghost use lib.ListN.{length};
+ghost use Rattle.listing.specs.Text.{decimal, signedDecimal, line};
+ghost use Rattle.listing.specs.Inner.{Put};
+
+// The bytes of a word.
+pub(crate) fn put(out: &mut [u8], at: usize, word: &[u8]) -> usize
+    requires { ⌜ at + length (now word) ≤ length (now out) ⌝ }
+    ensures { λ r. ⌜ Put (length (now (word .entry))) at (now (word .entry)) (now (out .entry)) (now (out .exit)) r ⌝ }
+{
+    let mut i: usize = 0;
+    while i < word.len() {
+        out[at + i] = word[i];
+        i += 1;
+    }
+    at + i
+}
+
+// How many decimal digits n has.
+fn places(n: u64) -> usize
+    ensures { λ k. ⌜ k ≡ length (decimal n) ⌝ }
+{
+    let mut rest = n;
+    let mut k: usize = 1;
+    while 10 <= rest {
+        rest /= 10;
+        k += 1;
+    }
+    k
+}
+
+// n in decimal, from its last digit to its first.
+pub(crate) fn put_decimal(out: &mut [u8], at: usize, n: u64) -> usize
+    requires { ⌜ at + 20 ≤ length (now out) ⌝ }
+    ensures { λ r. ⌜ Put 20 at (decimal n) (now (out .entry)) (now (out .exit)) r ⌝ }
+{
+    let end = at + places(n);
+    let mut rest = n;
+    let mut i = end;
+    while 10 <= rest {
+        i -= 1;
+        out[i] = 48 + (rest % 10) as u8;
+        rest /= 10;
+    }
+    out[at] = 48 + rest as u8;
+    end
+}
+
+// x in decimal, with a minus sign below 0.
+pub(crate) fn put_signed(out: &mut [u8], at: usize, x: i64) -> usize
+    requires { ⌜ at + 21 ≤ length (now out) ⌝ }
+    ensures { λ r. ⌜ Put 21 at (signedDecimal x) (now (out .entry)) (now (out .exit)) r ⌝ }
+{
+    if x < 0 {
+        let start = put(out, at, b"-");
+        return put_decimal(out, start, arrays::magnitude(x));
+    }
+    put_decimal(out, at, arrays::magnitude(x))
+}
+
+// A line of two words with a number behind each.
+pub(crate) fn put_line(
+    out: &mut [u8],
+    at: usize,
+    first: &[u8],
+    a: u64,
+    second: &[u8],
+    b: u64,
+) -> usize
+    requires { ⌜ at + (length (now first) + 20 + length (now second) + 20 + 1) ≤ length (now out) ⌝ }
+    ensures { λ r. ⌜ Put (length (now (first .entry)) + 20 + length (now (second .entry)) + 20 + 1) at (line (now (first .entry)) a (now (second .entry)) b) (now (out .entry)) (now (out .exit)) r ⌝ }
+{
+    let mut end = put(out, at, first);
+    end = put_decimal(out, end, a);
+    end = put(out, end, second);
+    end = put_decimal(out, end, b);
+    put(out, end, b"\n")
+}
