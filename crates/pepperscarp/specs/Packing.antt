@@ -1,0 +1,62 @@
+-- An answer in one number: document 01's number in bits 0 to 7, a verdict in bits 8 to 15, a figure from bit 16 on. Definitions
+-- only. Assumes nothing.
+use Prim.Native.Nat.{ℕ, _+_, _*_}
+use Rattle.stepping.specs.Refusals.{steppedNumber}
+use Rattle.stepping.specs.declared.Stepped.{Stepped}
+use Rattle.stepping.specs.declared.Stepped.the-variants.{Sum, Refused}
+use Rattle.reachability.specs.Answers.{sweptNumber, judgedNumber}
+use Rattle.reachability.specs.declared.sweep.Swept.{Swept}
+use Rattle.reachability.specs.declared.sweep.Swept.the-variants as S
+use Rattle.reachability.specs.declared.judge.Judged.{Judged}
+use Rattle.reachability.specs.declared.judge.Judged.the-variants as J
+
+-- Number, verdict and figure side by side.
+abbrev pub packed : ℕ → ℕ → ℕ → ℕ
+packed number verdict figure = number + 256 * verdict + 65536 * figure
+
+-- A figure below 2 to the 48 leaves the answer below 2 to the 64.
+abbrev pub figureLimit : ℕ
+figureLimit = 281474976710656
+
+-- The figure of a step: the growth sum of what it left.
+abbrev pub steppedFigure : Stepped → ℕ
+steppedFigure (Sum s) = s
+steppedFigure Refused = 0
+
+-- The figure of a sweep: the spare figure, or the first step with growth.
+abbrev pub sweptFigure : Swept → ℕ
+sweptFigure (S.Spare h) = h
+sweptFigure S.Invalid = 0
+sweptFigure S.NoDirection = 0
+sweptFigure S.WrongLength = 0
+sweptFigure (S.Growth k) = k
+
+-- The verdict of a judge: 1 HIT, 2 UNKNOWN, 3 CLEAR, 0 where the judge refuses.
+abbrev pub judgedVerdict : Judged → ℕ
+judgedVerdict (J.Hit k) = 1
+judgedVerdict (J.Unknown k) = 2
+judgedVerdict J.Clear = 3
+judgedVerdict J.Invalid = 0
+judgedVerdict J.NoGuard = 0
+judgedVerdict J.WrongLength = 0
+judgedVerdict (J.Growth k) = 0
+
+-- The figure of a judge: the step that the verdict names, or the first step with growth.
+abbrev pub judgedFigure : Judged → ℕ
+judgedFigure (J.Hit k) = k
+judgedFigure (J.Unknown k) = k
+judgedFigure J.Clear = 0
+judgedFigure J.Invalid = 0
+judgedFigure J.NoGuard = 0
+judgedFigure J.WrongLength = 0
+judgedFigure (J.Growth k) = k
+
+-- Each answer in one number.
+abbrev pub steppedPacked : Stepped → ℕ
+steppedPacked a = packed (steppedNumber a) 0 (steppedFigure a)
+
+abbrev pub sweptPacked : Swept → ℕ
+sweptPacked a = packed (sweptNumber a) 0 (sweptFigure a)
+
+abbrev pub judgedPacked : Judged → ℕ
+judgedPacked a = packed (judgedNumber a) (judgedVerdict a) (judgedFigure a)

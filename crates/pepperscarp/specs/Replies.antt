@@ -1,0 +1,50 @@
+-- What each function of the C interface answers and leaves, for every input. Definitions only. A file is the list of its bytes;
+-- b₀ and s₀ are the lists as lent, b and s as left. Assumes nothing.
+use mathlib.Core.Path.{_≡_}
+use mathlib.Core.Bool.{cond}
+use mathlib.Core.List.{List}
+use Prim.Native.Nat.{ℕ}
+use lib.ListN.{length}
+use lib.IntN.{ℤ}
+use Rattle.integers.specs.Sums.{vector, magnitudes}
+use Rattle.stepping.specs.Recurrence.{growthSum}
+use Rattle.stepping.specs.Refusals.{stepOk, steppedR, steppedE}
+use Rattle.stepping.specs.declared.Stepped.{Stepped}
+use Rattle.stepping.specs.declared.Stepped.the-variants.{Sum, Refused as Unstepped}
+use Rattle.reachability.specs.Answers.{sweepAnswer, judgeAnswer, SweepLeaves, JudgeLeaves}
+use Rattle.reader.specs.declared.Status.{Status}
+use Rattle.reader.specs.declared.Status.the-variants.{Read, Refused}
+use Rattle.reader.specs.Reading.{readModel}
+use Rattle.pepperscarp.specs.Packing.{packed, steppedPacked, sweptPacked, judgedPacked}
+
+-- The answer of a step of r and e: the growth sum of what it leaves, or number 11.
+abbrev pub stepAnswer : ℕ → List ℤ → List ℤ → List ℤ → Stepped
+stepAnswer n m r e = cond (stepOk n m r e) (Sum (growthSum n (vector (steppedR n m r)) (magnitudes (steppedE n m r e)))) Unstepped
+
+-- What a step answers and leaves: x is the answer, r and e are as lent, r′ and e′ as left.
+pub record StepReply (n : ℕ) (m r e : List ℤ) (x : ℕ) (r′ e′ : List ℤ) : Type 0 where
+  pub answer : x ≡ steppedPacked (stepAnswer n m r e)
+  pub direction : r′ ≡ cond (stepOk n m r e) (steppedR n m r) r
+  pub errors : e′ ≡ cond (stepOk n m r e) (steppedE n m r e) e
+
+-- The answer to a file: its number and offset where it is refused, else `x`.
+abbrev pub fileAnswer : Status → ℕ → ℕ
+fileAnswer Read x = x
+fileAnswer (Refused number offset) x = packed number 0 offset
+
+-- A refused file leaves both lists as they were.
+abbrev pub Kept : Status → List ℤ → List ℤ → List ℤ → List ℤ → Type 0
+Kept status b₀ s₀ b s = (number offset : ℕ) → status ≡ Refused number offset → (b ≡ b₀) × (s ≡ s₀)
+
+-- What a sweep of a file answers and leaves. `left` is the promise of the sweep of the file's model, its accuracy included.
+pub record SweepReply (file : List ℕ) (d : ℕ) (b₀ s₀ : List ℤ) (x : ℕ) (b s : List ℤ) : Type 0 where
+  pub answer : x ≡ fileAnswer (readModel file .status) (sweptPacked (sweepAnswer (readModel file .model) d (length b₀) (length s₀)))
+  pub kept : Kept (readModel file .status) b₀ s₀ b s
+  pub left : readModel file .status ≡ Read → SweepLeaves (readModel file .model) d b₀ s₀ (sweepAnswer (readModel file .model) d (length b₀) (length s₀)) b s
+
+-- What a judge of a file answers and leaves. `left` is the promise of the judge of the file's model, its accuracy and its
+-- verdict's meaning included.
+pub record JudgeReply (file : List ℕ) (g : ℕ) (b₀ s₀ : List ℤ) (x : ℕ) (b s : List ℤ) : Type 0 where
+  pub answer : x ≡ fileAnswer (readModel file .status) (judgedPacked (judgeAnswer (readModel file .model) g (length b₀) (length s₀)))
+  pub kept : Kept (readModel file .status) b₀ s₀ b s
+  pub left : readModel file .status ≡ Read → JudgeLeaves (readModel file .model) g b₀ s₀ (judgeAnswer (readModel file .model) g (length b₀) (length s₀)) b s

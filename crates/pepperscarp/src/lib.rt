@@ -1,0 +1,73 @@
+// The C interface: one step, and the sweep and the judge of a model file. Each function is exported under its own name, refuses
+// by document 01's numbers, keeps nothing, and has no `requires`: any values get their reply.
+//
+// An answer is one number: number + 256 × verdict + 65,536 × figure. The number is 0 where nothing is refused. On a refusal the
+// lent memory is as it was.
+mod packing;
+
+use reachability::judge::judge;
+use reachability::sweep::sweep;
+use reader::Status;
+use reader::read;
+use stepping::step;
+ghost use Rattle.pepperscarp.specs.Replies.{StepReply, SweepReply, JudgeReply};
+
+// One step of r and e. The figure is the growth sum of what it left. The only refusal is 11, as `stepping::step` has it.
+#[no_mangle]
+pub extern "C" fn pepperscarp_step(
+    n: usize,
+    matrix: &[i32; 36],
+    r: &mut [i64; 6],
+    e: &mut [i64; 6],
+) -> u64
+    ensures { λ x. ⌜ StepReply n (now (matrix .entry)) (now (r .entry)) (now (e .entry)) x (now (r .exit)) (now (e .exit)) ⌝ }
+{
+    let answer = step(n, matrix, r, e);
+    packing::stepped(answer)
+}
+
+// The sweep of direction number `direction` of the file's model. The figure is the spare figure. Refusals: 1 to 10 with the
+// offset as the figure, where the file is refused; 12 and 13; 14 with the first step with growth as the figure.
+#[no_mangle]
+pub extern "C" fn pepperscarp_sweep(
+    file: &[u8],
+    direction: usize,
+    bounds: &mut [i64],
+    slacks: &mut [i64],
+) -> u64
+    ensures { λ x. ⌜ SweepReply (now (file .entry)) direction (now (bounds .entry)) (now (slacks .entry)) x (now (bounds .exit)) (now (slacks .exit)) ⌝ }
+{
+    let reading = read(file);
+    let status = reading.status;
+    match status {
+        Status::Refused(number, offset) => packing::refused(number, offset),
+        Status::Read => {
+            let model = reading.model;
+            let answer = sweep(model, direction, bounds, slacks);
+            packing::swept(answer)
+        }
+    }
+}
+
+// The judge of guard number `guard` of the file's model: verdict 1 HIT or 2 UNKNOWN with its step as the figure, or 3 CLEAR; the
+// sweep of the guard's direction is left in the lists. Refusals as for the sweep.
+#[no_mangle]
+pub extern "C" fn pepperscarp_judge(
+    file: &[u8],
+    guard: usize,
+    bounds: &mut [i64],
+    slacks: &mut [i64],
+) -> u64
+    ensures { λ x. ⌜ JudgeReply (now (file .entry)) guard (now (bounds .entry)) (now (slacks .entry)) x (now (bounds .exit)) (now (slacks .exit)) ⌝ }
+{
+    let reading = read(file);
+    let status = reading.status;
+    match status {
+        Status::Refused(number, offset) => packing::refused(number, offset),
+        Status::Read => {
+            let model = reading.model;
+            let answer = judge(model, guard, bounds, slacks);
+            packing::judged(answer)
+        }
+    }
+}

@@ -1,0 +1,64 @@
+// Answers in one number. What is packed fits: a figure is below 2 to the 48, and the callers show it.
+use reachability::judge::Judged;
+use reachability::sweep::Swept;
+use stepping::Stepped;
+ghost use mathlib.Core.Path.{_≡_};
+ghost use Prim.Native.Nat.{_<_};
+ghost use Rattle.pepperscarp.specs.Packing.{packed, steppedPacked, sweptPacked, judgedPacked, steppedFigure, sweptFigure, judgedFigure, figureLimit};
+
+// Number, verdict and figure side by side.
+fn pack(number: u8, verdict: u8, figure: u64) -> u64
+    requires { ⌜ figure < figureLimit ⌝ }
+    ensures { λ x. ⌜ x ≡ packed number verdict figure ⌝ }
+{
+    (number as u64) + 256 * (verdict as u64) + 65536 * figure
+}
+
+// A refused file: its number and its offset.
+pub(crate) fn refused(number: u8, offset: usize) -> u64
+    requires { ⌜ offset < figureLimit ⌝ }
+    ensures { λ x. ⌜ x ≡ packed number 0 offset ⌝ }
+{
+    pack(number, 0, offset as u64)
+}
+
+// What a step answers.
+pub(crate) fn stepped(answer: Stepped) -> u64
+    requires { ⌜ steppedFigure answer < figureLimit ⌝ }
+    ensures { λ x. ⌜ x ≡ steppedPacked answer ⌝ }
+{
+    match answer {
+        Stepped::Sum(sum) => pack(0, 0, sum),
+        Stepped::Refused => pack(11, 0, 0),
+    }
+}
+
+// What a sweep answers.
+pub(crate) fn swept(answer: Swept) -> u64
+    requires { ⌜ sweptFigure answer < figureLimit ⌝ }
+    ensures { λ x. ⌜ x ≡ sweptPacked answer ⌝ }
+{
+    match answer {
+        Swept::Spare(bits) => pack(0, 0, bits as u64),
+        Swept::Invalid => pack(11, 0, 0),
+        Swept::NoDirection => pack(12, 0, 0),
+        Swept::WrongLength => pack(13, 0, 0),
+        Swept::Growth(step) => pack(14, 0, step as u64),
+    }
+}
+
+// What a judge answers.
+pub(crate) fn judged(answer: Judged) -> u64
+    requires { ⌜ judgedFigure answer < figureLimit ⌝ }
+    ensures { λ x. ⌜ x ≡ judgedPacked answer ⌝ }
+{
+    match answer {
+        Judged::Hit(step) => pack(0, 1, step as u64),
+        Judged::Unknown(step) => pack(0, 2, step as u64),
+        Judged::Clear => pack(0, 3, 0),
+        Judged::Invalid => pack(11, 0, 0),
+        Judged::NoGuard => pack(12, 0, 0),
+        Judged::WrongLength => pack(13, 0, 0),
+        Judged::Growth(step) => pack(14, 0, step as u64),
+    }
+}
