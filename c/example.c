@@ -1,0 +1,198 @@
+/* The C interface in use. Makes document 01's sample file of 186 bytes, sweeps its direction, judges its guards, makes two steps
+ * of case 5 of "Figures to test against", and shows refusals: two files, a direction with growth (case 8), and calls that ask for
+ * what isn't there. What it writes is compared with expected.txt. Returns 1 where a call is refused that should not be, or
+ * finishes that should not. */
+#include "pepperscarp.h"
+
+#include <inttypes.h>
+#include <stdio.h>
+#include <string.h>
+
+/* ---- a model file of one coordinate */
+
+struct file {
+    uint8_t bytes[2048];
+    size_t length;
+};
+
+/* A whole number of so many bytes, low byte first. */
+static void put(struct file *f, int64_t value, int count)
+{
+    uint64_t bits = (uint64_t)value;
+    while (count-- > 0) {
+        f->bytes[f->length++] = (uint8_t)(bits & 255u);
+        bits >>= 8;
+    }
+}
+
+/* Six numbers, of which the first counts. */
+static void put_six(struct file *f, int32_t first)
+{
+    int i;
+    put(f, first, 4);
+    for (i = 1; i < 6; i++)
+        put(f, 0, 4);
+}
+
+static void put_record(struct file *f, uint8_t kind, int32_t first)
+{
+    put(f, kind, 1);
+    put_six(f, first);
+}
+
+/* Head, row, the boxes [low, high] of the initial and the input set, and direction 1. */
+static struct file model(int steps, int32_t entry, const int32_t initial[2], const int32_t input[2])
+{
+    struct file f;
+    f.length = 0;
+    put(&f, 0x01, 1);
+    put(&f, 1, 1);
+    put(&f, steps, 2);
+    put(&f, 0x02, 1);
+    put(&f, 0, 1);
+    put_six(&f, entry);
+    put_record(&f, 0x10, initial[0]);
+    put_record(&f, 0x11, initial[1]);
+    put_record(&f, 0x20, input[0]);
+    put_record(&f, 0x21, input[1]);
+    put_record(&f, 0x30, 1);
+    return f;
+}
+
+static void put_guard(struct file *f, int64_t level)
+{
+    put(f, 0x40, 1);
+    put(f, 0, 1);
+    put(f, level, 8);
+}
+
+static void put_end(struct file *f)
+{
+    put(f, 0xFF, 1);
+}
+
+/* ---- calls, and what they answer */
+
+static int wrong = 0;
+
+static int64_t bounds[PEPPERSCARP_STEPS_MOST + 1];
+static int64_t slacks[PEPPERSCARP_STEPS_MOST + 1];
+
+/* Notes an answer that isn't the expected one. */
+static void expect(unsigned number, uint64_t answer)
+{
+    if (PEPPERSCARP_NUMBER(answer) != number)
+        wrong = 1;
+}
+
+static void write_refusal(uint64_t answer)
+{
+    printf("refused %u at %" PRIu64 "\n", PEPPERSCARP_NUMBER(answer), PEPPERSCARP_FIGURE(answer));
+}
+
+static void sweep(const struct file *f, size_t length, size_t direction, size_t rows, unsigned number)
+{
+    uint64_t answer = pepperscarp_sweep(f->bytes, length, direction, bounds, rows, slacks, rows);
+    size_t k;
+    expect(number, answer);
+    switch (PEPPERSCARP_NUMBER(answer)) {
+    case PEPPERSCARP_FINISHED:
+        printf("dir %zu spare %" PRIu64 "\n", direction, PEPPERSCARP_FIGURE(answer));
+        for (k = 0; k < rows; k++)
+            printf("%zu %" PRId64 " %" PRId64 "\n", k, bounds[k], slacks[k]);
+        break;
+    case PEPPERSCARP_GROWTH:
+        printf("dir %zu growth %" PRIu64 "\n", direction, PEPPERSCARP_FIGURE(answer));
+        break;
+    case PEPPERSCARP_NOT_THERE:
+        printf("dir %zu isn't there\n", direction);
+        break;
+    case PEPPERSCARP_WRONG_LENGTH:
+        printf("dir %zu not swept into %zu rows\n", direction, rows);
+        break;
+    default:
+        write_refusal(answer);
+    }
+}
+
+static void judge(const struct file *f, size_t guard, size_t rows, unsigned number)
+{
+    uint64_t answer = pepperscarp_judge(f->bytes, f->length, guard, bounds, rows, slacks, rows);
+    expect(number, answer);
+    if (PEPPERSCARP_NUMBER(answer) == PEPPERSCARP_NOT_THERE) {
+        printf("guard %zu isn't there\n", guard);
+        return;
+    }
+    if (PEPPERSCARP_NUMBER(answer) != PEPPERSCARP_FINISHED) {
+        write_refusal(answer);
+        return;
+    }
+    switch (PEPPERSCARP_VERDICT(answer)) {
+    case PEPPERSCARP_HIT:
+        printf("guard %zu HIT %" PRIu64 "\n", guard, PEPPERSCARP_FIGURE(answer));
+        break;
+    case PEPPERSCARP_UNKNOWN:
+        printf("guard %zu UNKNOWN %" PRIu64 "\n", guard, PEPPERSCARP_FIGURE(answer));
+        break;
+    case PEPPERSCARP_CLEAR:
+        printf("guard %zu CLEAR\n", guard);
+        break;
+    default:
+        wrong = 1;
+    }
+}
+
+static void step(size_t n, const int32_t matrix[36], int64_t r[6], int64_t e[6], unsigned number)
+{
+    uint64_t answer = pepperscarp_step(n, matrix, r, e);
+    expect(number, answer);
+    printf("step %u: r %" PRId64 " e %" PRId64 " sum %" PRIu64 "\n", PEPPERSCARP_NUMBER(answer), r[0], e[0],
+           PEPPERSCARP_FIGURE(answer));
+}
+
+/* Whether every element of the lists is still -1. */
+static void expect_kept(void)
+{
+    size_t k;
+    for (k = 0; k <= PEPPERSCARP_STEPS_MOST; k++)
+        if (bounds[k] != -1 || slacks[k] != -1)
+            wrong = 1;
+}
+
+int main(void)
+{
+    static const int32_t none[2] = {0, 0};
+    static const int32_t to_one[2] = {0, 1};
+    static const int32_t matrix[36] = {1};
+    int64_t r[6] = {1048576};
+    int64_t e[6] = {0};
+    struct file sample = model(3, 32768, none, to_one);
+    struct file growing = model(11, 131072, none, none);
+    int64_t level;
+
+    for (level = 1; level <= 3; level++)
+        put_guard(&sample, level);
+    put_end(&sample);
+    put_end(&growing);
+
+    printf("sample %zu bytes\n", sample.length);
+    sweep(&sample, sample.length, 0, 4, PEPPERSCARP_FINISHED);
+    judge(&sample, 0, 4, PEPPERSCARP_FINISHED);
+    judge(&sample, 1, 4, PEPPERSCARP_FINISHED);
+    judge(&sample, 2, 4, PEPPERSCARP_FINISHED);
+
+    step(1, matrix, r, e, PEPPERSCARP_FINISHED);
+    step(1, matrix, r, e, PEPPERSCARP_FINISHED);
+    step(7, matrix, r, e, PEPPERSCARP_INVALID);
+
+    memset(bounds, 255, sizeof bounds);
+    memset(slacks, 255, sizeof slacks);
+    sweep(&sample, 0, 0, 4, 1);
+    sweep(&sample, 185, 0, 4, 1);
+    sweep(&sample, sample.length, 1, 4, PEPPERSCARP_NOT_THERE);
+    sweep(&sample, sample.length, 0, 3, PEPPERSCARP_WRONG_LENGTH);
+    judge(&sample, 3, 4, PEPPERSCARP_NOT_THERE);
+    sweep(&growing, growing.length, 0, 12, PEPPERSCARP_GROWTH);
+    expect_kept();
+    return wrong;
+}
