@@ -3,8 +3,8 @@
 use mathlib.Core.Path.{_≡_, refl, sym, ap, subst, _∙_}
 use mathlib.Core.Bool.{Bool, true, false, cond, _&&_}
 use mathlib.Core.List.{List}
-use Prim.Native.Nat.{ℕ, zero, suc, _+_, _*_, _≤_, _<_}
-use native.Mathlib.Nat.{le-trans, mul-le-mul}
+use Prim.Native.Nat.{ℕ, zero, suc, _+_, _*_, _≤_, _<_, min}
+use native.Mathlib.Nat.{le-refl, le-trans, add-le-add, mul-le-mul}
 use native.Mathlib.Omega.{arith}
 use borrow.Author.Tests.{leb-true}
 use lib.Dec.{leb, ltb}
@@ -22,18 +22,17 @@ use Rattle.stepping.specs.Limits.{matrixUnit, growthLimit, entryLimit}
 use Rattle.stepping.specs.Recurrence.{greatest, nextR, nextE, errorSum, growthSum}
 use Rattle.stepping.specs.Refusals.{stepOk, workingOk, dimensionOk, zeroBeyond, nonNegative, matrixOk, steppedR, steppedE}
 use Rattle.stepping.specs.declared.Stepped.the-variants as P
-use Rattle.reachability.specs.Limits.{accepted, frameOk, stepsOk}
+use Rattle.reachability.specs.Limits.{accepted, stepsOk}
 use Rattle.reachability.specs.Recurrence.{growthStep, spareFigure}
-use Rattle.reachability.specs.Verdicts.{verdict, hitAt, unknownAt}
 use Rattle.reachability.specs.Answers.{sweepAnswer, judgeAnswer, lengthsOk}
 use Rattle.reachability.specs.declared.model.Model.{Model}
 use Rattle.reachability.specs.declared.sweep.Swept.the-variants as S
 use Rattle.reachability.specs.declared.judge.Judged.the-variants as J
 use Rattle.reachability.proofs.AccuracyRule.{model-facts}
-use Rattle.reader.specs.declared.Status.the-variants.{Read, Refused}
+use Rattle.reader.specs.declared.Status.the-variants.{Refused}
 use Rattle.reader.specs.declared.Reading.{Reading}
 use Rattle.reader.specs.Reading.{readModel}
-use Rattle.reader.proofs.ReadModels.{readModel-take, readModel-accepted}
+use Rattle.reader.proofs.ReadModels.{readModel-take}
 use Rattle.reader.proofs.Answers.{readModel-told}
 use Rattle.pepperscarp.specs.Packing.{steppedFigure, sweptFigure, judgedFigure, figureLimit}
 use Rattle.pepperscarp.specs.Replies.{stepAnswer}
@@ -45,7 +44,7 @@ offset-small file number offset e =
     let told = readModel-told (take 2048 file) number offset (ap (λ (r : Reading). r .status) (readModel-take file) ∙ e) in
     inside (subst (λ (k : ℕ). offset ≤ k) (length-take 2048 file) (told .inside))
   where
-    inside : offset ≤ Prim.Native.Nat.min 2048 (length file) → offset < figureLimit
+    inside : offset ≤ min 2048 (length file) → offset < figureLimit
     inside h = omega arith
 
 -- ---- a sweep and a judge: a step is at most K, and K at most 256
@@ -121,7 +120,7 @@ module _ (n : ℕ) (m r e : List ℤ) (ok : stepOk n m r e ≡ true) where
 
   product-most : (i : ℕ) → natAbs (transposed n (matrix m) (vector r) i) ≤ n * (entryLimit * growthLimit)
   product-most i =
-      le-trans (natAbs-sum n (λ p. matrix m p i *ℤ vector r p) (λ p. entryLimit * growthLimit) (λ p h. natAbs-mul-le (matrix m p i) (vector r p) (entry (6 * p + i)) (r-most p h))) (sumℕ-bound n (entryLimit * growthLimit) (λ p h. native.Mathlib.Nat.le-refl _))
+      le-trans (natAbs-sum n (λ p. matrix m p i *ℤ vector r p) (λ p. entryLimit * growthLimit) (λ p h. natAbs-mul-le (matrix m p i) (vector r p) (entry (6 * p + i)) (r-most p h))) (sumℕ-bound n (entryLimit * growthLimit) (λ p h. le-refl _))
 
   error-most : (i : ℕ) → errorSum n (matrix m) (magnitudes e) i ≤ n * (entryLimit * growthLimit)
   error-most i = sumℕ-bound n (entryLimit * growthLimit) (λ p h. mul-le-mul (entry (6 * p + i)) (e-most p h))
@@ -145,7 +144,7 @@ module _ (n : ℕ) (m r e : List ℤ) (ok : stepOk n m r e ≡ true) where
       each i h =
           let in-r = ap natAbs (getD-tabulate 6 (nextR n (matrix m) (vector r)) i (pos 0) h) in
           let in-e = ap natAbs (getD-tabulate 6 (λ j. pos (nextE n (matrix m) (vector r) (magnitudes e) j)) i (pos 0) h) in
-          native.Mathlib.Nat.add-le-add (subst (λ (k : ℕ). k ≤ 12884901889) (sym in-r) (nextR-most i)) (subst (λ (k : ℕ). k ≤ 12884901890) (sym in-e) (nextE-most i))
+          add-le-add (subst (λ (k : ℕ). k ≤ 12884901889) (sym in-r) (nextR-most i)) (subst (λ (k : ℕ). k ≤ 12884901890) (sym in-e) (nextE-most i))
 
 pub stepped-small : (n : ℕ) (m r e : List ℤ) → steppedFigure (stepAnswer n m r e) < figureLimit
 stepped-small n m r e = split (stepOk n m r e) refl

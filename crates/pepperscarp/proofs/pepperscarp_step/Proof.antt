@@ -1,5 +1,5 @@
 -- `pepperscarp::pepperscarp_step` meets its contract: the answer of `step`, whose figure is small, in one number. Assumes nothing.
-use Rattle.integers.proofs.Basics.{sym, ap, subst, _<_, needs}
+use Rattle.integers.proofs.Basics.{sym, subst, _<_, needs}
 use Rattle.stepping.specs.declared.Stepped.{Stepped}
 use Rattle.pepperscarp.specs.Packing.{steppedFigure, figureLimit}
 use Rattle.pepperscarp.proofs.Figures.{stepped-small}
