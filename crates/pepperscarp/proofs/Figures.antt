@@ -90,7 +90,8 @@ judged-small m g lb ls ok =
     let most : judgedFigure (judgeAnswer m g lb ls) ≤ m .steps = judged-most (accepted m) (ltb g (m .guards)) (lengthsOk m lb ls) _ _ _ _ _ _ (m .steps) refl refl refl in
     omega (arith, most, steps-most m ok)
 
--- ---- a step: a sum of at most six products of an entry and a value, divided by 65,536
+-- ---- a step: a sum of at most six products of an entry and a value, divided by 65,536. Such a sum is at most
+-- 6 × 131,072 × 1,073,741,824 = 844,424,930,131,968, and divided 12,884,901,888; roundings add at most 2.
 
 floor-most : (z : ℤ) → natAbs z ≤ 844424930131968 → natAbs (floorDiv z matrixUnit) ≤ 12884901889
 floor-most (pos k) h = omega arith

@@ -1,0 +1,91 @@
+/* Writes the listing of the model file that its argument names, as document 01 lays the program `envelope` out, by calls of
+ * the C interface alone: directions and guards are asked for in order until one isn't there.
+ * Returns 1 where the file can't be read or an answer comes that document 01 doesn't list. */
+#include "pepperscarp.h"
+
+#include <inttypes.h>
+#include <stdio.h>
+
+/* "The program reads at most 2,048 bytes". */
+static uint8_t file[2048];
+static size_t length;
+
+static int64_t bounds[PEPPERSCARP_STEPS_MOST + 1];
+static int64_t slacks[PEPPERSCARP_STEPS_MOST + 1];
+
+/* K, by the head: "a head that says 0 means 60". A file too short to say is refused whatever the lists are. */
+static size_t steps(void)
+{
+    size_t said = length < 4 ? 1 : file[2] + 256u * file[3];
+    if (said == 0)
+        said = 60;
+    return said <= PEPPERSCARP_STEPS_MOST ? said : PEPPERSCARP_STEPS_MOST;
+}
+
+/* The lines of a direction, 1; or 0 where there is none such. */
+static int write_direction(size_t direction, size_t rows, uint64_t answer)
+{
+    size_t k;
+    switch (PEPPERSCARP_NUMBER(answer)) {
+    case PEPPERSCARP_FINISHED:
+        printf("dir %zu spare %" PRIu64 "\n", direction, PEPPERSCARP_FIGURE(answer));
+        for (k = 0; k < rows; k++)
+            printf("%zu %" PRId64 " %" PRId64 "\n", k, bounds[k], slacks[k]);
+        return 1;
+    case PEPPERSCARP_GROWTH:
+        printf("dir %zu growth %" PRIu64 "\n", direction, PEPPERSCARP_FIGURE(answer));
+        return 1;
+    default:
+        return 0;
+    }
+}
+
+/* The line of a guard, 1; or 0 where there is none such. */
+static int write_guard(size_t guard, uint64_t answer)
+{
+    static const char *const words[] = {"", "HIT", "UNKNOWN", "CLEAR"};
+    unsigned verdict = PEPPERSCARP_VERDICT(answer);
+    switch (PEPPERSCARP_NUMBER(answer)) {
+    case PEPPERSCARP_FINISHED:
+        printf("guard %zu %s", guard, words[verdict]);
+        if (verdict != PEPPERSCARP_CLEAR)
+            printf(" %" PRIu64, PEPPERSCARP_FIGURE(answer));
+        printf("\n");
+        return 1;
+    case PEPPERSCARP_GROWTH:
+        printf("guard %zu GROWTH %" PRIu64 "\n", guard, PEPPERSCARP_FIGURE(answer));
+        return 1;
+    default:
+        return 0;
+    }
+}
+
+int main(int count, char **words)
+{
+    FILE *in = count == 2 ? fopen(words[1], "rb") : NULL;
+    size_t rows, i;
+    uint64_t answer;
+    if (in == NULL) {
+        fprintf(stderr, "usage: listing FILE\n");
+        return 1;
+    }
+    length = fread(file, 1, sizeof file, in);
+    fclose(in);
+    rows = steps() + 1;
+
+    answer = pepperscarp_sweep(file, length, 0, bounds, rows, slacks, rows);
+    if (1 <= PEPPERSCARP_NUMBER(answer) && PEPPERSCARP_NUMBER(answer) <= 10) {
+        printf("refused %u at %" PRIu64 "\n", PEPPERSCARP_NUMBER(answer), PEPPERSCARP_FIGURE(answer));
+        return 0;
+    }
+    printf("model %d %zu\n", file[1], rows - 1);
+    for (i = 0; write_direction(i, rows, answer); i++)
+        answer = pepperscarp_sweep(file, length, i + 1, bounds, rows, slacks, rows);
+    if (PEPPERSCARP_NUMBER(answer) != PEPPERSCARP_NOT_THERE)
+        return 1;
+    i = 0;
+    do
+        answer = pepperscarp_judge(file, length, i, bounds, rows, slacks, rows);
+    while (write_guard(i++, answer));
+    return PEPPERSCARP_NUMBER(answer) != PEPPERSCARP_NOT_THERE;
+}
