@@ -1,6 +1,6 @@
 /* The C interface in use. Makes document 01's sample file of 186 bytes, sweeps its direction, judges its guards, makes two steps
- * of case 5 of "Figures to test against", and shows refusals: two files, a direction with growth (case 8), and calls that ask for
- * what isn't there. What it writes is compared with expected.txt. Returns 1 where a call is refused that should not be, or
+ * of case 5 of "Figures to test against", lists the sample in one call, and shows refusals: two files, a direction with growth
+ * (case 8), calls that ask for what isn't there, and a buffer that is too small. What it writes is compared with expected.txt. Returns 1 where a call is refused that should not be, or
  * finishes that should not. */
 #include "pepperscarp.h"
 
@@ -150,6 +150,23 @@ static void step(size_t n, const int32_t matrix[36], int64_t r[6], int64_t e[6],
            PEPPERSCARP_FIGURE(answer));
 }
 
+static uint8_t text[PEPPERSCARP_LISTING_ROOM];
+
+/* The text of a file, with so much room. The bytes behind it stay 255. */
+static void list(const struct file *f, size_t room, int finished)
+{
+    size_t count, k;
+    memset(text, 255, sizeof text);
+    count = pepperscarp_listing(f->bytes, f->length, text, room);
+    if ((count != 0) != finished)
+        wrong = 1;
+    for (k = count; k < sizeof text; k++)
+        if (text[k] != 255)
+            wrong = 1;
+    printf("%zu bytes of text\n", count);
+    fwrite(text, 1, count, stdout);
+}
+
 /* Whether every element of the lists is still -1. */
 static void expect_kept(void)
 {
@@ -184,6 +201,9 @@ int main(void)
     step(1, matrix, r, e, PEPPERSCARP_FINISHED);
     step(1, matrix, r, e, PEPPERSCARP_FINISHED);
     step(7, matrix, r, e, PEPPERSCARP_INVALID);
+
+    list(&sample, sizeof text, 1);
+    list(&sample, sizeof text - 1, 0);
 
     memset(bounds, 255, sizeof bounds);
     memset(slacks, 255, sizeof slacks);

@@ -1,10 +1,12 @@
 /* Writes the listing of the model file that its argument names, as document 01 lays the program `envelope` out, by calls of
- * the C interface alone: directions and guards are asked for in order until one isn't there.
+ * the C interface alone: directions and guards are asked for in order until one isn't there. With --whole in front of the name the
+ * text comes from one call.
  * Returns 1 where the file can't be read or an answer comes that document 01 doesn't list. */
 #include "pepperscarp.h"
 
 #include <inttypes.h>
 #include <stdio.h>
+#include <string.h>
 
 /* "The program reads at most 2,048 bytes". */
 static uint8_t file[2048];
@@ -12,6 +14,8 @@ static size_t length;
 
 static int64_t bounds[PEPPERSCARP_STEPS_MOST + 1];
 static int64_t slacks[PEPPERSCARP_STEPS_MOST + 1];
+
+static uint8_t text[PEPPERSCARP_LISTING_ROOM];
 
 /* K, by the head: "a head that says 0 means 60". A file too short to say is refused whatever the lists are. */
 static size_t steps(void)
@@ -62,15 +66,20 @@ static int write_guard(size_t guard, uint64_t answer)
 
 int main(int count, char **words)
 {
-    FILE *in = count == 2 ? fopen(words[1], "rb") : NULL;
+    int whole = count == 3 && strcmp(words[1], "--whole") == 0;
+    FILE *in = count == 2 + whole ? fopen(words[1 + whole], "rb") : NULL;
     size_t rows, i;
     uint64_t answer;
     if (in == NULL) {
-        fprintf(stderr, "usage: listing FILE\n");
+        fprintf(stderr, "usage: listing [--whole] FILE\n");
         return 1;
     }
     length = fread(file, 1, sizeof file, in);
     fclose(in);
+    if (whole) {
+        i = pepperscarp_listing(file, length, text, sizeof text);
+        return i == 0 || fwrite(text, 1, i, stdout) != i;
+    }
     rows = steps() + 1;
 
     answer = pepperscarp_sweep(file, length, 0, bounds, rows, slacks, rows);

@@ -60,6 +60,15 @@ uint64_t pepperscarp_sweep(const uint8_t *file, size_t file_length, size_t direc
 uint64_t pepperscarp_judge(const uint8_t *file, size_t file_length, size_t guard, int64_t *bounds, size_t bounds_length,
                            int64_t *slacks, size_t slacks_length);
 
+/* Room for every listing, in bytes. */
+#define PEPPERSCARP_LISTING_ROOM 270000
+
+/* The whole text that the program `envelope` writes for a model file: its listing, or its refusal. Takes the file's bytes and room
+ * for at least PEPPERSCARP_LISTING_ROOM bytes.
+ * Answers how many bytes of text stand at the start of `out`; no zero follows them, and what lies behind them is as it was.
+ * Answers 0, with `out` as it was, where it has less room. */
+size_t pepperscarp_listing(const uint8_t *file, size_t file_length, uint8_t *out, size_t out_length);
+
 #ifdef __cplusplus
 }
 #endif

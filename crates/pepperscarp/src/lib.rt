@@ -1,15 +1,17 @@
-// The C interface: one step, and the sweep and the judge of a model file. Each function is exported under its own name, refuses
-// by document 01's numbers, keeps nothing, and has no `requires`: any values get their reply.
+// The C interface: one step, and the sweep, the judge and the listing of a model file. Each function is exported under its own
+// name, keeps nothing, and has no `requires`: any values get their reply.
 //
-// An answer is one number: number + 256 × verdict + 65,536 × figure. The number is 0 where nothing is refused. On a refusal the
-// lent memory is as it was.
+// An answer of step, sweep and judge is one number: number + 256 × verdict + 65,536 × figure. The number is document 01's, 0 where
+// nothing is refused. On a refusal the lent memory is as it was.
 mod packing;
 
+use listing::reply;
 use reachability::judge::judge;
 use reachability::sweep::sweep;
 use reader::Status;
 use reader::read;
 use stepping::step;
+ghost use Rattle.listing.specs.Listing.{ReplyLeaves};
 ghost use Rattle.pepperscarp.specs.Replies.{StepReply, SweepReply, JudgeReply};
 
 // One step of r and e. The figure is the growth sum of what it left. The only refusal is 11, as `stepping::step` has it.
@@ -70,4 +72,13 @@ pub extern "C" fn pepperscarp_judge(
             packing::judged(answer)
         }
     }
+}
+
+// The text that the program `envelope` writes for the file, at the start of `out`, and how many bytes it has. The answer is 0, and
+// nothing is written, where `out` has fewer than 270,000 bytes; every text fits in so many.
+#[no_mangle]
+pub extern "C" fn pepperscarp_listing(file: &[u8], out: &mut [u8]) -> usize
+    ensures { λ r. ⌜ ReplyLeaves (now (file .entry)) (now (out .entry)) (now (out .exit)) r ⌝ }
+{
+    reply(file, out)
 }
