@@ -55,23 +55,32 @@ digits-more n rest t h d = cases (d .places) (d .below) (d .whole)
           whole = whole ∙ ap (λ (x : List ℕ). x ++ t) (more-digits (suc places) rest h) ∙ append-assoc (decimalFor (suc places) (rest / 10)) (digit (rest % 10) ∷ []) t;
         }
 
+-- a pair of digits more
+pub digits-pair : (n rest : ℕ) (t : List ℕ) → 100 ≤ rest → Digits n rest t → Digits n (rest / 100) (digit (rest % 100 / 10) ∷ digit (rest % 100 % 10) ∷ t)
+digits-pair n rest t h d =
+    let two = digits-more n (rest / 10) (digit (rest % 10) ∷ t) (omega (arith, h)) (digits-more n rest t (omega (arith, h)) d) in
+    let left : rest / 10 / 10 ≡ rest / 100 = omega arith in
+    let tens : rest / 10 % 10 ≡ rest % 100 / 10 = omega arith in
+    let ones : rest % 10 ≡ rest % 100 % 10 = omega arith in
+    subst (λ (k : ℕ). Digits n k (digit (rest % 100 / 10) ∷ digit (rest % 100 % 10) ∷ t)) left
+    (subst (λ (x : ℕ). Digits n (rest / 10 / 10) (digit x ∷ digit (rest % 100 % 10) ∷ t)) tens (subst (λ (y : ℕ). Digits n (rest / 10 / 10) (digit (rest / 10 % 10) ∷ digit y ∷ t)) ones two))
+
 -- the first digit is the last to come
 pub digits-all : (n rest : ℕ) (t : List ℕ) → rest < 10 → Digits n rest t → decimal n ≡ digit rest ∷ t
 digits-all n rest t h d = d .whole ∙ ap (λ (x : List ℕ). x ++ t) (last-digit (d .places) rest h)
 
--- how many of them there are
-pub digits-length : (n rest : ℕ) (t : List ℕ) → rest < 10 → Digits n rest t → length (decimal n) ≡ suc (length t)
-digits-length n rest t h d = ap length (digits-all n rest t h d)
+pub digits-all-two : (n rest : ℕ) (t : List ℕ) → 10 ≤ rest → rest < 100 → Digits n rest t → decimal n ≡ digit (rest / 10) ∷ digit (rest % 10) ∷ t
+digits-all-two n rest t h l d = digits-all n (rest / 10) (digit (rest % 10) ∷ t) (omega (arith, l)) (digits-more n rest t h d)
 
 pub digits-left : (n rest : ℕ) (t : List ℕ) → Digits n rest t → length t ≤ length (decimal n)
 digits-left n rest t d = omega (arith, ap length (d .whole), length-append (decimalFor (suc (d .places)) rest) t)
 
--- with a rest of ten or more, two at least are still to come
-pub digits-two : (n rest : ℕ) (t : List ℕ) → 10 ≤ rest → Digits n rest t → length t + 2 ≤ length (decimal n)
-digits-two n rest t h d =
-    let one = digits-more n rest t h d in
-    let more = some-digit (one .places) (rest / 10) in
-    omega (arith, ap length (one .whole), length-append (decimalFor (suc (one .places)) (rest / 10)) (digit (rest % 10) ∷ t), more)
+-- with a rest of a hundred or more, three at least are still to come
+pub digits-three : (n rest : ℕ) (t : List ℕ) → 100 ≤ rest → Digits n rest t → length t + 3 ≤ length (decimal n)
+digits-three n rest t h d =
+    let pair = digits-pair n rest t h d in
+    let more = some-digit (pair .places) (rest / 100) in
+    omega (arith, ap length (pair .whole), length-append (decimalFor (suc (pair .places)) (rest / 100)) (digit (rest % 100 / 10) ∷ digit (rest % 100 % 10) ∷ t), more)
   where
     some-digit : (places n : ℕ) → 1 ≤ length (decimalFor (suc places) n)
     some-digit places n = cases (ltb n 10)

@@ -5,6 +5,7 @@ use mathlib.Core.List.{List, [], _∷_, _++_, append-assoc, append-nil}
 use Prim.Native.Nat.{ℕ, zero, suc, _+_, _≤_, _<_}
 use native.Mathlib.Nat.{le-of-lt, add-suc, suc-add, add-zero}
 use native.Mathlib.Omega.{arith}
+use native.Mathlib.Numerals.{add-one}
 use lib.ListN.{length, getD, set, take, drop, length-append, length-drop, take-append-drop}
 use lib.Seq.{length-take-le, take-suc, set-at, take-at, drop-append-add, drop-drop, paste, paste-zero, take-length, length-paste}
 use Rattle.listing.specs.Inner.{splice, Put}
@@ -38,6 +39,16 @@ splice-before b t i x h =
     ∙ set-at (take i b) y (t ++ rest) x i (length-take-le i b (le-of-lt h))
     ∙ sym (append-assoc (take i b) (x ∷ t) rest)
     ∙ ap (λ (k : ℕ). take i b ++ (x ∷ t) ++ drop k b) (suc-add i (length t) ∙ sym (add-suc i (length t)))
+
+-- two bytes in front of it
+pub splice-pair : (b t : List ℕ) (i x y : ℕ) → i + 1 < length b → set (set (splice b (i + 2) t) (i + 1) y) i x ≡ splice b i (x ∷ y ∷ t)
+splice-pair b t i x y h =
+    ap₂ (λ (j k : ℕ). set (set (splice b k t) j y) i x) (add-one i) two
+    ∙ ap (λ (l : List ℕ). set l i x) (splice-before b t (suc i) y (subst (λ (k : ℕ). k < length b) (add-one i) h))
+    ∙ splice-before b (y ∷ t) i x (omega (arith, h))
+  where
+    two : i + 2 ≡ suc (suc i)
+    two = omega arith
 
 -- ---- what was put
 

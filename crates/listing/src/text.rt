@@ -18,20 +18,23 @@ pub(crate) fn put(out: &mut [u8], at: usize, word: &[u8]) -> usize
     at + i
 }
 
-// How many decimal digits n has.
+// How many decimal digits n has, counted by pairs.
 fn places(n: u64) -> usize
     ensures { λ k. ⌜ k ≡ length (decimal n) ⌝ }
 {
     let mut rest = n;
     let mut k: usize = 1;
-    while 10 <= rest {
-        rest /= 10;
-        k += 1;
+    while 100 <= rest {
+        rest /= 100;
+        k += 2;
+    }
+    if 10 <= rest {
+        return k + 1;
     }
     k
 }
 
-// n in decimal, from its last digit to its first.
+// n in decimal, from its last pair of digits to its first.
 pub(crate) fn put_decimal(out: &mut [u8], at: usize, n: u64) -> usize
     requires { ⌜ at + 20 ≤ length (now out) ⌝ }
     ensures { λ r. ⌜ Put 20 at (decimal n) (now (out .entry)) (now (out .exit)) r ⌝ }
@@ -39,10 +42,17 @@ pub(crate) fn put_decimal(out: &mut [u8], at: usize, n: u64) -> usize
     let end = at + places(n);
     let mut rest = n;
     let mut i = end;
-    while 10 <= rest {
-        i -= 1;
-        out[i] = 48 + (rest % 10) as u8;
-        rest /= 10;
+    while 100 <= rest {
+        let pair = rest % 100;
+        rest /= 100;
+        i -= 2;
+        out[i + 1] = 48 + (pair % 10) as u8;
+        out[i] = 48 + (pair / 10) as u8;
+    }
+    if 10 <= rest {
+        out[at + 1] = 48 + (rest % 10) as u8;
+        out[at] = 48 + (rest / 10) as u8;
+        return end;
     }
     out[at] = 48 + rest as u8;
     end

@@ -1,10 +1,10 @@
--- `listing::text::places` meets its contract: k counts the digits passed and the one that is left. The measure is the rest, which
--- a division by ten makes smaller. Assumes nothing.
+-- `listing::text::places` meets its contract: k counts the digits passed and one that is left; at the end one or two are left. The
+-- measure is the rest, which a division by a hundred makes smaller. Assumes nothing.
 use Rattle.integers.proofs.Basics.{_≡_, refl, sym, ap, _∙_, ℕ, suc, _+_, _<_, arith, add-one, length}
 use mathlib.Core.List.{List, [], _∷_}
 use Prim.Native.Nat.{_%_, _/_}
 use Rattle.listing.specs.Text.{digit, decimal}
-use Rattle.listing.proofs.Decimals.{Digits, digits-none, digits-more, digits-length, digits-left, length-decimal}
+use Rattle.listing.proofs.Decimals.{Digits, digits-none, digits-pair, digits-all, digits-all-two, digits-left, length-decimal}
 use Rattle.listing.proofs.text.places.Statement.{statement}
 use Rattle.listing.proofs.text.places.Tie as tie
 
@@ -35,15 +35,29 @@ loop-again c =
     let so = c .before .loop .inv in
     let rest = c .before .loop .rest in
     record {
-      t = digit (rest % 10) ∷ so .t;
-      digits = digits-more (c .before .before .args .n) rest (so .t) (c .loop-test .taken) (so .digits);
-      count = add-one (c .before .loop .k) ∙ ap suc (so .count);
+      t = digit (rest % 100 / 10) ∷ digit (rest % 100 % 10) ∷ so .t;
+      digits = digits-pair (c .before .before .args .n) rest (so .t) (c .loop-test .taken) (so .digits);
+      count = omega (arith, so .count);
     }
+
+add-result : tie.Need-add-result Inv-loop μ-loop
+add-result c =
+    let so = c .before .before .loop .inv in
+    omega (arith, so .count, digits-left _ _ _ (so .digits), length-decimal (c .before .before .before .args .n))
 
 returns : tie.Need-returns Inv-loop μ-loop
 returns c =
-    let so = c .before .loop .inv in
-    so .count ∙ sym (digits-length (c .before .before .args .n) (c .before .loop .rest) (so .t) (c .loop-test .left) (so .digits))
+    let l = c .before .before in
+    let so = l .loop .inv in
+    let all = ap length (digits-all-two (l .before .args .n) (l .loop .rest) (so .t) (c .if1 .taken) (c .before .loop-test .left) (so .digits)) in
+    omega (arith, so .count, all)
+
+returns-2 : tie.Need-returns-2 Inv-loop μ-loop
+returns-2 c =
+    let l = c .before .before in
+    let so = l .loop .inv in
+    let all = ap length (digits-all (l .before .args .n) (l .loop .rest) (so .t) (c .if1 .left) (so .digits)) in
+    omega (arith, so .count, all)
 
 pub places-spec : {M : Type 1} → statement M
-places-spec = tie.close (tie.spec Inv-loop μ-loop loop-holds add-k loop-less loop-again returns)
+places-spec = tie.close (tie.spec Inv-loop μ-loop loop-holds add-k loop-less loop-again add-result returns returns-2)

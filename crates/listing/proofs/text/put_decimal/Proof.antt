@@ -1,13 +1,13 @@
 -- `listing::text::put_decimal` meets its contract: the digits passed stand in the buffer up to the end, and those of the rest are
--- still to come. The measure is the rest. Assumes nothing.
+-- still to come, at the end one or two. The measure is the rest. Assumes nothing.
 use Rattle.integers.proofs.Basics.{_≡_, refl, sym, ap, ap₂, subst, _∙_, ℕ, suc, _+_, _-_, _≤_, _<_, arith, add-one, needs, length, set, Fits, w8, w64}
 use mathlib.Core.List.{List, [], _∷_}
 use lib.ListN.{length-set}
 use Prim.Native.Nat.{_%_, _/_}
 use Rattle.listing.specs.Text.{digit, decimal}
 use Rattle.listing.specs.Inner.{splice, Put}
-use Rattle.listing.proofs.Putting.{splice-before, splice-none, length-splice}
-use Rattle.listing.proofs.Decimals.{Digits, digits-none, digits-more, digits-all, digits-length, digits-left, digits-two, length-decimal}
+use Rattle.listing.proofs.Putting.{splice-before, splice-pair, splice-none, length-splice}
+use Rattle.listing.proofs.Decimals.{Digits, digits-none, digits-pair, digits-all, digits-all-two, digits-three, length-decimal}
 use Rattle.listing.proofs.text.put_decimal.Statement.{statement}
 use Rattle.listing.proofs.text.put_decimal.Tie as tie
 
@@ -52,7 +52,7 @@ loop-holds c =
     let a = c .before .before .args in
     record { t = []; digits = digits-none (a .n) (c .before .before .fits .n .fits); here = omega arith; text = sym (splice-none (a .out .now) (finish c)) }
 
--- a turn: the rest has two digits at least
+-- a turn: the rest has three digits at least
 module _ (c : tie.In-loop Inv-loop μ-loop) where
   abbrev places : tie.After-places Inv-loop μ-loop
   places = c .before .before
@@ -69,14 +69,14 @@ module _ (c : tie.In-loop Inv-loop μ-loop) where
   so : So n (places .before .before .args .out .now) (finish places) (c .before .loop .out) rest i
   so = c .before .loop .inv
 
-  two : length (so .t) + 2 ≤ length (decimal n)
-  two = digits-two n rest (so .t) (c .loop-test .taken) (so .digits)
+  some : 2 ≤ i
+  some = omega (arith, digits-three n rest (so .t) (c .loop-test .taken) (so .digits), so .here, all places)
 
-  some : 1 ≤ i
-  some = omega (arith, two, so .here, all places)
+  before-end : i - 2 + 1 < length (places .before .before .args .out .now)
+  before-end = omega (arith, some, so .here, inside places)
 
-  within : i - 1 < length (c .before .loop .out)
-  within = omega (arith, some, so .here, long so (inside places), inside places)
+  within : i - 2 + 1 < length (c .before .loop .out)
+  within = omega (arith, before-end, long so (inside places))
 
 sub-i : tie.Need-sub-i Inv-loop μ-loop
 sub-i c = some c
@@ -87,8 +87,20 @@ cast-out c = record { fits = omega arith }
 add-out : tie.Need-add-out Inv-loop μ-loop
 add-out c = record { fits = omega arith }
 
+add-out-2 : tie.Need-add-out-2 Inv-loop μ-loop
+add-out-2 c = search (needs, before-end c)
+
 slice-write-out : tie.Need-slice-write-out Inv-loop μ-loop
 slice-write-out c = within c
+
+cast-out-2 : tie.Need-cast-out-2 Inv-loop μ-loop
+cast-out-2 c = record { fits = omega arith }
+
+add-out-3 : tie.Need-add-out-3 Inv-loop μ-loop
+add-out-3 c = record { fits = omega arith }
+
+slice-write-out-2 : tie.Need-slice-write-out-2 Inv-loop μ-loop
+slice-write-out-2 c = omega (arith, length-set (c .before .loop .out) (i c - 2 + 1) (48 + rest c % 100 % 10), within c)
 
 loop-less : tie.Need-loop-less Inv-loop μ-loop
 loop-less c = omega arith
@@ -96,15 +108,17 @@ loop-less c = omega arith
 loop-again : tie.Need-loop-again Inv-loop μ-loop
 loop-again c =
     let b = places c .before .before .args .out .now in
-    let one : suc (i c - 1) ≡ i c = omega (arith, some c) in
+    let tens = digit (rest c % 100 / 10) in
+    let ones = digit (rest c % 100 % 10) in
+    let two : i c ≡ i c - 2 + 2 = omega (arith, some c) in
     record {
-      t = digit (rest c % 10) ∷ so c .t;
-      digits = digits-more (n c) (rest c) (so c .t) (c .loop-test .taken) (so c .digits);
+      t = tens ∷ ones ∷ so c .t;
+      digits = digits-pair (n c) (rest c) (so c .t) (c .loop-test .taken) (so c .digits);
       here = omega (arith, some c, so c .here);
-      text = ap (λ (x : List ℕ). set x (i c - 1) (digit (rest c % 10))) (so c .text ∙ sym (ap (λ (k : ℕ). splice b k (so c .t)) one)) ∙ splice-before b (so c .t) (i c - 1) (digit (rest c % 10)) (omega (arith, some c, so c .here, inside (places c)));
+      text = ap (λ (x : List ℕ). set (set x (i c - 2 + 1) ones) (i c - 2) tens) (so c .text ∙ ap (λ (k : ℕ). splice b k (so c .t)) two) ∙ splice-pair b (so c .t) (i c - 2) tens ones (omega (arith, some c, so c .here, inside (places c)));
     }
 
--- the first digit is left
+-- at most two digits are left
 module _ (c : tie.After-loop Inv-loop μ-loop) where
   abbrev place : tie.After-places Inv-loop μ-loop
   place = c .before .before
@@ -112,41 +126,94 @@ module _ (c : tie.After-loop Inv-loop μ-loop) where
   abbrev a : ℕ
   a = place .before .before .args .at
 
-  so-left : So (place .before .before .args .n) (place .before .before .args .out .now) (finish place) (c .before .loop .out) (c .before .loop .rest) (c .before .loop .i)
+  abbrev b : List ℕ
+  b = place .before .before .args .out .now
+
+  abbrev m : ℕ
+  m = place .before .before .args .n
+
+  abbrev last : ℕ
+  last = c .before .loop .rest
+
+  so-left : So m b (finish place) (c .before .loop .out) last (c .before .loop .i)
   so-left = c .before .loop .inv
 
-  count : length (decimal (place .before .before .args .n)) ≡ suc (length (so-left .t))
-  count = digits-length _ _ _ (c .loop-test .left) (so-left .digits)
+  -- two
+  module _ (h : 10 ≤ last) where
+    all-two : decimal m ≡ digit (last / 10) ∷ digit (last % 10) ∷ so-left .t
+    all-two = digits-all-two m last (so-left .t) h (c .loop-test .left) (so-left .digits)
 
-  next : c .before .loop .i ≡ suc a
-  next = omega (arith, so-left .here, all place, count)
+    room-two : a + 1 < length b
+    room-two = omega (arith, all place, ap length all-two, inside place)
 
-  first : a < length (place .before .before .args .out .now)
-  first = omega (arith, all place, count, inside place)
+    text-two : set (set (c .before .loop .out) (a + 1) (digit (last % 10))) a (digit (last / 10)) ≡ splice b a (decimal m)
+    text-two =
+        let here : c .before .loop .i ≡ a + 2 = omega (arith, so-left .here, all place, ap length all-two) in
+        ap (λ (x : List ℕ). set (set x (a + 1) (digit (last % 10))) a (digit (last / 10))) (so-left .text ∙ ap (λ (k : ℕ). splice b k (so-left .t)) here) ∙ splice-pair b (so-left .t) a (digit (last / 10)) (digit (last % 10)) room-two ∙ sym (ap (splice b a) all-two)
 
-cast-out-2 : tie.Need-cast-out-2 Inv-loop μ-loop
-cast-out-2 c = record { fits = omega (arith, c .loop-test .left) }
+  -- one
+  module _ (h : last < 10) where
+    all-one : decimal m ≡ digit last ∷ so-left .t
+    all-one = digits-all m last (so-left .t) h (so-left .digits)
 
-add-out-2 : tie.Need-add-out-2 Inv-loop μ-loop
-add-out-2 c = record { fits = omega (arith, c .loop-test .left) }
+    room-one : a < length b
+    room-one = omega (arith, all place, ap length all-one, inside place)
 
-slice-write-out-2 : tie.Need-slice-write-out-2 Inv-loop μ-loop
-slice-write-out-2 c = omega (arith, first c, long (so-left c) (inside (place c)))
+    text-one : set (c .before .loop .out) a (digit last) ≡ splice b a (decimal m)
+    text-one =
+        let here : c .before .loop .i ≡ suc a = omega (arith, so-left .here, all place, ap length all-one) in
+        ap (λ (x : List ℕ). set x a (digit last)) (so-left .text ∙ ap (λ (k : ℕ). splice b k (so-left .t)) here) ∙ splice-before b (so-left .t) a (digit last) room-one ∙ sym (ap (splice b a) all-one)
+
+  ends : (out : List ℕ) → out ≡ splice b a (decimal m) → Put 20 a (decimal m) b out (finish place)
+  ends out e = record { end = ap (λ (k : ℕ). a + k) (all place); small = length-decimal m; room = inside place; text = e }
+
+cast-out-3 : tie.Need-cast-out-3 Inv-loop μ-loop
+cast-out-3 c = record { fits = omega arith }
+
+add-out-4 : tie.Need-add-out-4 Inv-loop μ-loop
+add-out-4 c = record { fits = omega arith }
+
+add-out-5 : tie.Need-add-out-5 Inv-loop μ-loop
+add-out-5 c = search (needs, room-two (c .before) (c .if1 .taken))
+
+slice-write-out-3 : tie.Need-slice-write-out-3 Inv-loop μ-loop
+slice-write-out-3 c = omega (arith, room-two (c .before) (c .if1 .taken), long (so-left (c .before)) (inside (place (c .before))))
+
+cast-out-4 : tie.Need-cast-out-4 Inv-loop μ-loop
+cast-out-4 c = record { fits = omega (arith, c .before .loop-test .left) }
+
+add-out-6 : tie.Need-add-out-6 Inv-loop μ-loop
+add-out-6 c = record { fits = omega (arith, c .before .loop-test .left) }
+
+slice-write-out-4 : tie.Need-slice-write-out-4 Inv-loop μ-loop
+slice-write-out-4 c =
+    let l = c .before in
+    omega (arith, room-two l (c .if1 .taken), long (so-left l) (inside (place l)), length-set (l .before .loop .out) (a l + 1) (48 + last l % 10))
 
 same-length : tie.Need-same-length Inv-loop μ-loop
-same-length c = length-set (c .before .loop .out) (a c) _ ∙ long (so-left c) (inside (place c))
+same-length c =
+    let l = c .before in
+    length-set (set (l .before .loop .out) (a l + 1) (digit (last l % 10))) (a l) (digit (last l / 10)) ∙ length-set (l .before .loop .out) (a l + 1) (digit (last l % 10)) ∙ long (so-left l) (inside (place l))
 
 returns : tie.Need-returns Inv-loop μ-loop
-returns c =
-    let b = place c .before .before .args .out .now in
-    let rest = c .before .loop .rest in
-    let t = so-left c .t in
-    record {
-      end = ap (λ (k : ℕ). a c + k) (all (place c));
-      small = length-decimal (place c .before .before .args .n);
-      room = inside (place c);
-      text = ap (λ (x : List ℕ). set x (a c) (digit rest)) (so-left c .text ∙ ap (λ (k : ℕ). splice b k t) (next c)) ∙ splice-before b t (a c) (digit rest) (first c) ∙ sym (ap (splice b (a c)) (digits-all _ rest t (c .loop-test .left) (so-left c .digits)));
-    }
+returns c = ends (c .before) _ (text-two (c .before) (c .if1 .taken))
+
+cast-out-5 : tie.Need-cast-out-5 Inv-loop μ-loop
+cast-out-5 c = record { fits = omega (arith, c .if1 .left) }
+
+add-out-7 : tie.Need-add-out-7 Inv-loop μ-loop
+add-out-7 c = record { fits = omega (arith, c .if1 .left) }
+
+slice-write-out-5 : tie.Need-slice-write-out-5 Inv-loop μ-loop
+slice-write-out-5 c = omega (arith, room-one (c .before) (c .if1 .left), long (so-left (c .before)) (inside (place (c .before))))
+
+same-length-2 : tie.Need-same-length-2 Inv-loop μ-loop
+same-length-2 c =
+    let l = c .before in
+    length-set (l .before .loop .out) (a l) (digit (last l)) ∙ long (so-left l) (inside (place l))
+
+returns-2 : tie.Need-returns-2 Inv-loop μ-loop
+returns-2 c = ends (c .before) _ (text-one (c .before) (c .if1 .left))
 
 pub put-decimal-spec : {M : Type 1} → statement M
 put-decimal-spec =
@@ -160,11 +227,24 @@ put-decimal-spec =
     sub-i
     cast-out
     add-out
+    add-out-2
     slice-write-out
+    cast-out-2
+    add-out-3
+    slice-write-out-2
     loop-less
     loop-again
-    cast-out-2
-    add-out-2
-    slice-write-out-2
+    cast-out-3
+    add-out-4
+    add-out-5
+    slice-write-out-3
+    cast-out-4
+    add-out-6
+    slice-write-out-4
     same-length
-    returns)
+    returns
+    cast-out-5
+    add-out-7
+    slice-write-out-5
+    same-length-2
+    returns-2)

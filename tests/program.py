@@ -1,0 +1,189 @@
+#!/usr/bin/env python3
+"""Test the program `envelope` and the command `run` from outside, as a user's shell would.
+
+    program.py
+
+What the program writes is compared byte by byte with listings that it did not make. It takes the
+built program, target/bin/envelope, and fails where there is none.
+"""
+
+from __future__ import annotations
+
+import os
+import socket
+import subprocess
+import sys
+import tempfile
+import unittest
+from pathlib import Path
+
+ROOT = Path(__file__).resolve().parent.parent
+PROGRAM = ROOT / "target" / "bin" / "envelope"
+EXAMPLES = ROOT / "examples"
+SAMPLE = (ROOT / "crates" / "envelope" / "stdin").read_bytes()
+SAMPLE_TEXT = (ROOT / "crates" / "envelope" / "stdout").read_bytes()
+TIME_LIMIT = 10  # seconds; a program that has not ended by then hangs
+MOST_WRITES = 20
+MOST_MEMORY = 4 * 1024  # kB
+
+sys.path.insert(0, str(ROOT / "tools"))
+
+import exact  # noqa: E402
+from layout import BOX, MAX_DIRECTIONS, MAX_GUARDS, MAX_N, MAX_REACH, MAX_STEPS, Model, Set, encode  # noqa: E402
+
+
+def largest() -> bytes:
+    """A model with as many rows as there can be, and long figures in them."""
+    ends = tuple([-MAX_REACH] * MAX_N), tuple([MAX_REACH] * MAX_N)
+    matrix = tuple(tuple(65_535 if p == i else 0 for i in range(MAX_N)) for p in range(MAX_N))
+    directions = tuple(
+        tuple((-1) ** (d + i) * (700 + d) for i in range(MAX_N)) for d in range(MAX_DIRECTIONS)
+    )
+    guards = tuple((g % MAX_DIRECTIONS, 10**12) for g in range(MAX_GUARDS))
+    return encode(Model(MAX_N, MAX_STEPS, matrix, Set(BOX, ends), Set(BOX, ends), directions, guards))
+
+
+def reply(data: bytes) -> bytes:
+    """What the program writes for a file."""
+    done = subprocess.run([PROGRAM], input=data, capture_output=True, timeout=TIME_LIMIT)
+    assert done.returncode == 0 and not done.stderr, done
+    return done.stdout
+
+
+class Text(unittest.TestCase):
+    def test_document_01s_sample_is_listed_as_there(self) -> None:
+        self.assertEqual(len(SAMPLE), 186)
+        self.assertEqual(reply(SAMPLE), SAMPLE_TEXT)
+
+    def test_each_example_has_its_listing(self) -> None:
+        models = sorted(EXAMPLES.glob("*.bin"))
+        self.assertGreater(len(models), 5)
+        for model in models:
+            with self.subTest(model.name):
+                self.assertEqual(reply(model.read_bytes()), model.with_suffix(".listing").read_bytes())
+
+    def test_the_largest_listing_is_whole(self) -> None:
+        data = largest()
+        text = reply(data)
+        self.assertEqual(text, exact.listing(data).encode("ascii"))
+        self.assertEqual(text.count(b"\n"), 1 + 16 * (1 + 257) + 16)
+
+    def test_an_empty_file_is_refused_by_1_at_0(self) -> None:
+        self.assertEqual(reply(b""), b"refused 1 at 0\n")
+
+    def test_a_text_is_refused(self) -> None:
+        self.assertEqual(reply((ROOT / "README.md").read_bytes()), b"refused 3 at 0\n")
+
+    def test_what_lies_behind_2048_bytes_makes_no_difference(self) -> None:
+        self.assertEqual(reply(SAMPLE + bytes(4000)), b"refused 10 at 186\n")
+        self.assertEqual(reply((SAMPLE + bytes(4000))[:2048]), b"refused 10 at 186\n")
+
+
+class Input(unittest.TestCase):
+    def test_a_file_that_comes_byte_by_byte_is_read_whole(self) -> None:
+        with subprocess.Popen([PROGRAM], stdin=subprocess.PIPE, stdout=subprocess.PIPE) as started:
+            for byte in SAMPLE:
+                os.write(started.stdin.fileno(), bytes([byte]))
+            started.stdin.close()
+            self.assertEqual(started.stdout.read(), SAMPLE_TEXT)
+
+    def test_input_without_end_gets_a_reply(self) -> None:
+        with open("/dev/zero", "rb") as zeros:
+            done = subprocess.run([PROGRAM], stdin=zeros, capture_output=True, timeout=TIME_LIMIT)
+        self.assertEqual(done.stdout, b"refused 2 at 0\n")
+
+    def test_no_more_than_2048_bytes_are_read(self) -> None:
+        with tempfile.TemporaryFile() as file:
+            file.write(SAMPLE + bytes(4000))
+            file.seek(0)
+            subprocess.run([PROGRAM], stdin=file, capture_output=True, timeout=TIME_LIMIT)
+            self.assertEqual(os.lseek(file.fileno(), 0, os.SEEK_CUR), 2048)
+
+    def test_closed_input_is_an_empty_file(self) -> None:
+        done = subprocess.run(
+            ["sh", "-c", f"'{PROGRAM}' <&-"], capture_output=True, timeout=TIME_LIMIT
+        )
+        self.assertEqual(done.stdout, b"refused 1 at 0\n")
+
+    def test_a_directory_as_input_is_an_empty_file(self) -> None:
+        folder = os.open(EXAMPLES, os.O_RDONLY)
+        try:
+            done = subprocess.run([PROGRAM], stdin=folder, capture_output=True, timeout=TIME_LIMIT)
+        finally:
+            os.close(folder)
+        self.assertEqual(done.stdout, b"refused 1 at 0\n")
+
+
+class Output(unittest.TestCase):
+    def test_the_largest_listing_takes_few_writes(self) -> None:
+        # A packet for each write.
+        ours, theirs = socket.socketpair(socket.AF_UNIX, socket.SOCK_SEQPACKET)
+        theirs.setsockopt(socket.SOL_SOCKET, socket.SO_SNDBUF, 1 << 20)
+        with ours, theirs, subprocess.Popen([PROGRAM], stdin=subprocess.PIPE, stdout=theirs) as started:
+            started.stdin.write(largest())
+            started.stdin.close()
+            theirs.close()
+            ours.settimeout(TIME_LIMIT)
+            packets = []
+            while packet := ours.recv(1 << 20):
+                packets.append(packet)
+        self.assertEqual(b"".join(packets), exact.listing(largest()).encode("ascii"))
+        self.assertLessEqual(len(packets), MOST_WRITES)
+
+    def test_output_that_fails_is_told_on_standard_error(self) -> None:
+        for output in (">&-", "> /dev/full"):
+            with self.subTest(output):
+                done = subprocess.run(
+                    ["sh", "-c", f"'{PROGRAM}' {output}"],
+                    input=SAMPLE, capture_output=True, timeout=TIME_LIMIT,
+                )
+                self.assertRegex(done.stderr, rb"^envelope: standard output: .+\n$")
+
+    def test_a_reader_that_goes_away_ends_the_program(self) -> None:
+        with subprocess.Popen([PROGRAM], stdin=subprocess.PIPE, stdout=subprocess.PIPE) as started:
+            started.stdout.close()
+            started.stdin.write(largest())
+            started.stdin.close()
+            started.wait(TIME_LIMIT)
+
+    def test_the_largest_listing_fits_in_4_mb_of_address_space(self) -> None:
+        done = subprocess.run(
+            ["sh", "-c", f"ulimit -v {MOST_MEMORY} && exec '{PROGRAM}'"],
+            input=largest(), capture_output=True, timeout=TIME_LIMIT,
+        )
+        self.assertEqual(done.stdout, exact.listing(largest()).encode("ascii"))
+
+
+class Run(unittest.TestCase):
+    def run_on(self, *words: str) -> subprocess.CompletedProcess[bytes]:
+        return subprocess.run([ROOT / "run", *words], capture_output=True, timeout=600)
+
+    def test_a_text_and_its_packed_file_give_the_listing(self) -> None:
+        for suffix in (".model", ".bin"):
+            with self.subTest(suffix):
+                done = self.run_on(str(EXAMPLES / ("rail" + suffix)))
+                self.assertEqual(done.returncode, 0, done.stderr)
+                self.assertEqual(done.stdout, (EXAMPLES / "rail.listing").read_bytes())
+
+    def test_a_refused_file_has_a_status_of_its_own(self) -> None:
+        with tempfile.NamedTemporaryFile() as file:
+            file.write(SAMPLE[:-1])
+            file.flush()
+            done = self.run_on(file.name)
+        self.assertEqual((done.returncode, done.stdout), (1, b"refused 1 at 185\n"))
+
+    def test_bad_input_is_named(self) -> None:
+        for words, status, message in (
+            ([], 2, b"usage"),
+            ([str(EXAMPLES / "missing.model")], 2, b"missing.model is not there"),
+            ([str(EXAMPLES)], 2, b"is a directory"),
+            ([str(ROOT / "README.md")], 1, b"README.md:3: "),
+        ):
+            with self.subTest(words):
+                done = self.run_on(*words)
+                self.assertEqual((done.returncode, done.stdout), (status, b""))
+                self.assertIn(message, done.stderr)
+
+
+if __name__ == "__main__":
+    unittest.main()
