@@ -1,0 +1,206 @@
+//! Line-by-line envelopes of stepped printer models.
+//!
+//! Safe bindings of Pepperscarp's C interface. The routines behind it are proved: [`sweep`] leaves exactly the bounds and slacks
+//! of document 01's recurrence, [`judge`] answers exactly its verdicts, and every file, number and list length gets its reply. This
+//! crate adds the types and no arithmetic. It is tested against a version of document 01 in Rust, and not proved.
+//!
+//! A model is the bytes of a model file. What a call lends is filled to the end, or on a refusal is exactly as it was. Nothing is
+//! kept from one call to the next, and calls from several threads do not disturb each other.
+//!
+//! ```
+//! // One coordinate, 2 steps, the matrix 1, initial [2,5], input [-1,1], direction 3, a guard on it at level 21.
+//! let mut file = vec![0x01, 1, 2, 0, 0x02, 0];
+//! let six = |first: i32| [first, 0, 0, 0, 0, 0].map(i32::to_le_bytes).concat();
+//! file.extend(six(65_536));
+//! for (kind, first) in [(0x10, 2), (0x11, 5), (0x20, -1), (0x21, 1), (0x30, 3)] {
+//!     file.push(kind);
+//!     file.extend(six(first));
+//! }
+//! file.extend([0x40, 0, 21, 0, 0, 0, 0, 0, 0, 0, 0xFF]);
+//!
+//! let (mut bounds, mut slacks) = ([0; 3], [0; 3]);
+//! let spare = pepperscarp::sweep(&file, 0, &mut bounds, &mut slacks)?;
+//! assert_eq!((spare, bounds, slacks), (8, [15, 18, 21], [0, 0, 0]));
+//! let verdict = pepperscarp::judge(&file, 0, &mut bounds, &mut slacks)?;
+//! assert_eq!(verdict, pepperscarp::Verdict::Hit(2));
+//! # Ok::<(), pepperscarp::Refusal>(())
+//! ```
+
+#![deny(missing_docs)]
+
+use std::error::Error;
+use std::fmt;
+
+/// The length that is enough for the lists of every model: 256 steps, and step 0.
+pub const LONGEST_LIST: usize = 257;
+
+/// What is said of a guard. A guard is reached where direction · state is at least its level.
+#[derive(Clone, Copy, PartialEq, Eq, Hash, Debug)]
+pub enum Verdict {
+    /// Some run reaches the level at this step, the first for which that is certain. A run may reach it earlier.
+    Hit(usize),
+    /// No step is a certain hit, but the bound of this step, the first such, doesn't exclude the level.
+    Unknown(usize),
+    /// No run reaches the level at any step.
+    Clear,
+}
+
+/// Why a call was refused. What it was lent is as it was.
+#[derive(Clone, Copy, PartialEq, Eq, Hash, Debug)]
+pub enum Refusal {
+    /// The bytes are no model: document 01's number, 1 to 10, and the offset that it is told at.
+    File {
+        /// The number, 1 to 10.
+        number: u8,
+        /// The offset of the record at fault; for 10 of the first byte after the end; the length where no byte is left.
+        offset: usize,
+    },
+    /// Number 11: a value breaks a rule. Only [`step`] answers it, since a file that was read breaks none.
+    Invalid,
+    /// Number 12: no such direction, or no such guard.
+    NoSuchNumber,
+    /// Number 13: a lent list isn't K + 1 long.
+    WrongLength,
+    /// Number 14: the working figures of the direction pass their limit, first at this step.
+    Growth(usize),
+}
+
+impl Refusal {
+    /// Document 01's number of the refusal.
+    pub fn number(self) -> u8 {
+        match self {
+            Refusal::File { number, .. } => number,
+            Refusal::Invalid => 11,
+            Refusal::NoSuchNumber => 12,
+            Refusal::WrongLength => 13,
+            Refusal::Growth(_) => 14,
+        }
+    }
+}
+
+impl fmt::Display for Refusal {
+    fn fmt(&self, f: &mut fmt::Formatter<'_>) -> fmt::Result {
+        match self {
+            Refusal::File { number, offset } => write!(f, "refused {number} at {offset}: the file is no model"),
+            Refusal::Invalid => write!(f, "refused 11: a value breaks a rule"),
+            Refusal::NoSuchNumber => write!(f, "refused 12: no such direction or guard"),
+            Refusal::WrongLength => write!(f, "refused 13: a list isn't K + 1 long"),
+            Refusal::Growth(step) => write!(f, "refused 14: growth at step {step}"),
+        }
+    }
+}
+
+impl Error for Refusal {}
+
+/// The C interface. A slice is a pointer and a length, an array a pointer.
+mod c {
+    extern "C" {
+        pub fn pepperscarp_step(n: usize, matrix: *const i32, r: *mut i64, e: *mut i64) -> u64;
+
+        pub fn pepperscarp_sweep(
+            file: *const u8,
+            file_len: usize,
+            direction: usize,
+            bounds: *mut i64,
+            bounds_len: usize,
+            slacks: *mut i64,
+            slacks_len: usize,
+        ) -> u64;
+
+        pub fn pepperscarp_judge(
+            file: *const u8,
+            file_len: usize,
+            guard: usize,
+            bounds: *mut i64,
+            bounds_len: usize,
+            slacks: *mut i64,
+            slacks_len: usize,
+        ) -> u64;
+
+        // pepperscarp_listing comes here.
+    }
+}
+
+/// Verdict and figure of an answer, or its refusal. An answer is number + 256 × verdict + 65,536 × figure.
+fn unpack(answer: u64) -> Result<(u8, u64), Refusal> {
+    let number = answer as u8;
+    let verdict = (answer >> 8) as u8;
+    let figure = answer >> 16;
+    match number {
+        0 => Ok((verdict, figure)),
+        1..=10 => Err(Refusal::File { number, offset: figure as usize }),
+        11 => Err(Refusal::Invalid),
+        12 => Err(Refusal::NoSuchNumber),
+        13 => Err(Refusal::WrongLength),
+        14 => Err(Refusal::Growth(figure as usize)),
+        _ => unreachable!("no routine answers number {number}"),
+    }
+}
+
+/// One step of a working direction `r` with its errors `e`, in place, by the transpose of the matrix (six rows of six), and the
+/// growth sum of what it left: the largest |r| + e.
+///
+/// What lies beyond the n coordinates is zero. [`Refusal::Invalid`], with `r` and `e` as they were, for n outside 1 to 6, a matrix
+/// entry beyond 131,072 in magnitude, a nonzero value beyond n, an e below 0, or a growth sum above 1,073,741,824 before the step.
+pub fn step(n: usize, matrix: &[i32; 36], r: &mut [i64; 6], e: &mut [i64; 6]) -> Result<u64, Refusal> {
+    // SAFETY: the routine reads 36 elements of the matrix and reads and writes six of r and of e, and keeps no pointer.
+    let answer = unsafe { c::pepperscarp_step(n, matrix.as_ptr(), r.as_mut_ptr(), e.as_mut_ptr()) };
+    unpack(answer).map(|(_, sum)| sum)
+}
+
+/// Bounds and slacks of direction number `direction` of the file's model for steps 0 to K, and the spare figure, 0 to 10.
+///
+/// No run is above `bounds[k]` at step k, and some run comes to `bounds[k] - slacks[k]`. Both lists have to be K + 1 long. A file
+/// is refused by [`Refusal::File`]; then [`Refusal::NoSuchNumber`], [`Refusal::WrongLength`] and [`Refusal::Growth`] are tested, in
+/// this order, and the lists keep every element.
+pub fn sweep(file: &[u8], direction: usize, bounds: &mut [i64], slacks: &mut [i64]) -> Result<u32, Refusal> {
+    // SAFETY: the routine reads the file's bytes, writes within the two lists alone, which do not overlap, and keeps no pointer.
+    let answer = unsafe {
+        c::pepperscarp_sweep(
+            file.as_ptr(),
+            file.len(),
+            direction,
+            bounds.as_mut_ptr(),
+            bounds.len(),
+            slacks.as_mut_ptr(),
+            slacks.len(),
+        )
+    };
+    unpack(answer).map(|(_, spare)| spare as u32)
+}
+
+/// The verdict on guard number `guard` of the file's model, with the sweep of its direction left in the lists.
+///
+/// The lists and the refusals are those of [`sweep`].
+pub fn judge(file: &[u8], guard: usize, bounds: &mut [i64], slacks: &mut [i64]) -> Result<Verdict, Refusal> {
+    // SAFETY: as for the sweep.
+    let answer = unsafe {
+        c::pepperscarp_judge(
+            file.as_ptr(),
+            file.len(),
+            guard,
+            bounds.as_mut_ptr(),
+            bounds.len(),
+            slacks.as_mut_ptr(),
+            slacks.len(),
+        )
+    };
+    match unpack(answer)? {
+        (1, step) => Ok(Verdict::Hit(step as usize)),
+        (2, step) => Ok(Verdict::Unknown(step as usize)),
+        (3, _) => Ok(Verdict::Clear),
+        (verdict, _) => unreachable!("the judge answers no verdict {verdict}"),
+    }
+}
+
+// The listing of a file (`pepperscarp_listing`) comes here.
+
+/// The length that the lists for this file have to have, K + 1, as its head says; `None` where the file does not start with a
+/// head. The rest of the file isn't looked at: [`sweep`] and [`judge`] test it all.
+pub fn list_length(file: &[u8]) -> Option<usize> {
+    match file {
+        [0x01, _, 0, 0, ..] => Some(61),
+        [0x01, _, low, high, ..] => Some(usize::from(u16::from_le_bytes([*low, *high])) + 1),
+        _ => None,
+    }
+}

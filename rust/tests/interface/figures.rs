@@ -1,0 +1,189 @@
+//! The figures of document 01, "Figures to test against", that the interface can show, and the listings in examples/.
+
+use crate::document;
+use crate::makers::{end, file, guard, head, numbers, row, Record};
+use crate::sweeps::compare_sweep;
+use pepperscarp::{judge, list_length, step, sweep, Refusal, Verdict};
+use std::fmt::Write;
+use std::path::Path;
+
+/// A model of one coordinate with boxes.
+fn line(steps: u16, entry: i32, initial: [i32; 2], input: [i32; 2], direction: i32, levels: &[i64]) -> Vec<u8> {
+    let mut records = vec![head(1, steps), row(0, &[entry])];
+    for (kind, corner) in [(0x10, initial[0]), (0x11, initial[1]), (0x20, input[0]), (0x21, input[1])] {
+        records.push(numbers(kind, &[corner]));
+    }
+    records.push(numbers(0x30, &[direction]));
+    records.extend(levels.iter().map(|level| guard(0, *level)));
+    records.push(end());
+    file(&records)
+}
+
+/// The sweep of direction 0: spare figure, bounds and slacks.
+fn swept(bytes: &[u8]) -> Result<(u32, Vec<i64>, Vec<i64>), Refusal> {
+    let length = list_length(bytes).expect("a head");
+    let (mut bounds, mut slacks) = (vec![0; length], vec![0; length]);
+    let spare = sweep(bytes, 0, &mut bounds, &mut slacks)?;
+    Ok((spare, bounds, slacks))
+}
+
+fn judged(bytes: &[u8], number: usize) -> Result<Verdict, Refusal> {
+    let length = list_length(bytes).expect("a head");
+    judge(bytes, number, &mut vec![0; length], &mut vec![0; length])
+}
+
+#[test]
+fn cases_1_to_3_a_sum_of_inputs_and_its_guards() {
+    let bytes = line(2, 65_536, [2, 5], [-1, 1], 3, &[21, 22]);
+    let (_, bounds, slacks) = swept(&bytes).expect("calm");
+    assert_eq!((bounds, slacks), (vec![15, 18, 21], vec![0, 0, 0]));
+    assert_eq!(judged(&bytes, 0), Ok(Verdict::Hit(2)));
+    assert_eq!(judged(&bytes, 1), Ok(Verdict::Clear));
+}
+
+#[test]
+fn case_4_the_last_fraction_of_the_bound_is_in_the_slack() {
+    let (_, bounds, slacks) = swept(&line(3, 32_768, [0, 100], [0, 0], 1, &[])).expect("calm");
+    assert_eq!((bounds, slacks), (vec![100, 50, 25, 13], vec![0, 0, 0, 1]));
+}
+
+#[test]
+fn cases_5_and_6_negative_products_are_rounded_toward_minus_infinity() {
+    let (_, bounds, slacks) = swept(&line(2, 1, [0, 100], [0, 0], 1, &[])).expect("calm");
+    assert_eq!((bounds, slacks), (vec![100, 1, 1], vec![0, 1, 2]));
+    let (_, bounds, _) = swept(&line(2, 1, [0, 100], [0, 0], -1, &[])).expect("calm");
+    assert_eq!(bounds, vec![0, 0, 1]);
+
+    let mut matrix = [0; 36];
+    matrix[0] = 1;
+    let (mut r, mut e) = ([0; 6], [0; 6]);
+    r[0] = -1_048_576;
+    assert_eq!(step(1, &matrix, &mut r, &mut e), Ok(16));
+    assert_eq!((r[0], e[0]), (-16, 0));
+    assert_eq!(step(1, &matrix, &mut r, &mut e), Ok(2));
+    assert_eq!((r[0], e[0]), (-1, 1));
+}
+
+#[test]
+fn cases_7_and_8_the_last_step_without_growth_and_the_first_with_it() {
+    assert_eq!(swept(&line(10, 131_072, [0, 0], [0, 0], 1, &[])).expect("not yet").0, 0);
+    assert_eq!(swept(&line(11, 131_072, [0, 0], [0, 0], 1, &[])), Err(Refusal::Growth(11)));
+}
+
+/// A model of two coordinates with this initial set, input zero and one direction.
+fn plane(rows: [[i32; 2]; 2], initial: &[Record], direction: [i32; 2]) -> Vec<u8> {
+    let mut records = vec![head(2, 1), row(0, &rows[0]), row(1, &rows[1])];
+    records.extend_from_slice(initial);
+    records.extend([numbers(0x20, &[0, 0]), numbers(0x21, &[0, 0]), numbers(0x30, &direction), end()]);
+    file(&records)
+}
+
+#[test]
+fn cases_9_to_11_supports_as_bounds_of_step_0() {
+    let zonotope = [numbers(0x12, &[1, -2]), numbers(0x13, &[3, 1]), numbers(0x13, &[-1, 2])];
+    let vertices = [numbers(0x14, &[0, 0]), numbers(0x14, &[4, 0]), numbers(0x14, &[0, 3])];
+    let corners = [numbers(0x10, &[-2, 3]), numbers(0x11, &[1, 4])];
+    for (initial, direction, support) in [(&zonotope[..], [1, 1], 4), (&vertices[..], [1, 2], 6), (&corners[..], [-1, 1], 6)] {
+        let (_, bounds, slacks) = swept(&plane([[0, 0], [0, 0]], initial, direction)).expect("calm");
+        assert_eq!((bounds, slacks), (vec![support, 0], vec![0, 0]));
+    }
+}
+
+#[test]
+fn case_12_the_step_takes_the_transpose_of_the_matrix() {
+    let corners = [numbers(0x10, &[0, 7]), numbers(0x11, &[1, 9])];
+    let (_, bounds, _) = swept(&plane([[0, 65_536], [0, 0]], &corners, [1, 0])).expect("calm");
+    assert_eq!(bounds[1], 9);
+}
+
+#[test]
+fn case_13_limits_are_accepted_and_one_more_is_refused() {
+    assert!(swept(&line(1, 0, [0, 0], [0, 0], 1_000, &[])).is_ok());
+    assert_eq!(swept(&line(1, 0, [0, 0], [0, 0], 1_001, &[])), Err(Refusal::File { number: 7, offset: 130 }));
+    assert!(swept(&line(1, 0, [0, 1_048_576], [0, 0], 1, &[])).is_ok());
+    assert_eq!(swept(&line(1, 0, [0, 1_048_577], [0, 0], 1, &[])), Err(Refusal::File { number: 6, offset: 55 }));
+}
+
+#[test]
+fn case_14_an_empty_file_is_refused_by_1_at_offset_0() {
+    assert_eq!(sweep(&[], 0, &mut [], &mut []), Err(Refusal::File { number: 1, offset: 0 }));
+    assert_eq!(judge(&[], 0, &mut [], &mut []), Err(Refusal::File { number: 1, offset: 0 }));
+}
+
+#[test]
+fn the_sample_has_its_spare_figure_bounds_slacks_and_verdicts() {
+    let bytes = line(3, 32_768, [0, 0], [0, 1], 1, &[1, 2, 3]);
+    assert_eq!(bytes.len(), 186);
+    assert_eq!(swept(&bytes), Ok((10, vec![0, 1, 2, 2], vec![0, 0, 1, 1])));
+    assert_eq!(
+        [0, 1, 2].map(|number| judged(&bytes, number)),
+        [Ok(Verdict::Hit(1)), Ok(Verdict::Unknown(2)), Ok(Verdict::Clear)]
+    );
+}
+
+#[test]
+fn growth_counts_the_errors_and_so_does_the_spare_figure() {
+    assert_eq!(swept(&line(2, 75_922, [0, 0], [0, 0], 763, &[])), Err(Refusal::Growth(2)));
+    assert_eq!(swept(&line(5, 81_325, [0, 0], [0, 0], 87, &[])).expect("not yet").0, 1);
+}
+
+#[test]
+fn errors_are_rounded_up_and_the_slack_is_doubled() {
+    let (_, bounds, slacks) = swept(&line(3, 3, [0, 1], [0, 0], 1, &[])).expect("calm");
+    assert_eq!((bounds, slacks), (vec![1, 1, 1, 1], vec![0, 1, 2, 2]));
+    let (_, bounds, slacks) = swept(&line(2, 3, [0, 600_000], [0, 0], 1, &[])).expect("calm");
+    assert_eq!((bounds, slacks), (vec![600_000, 28, 1], vec![0, 1, 3]));
+}
+
+/// The listing of an accepted file, from the calls alone.
+fn listing(bytes: &[u8]) -> String {
+    let length = list_length(bytes).expect("a head");
+    let (mut bounds, mut slacks) = (vec![0; length], vec![0; length]);
+    let mut text = format!("model {} {}\n", bytes[1], length - 1);
+    for direction in 0.. {
+        match sweep(bytes, direction, &mut bounds, &mut slacks) {
+            Ok(spare) => {
+                writeln!(text, "dir {direction} spare {spare}").unwrap();
+                for k in 0..length {
+                    writeln!(text, "{k} {} {}", bounds[k], slacks[k]).unwrap();
+                }
+            }
+            Err(Refusal::Growth(step)) => writeln!(text, "dir {direction} growth {step}").unwrap(),
+            Err(refusal) => {
+                assert_eq!(refusal, Refusal::NoSuchNumber);
+                break;
+            }
+        }
+    }
+    for number in 0.. {
+        match judge(bytes, number, &mut bounds, &mut slacks) {
+            Ok(Verdict::Hit(step)) => writeln!(text, "guard {number} HIT {step}").unwrap(),
+            Ok(Verdict::Unknown(step)) => writeln!(text, "guard {number} UNKNOWN {step}").unwrap(),
+            Ok(Verdict::Clear) => writeln!(text, "guard {number} CLEAR").unwrap(),
+            Err(Refusal::Growth(step)) => writeln!(text, "guard {number} GROWTH {step}").unwrap(),
+            Err(refusal) => {
+                assert_eq!(refusal, Refusal::NoSuchNumber);
+                break;
+            }
+        }
+    }
+    text
+}
+
+#[test]
+fn the_calls_give_the_listing_of_every_example() {
+    let folder = Path::new(env!("CARGO_MANIFEST_DIR")).join("../examples");
+    let mut seen = 0;
+    for entry in std::fs::read_dir(&folder).expect("the folder of examples") {
+        let path = entry.expect("an entry").path();
+        if path.extension().is_some_and(|extension| extension == "bin") {
+            let bytes = std::fs::read(&path).expect("the packed model");
+            let expected = std::fs::read_to_string(path.with_extension("listing")).expect("its listing");
+            assert_eq!(listing(&bytes), expected, "{}", path.display());
+            let model = document::read(&bytes).expect("a model");
+            compare_sweep(&bytes, &model, 0);
+            seen += 1;
+        }
+    }
+    assert!(seen >= 7, "the examples are there");
+}

@@ -1,0 +1,289 @@
+//! Random models as records, and ways to damage them. The generator is fixed, so every run makes the same files.
+
+/// A small generator (splitmix64).
+pub struct Random(u64);
+
+impl Random {
+    pub fn new(seed: u64) -> Random {
+        Random(seed)
+    }
+
+    pub fn bits(&mut self) -> u64 {
+        self.0 = self.0.wrapping_add(0x9E37_79B9_7F4A_7C15);
+        let mut z = self.0;
+        z = (z ^ (z >> 30)).wrapping_mul(0xBF58_476D_1CE4_E5B9);
+        z = (z ^ (z >> 27)).wrapping_mul(0x94D0_49BB_1331_11EB);
+        z ^ (z >> 31)
+    }
+
+    /// A number from low to high.
+    pub fn between(&mut self, low: i64, high: i64) -> i64 {
+        let width = (i128::from(high) - i128::from(low) + 1) as u128;
+        (i128::from(low) + (u128::from(self.bits()) % width) as i128) as i64
+    }
+
+    pub fn below(&mut self, count: usize) -> usize {
+        (self.bits() % count as u64) as usize
+    }
+
+    pub fn pick<T: Clone>(&mut self, choices: &[T]) -> T {
+        choices[self.below(choices.len())].clone()
+    }
+
+    pub fn one_in(&mut self, count: usize) -> bool {
+        self.below(count) == 0
+    }
+}
+
+/// One record: its kind and its body.
+#[derive(Clone, Debug)]
+pub struct Record {
+    pub kind: u8,
+    pub body: Vec<u8>,
+}
+
+/// The bytes of a file of these records.
+pub fn file(records: &[Record]) -> Vec<u8> {
+    let mut bytes = Vec::new();
+    for record in records {
+        bytes.push(record.kind);
+        bytes.extend_from_slice(&record.body);
+    }
+    bytes
+}
+
+pub fn head(n: u8, steps: u16) -> Record {
+    let [low, high] = steps.to_le_bytes();
+    Record { kind: 0x01, body: vec![n, low, high] }
+}
+
+fn six(numbers: &[i32]) -> Vec<u8> {
+    let mut all = [0; 6];
+    all[..numbers.len()].copy_from_slice(numbers);
+    all.map(i32::to_le_bytes).concat()
+}
+
+pub fn row(number: u8, entries: &[i32]) -> Record {
+    Record { kind: 0x02, body: [vec![number], six(entries)].concat() }
+}
+
+/// A point of a set or a direction.
+pub fn numbers(kind: u8, entries: &[i32]) -> Record {
+    Record { kind, body: six(entries) }
+}
+
+pub fn guard(direction: u8, level: i64) -> Record {
+    Record { kind: 0x40, body: [vec![direction], level.to_le_bytes().to_vec()].concat() }
+}
+
+pub fn end() -> Record {
+    Record { kind: 0xFF, body: Vec::new() }
+}
+
+/// The last six numbers of a body with n of them kept; the others, which a reader ignores, are sometimes filled.
+fn filled(random: &mut Random, n: usize, mut entries: [i32; 6]) -> [i32; 6] {
+    if random.one_in(2) {
+        for entry in &mut entries[n..] {
+            *entry = random.pick(&[i32::MIN, i32::MAX, -1, 1, 77_777]);
+        }
+    }
+    entries
+}
+
+/// How the entries of a matrix are drawn.
+#[derive(Clone, Copy, Debug)]
+enum Matrix {
+    Calm,
+    Swinging,
+    Growing,
+    Extreme,
+    Sparse,
+}
+
+fn matrix_rows(random: &mut Random, n: usize) -> Vec<Record> {
+    let style = random.pick(&[Matrix::Calm, Matrix::Calm, Matrix::Swinging, Matrix::Growing, Matrix::Extreme, Matrix::Sparse]);
+    let share = 65_535 / n as i64;
+    (0..n)
+        .map(|number| {
+            let mut entries = [0; 6];
+            for (column, entry) in entries.iter_mut().enumerate().take(n) {
+                *entry = match style {
+                    Matrix::Calm => random.between(-share, share),
+                    Matrix::Swinging if column == number => random.between(60_000, 66_500),
+                    Matrix::Swinging => random.between(-1_500, 1_500),
+                    Matrix::Growing => random.between(-80_000, 80_000),
+                    Matrix::Extreme => random.pick(&[-131_072, -131_071, -65_536, -1, 0, 0, 1, 65_535, 65_536, 131_072]),
+                    Matrix::Sparse if random.one_in(n) => random.between(-65_536, 65_536),
+                    Matrix::Sparse => 0,
+                } as i32;
+            }
+            let entries = filled(random, n, entries);
+            row(number as u8, &entries)
+        })
+        .collect()
+}
+
+/// A set's points. For a zonotope the reach is shared out over its points.
+fn set_points(random: &mut Random, n: usize, family: u8) -> Vec<Record> {
+    let most = random.pick(&[0, 1, 10, 5_000, 1_048_576, 1_048_576]);
+    let edge = random.one_in(4);
+    let value = |random: &mut Random, most: i64| -> i32 {
+        (if edge { random.pick(&[-most, most, most, 0]) } else { random.between(-most, most) }) as i32
+    };
+    let point = |random: &mut Random, most: i64| -> [i32; 6] {
+        let mut entries = [0; 6];
+        for entry in &mut entries[..n] {
+            *entry = value(random, most);
+        }
+        entries
+    };
+    let (kinds, points): (Vec<u8>, Vec<[i32; 6]>) = match random.below(3) {
+        0 => {
+            let (mut lower, mut upper) = (point(random, most), point(random, most));
+            for i in 0..6 {
+                (lower[i], upper[i]) = (lower[i].min(upper[i]), lower[i].max(upper[i]));
+            }
+            (vec![0, 1], vec![lower, upper])
+        }
+        1 => {
+            let generators = random.pick(&[1, 2, 3, 7, 8]);
+            let share = most / (1 + generators as i64);
+            let kinds = std::iter::once(2).chain(vec![3; generators]).collect();
+            (kinds, (0..=generators).map(|_| point(random, share)).collect())
+        }
+        _ => {
+            let count = random.pick(&[1, 2, 3, 5, 15, 16]);
+            (vec![4; count], (0..count).map(|_| point(random, most)).collect())
+        }
+    };
+    let filled = |random: &mut Random, (kind, entries): (u8, [i32; 6])| numbers(family + kind, &filled(random, n, entries));
+    kinds.into_iter().zip(points).map(|pair| filled(random, pair)).collect()
+}
+
+fn direction(random: &mut Random, n: usize) -> Record {
+    let most = random.pick(&[1, 3, 100, 1_000]);
+    let mut entries = [0; 6];
+    for entry in &mut entries[..n] {
+        *entry = random.between(-most, most) as i32;
+    }
+    if random.one_in(4) || entries == [0; 6] {
+        entries[random.below(n)] = random.pick(&[-1_000, -1, 1, 1_000]);
+    }
+    let entries = filled(random, n, entries);
+    numbers(0x30, &entries)
+}
+
+/// The records of a valid model without guards and without the end.
+pub fn open_model(random: &mut Random) -> Vec<Record> {
+    let n = 1 + random.below(6);
+    let steps = match random.below(8) {
+        0 => 0,
+        1 => 1,
+        2 => 256,
+        3 => 255,
+        4 => random.between(1, 256),
+        _ => random.between(1, 40),
+    };
+    let mut records = vec![head(n as u8, steps as u16)];
+    records.extend(matrix_rows(random, n));
+    records.extend(set_points(random, n, 0x10));
+    records.extend(set_points(random, n, 0x20));
+    let count = random.pick(&[1, 2, 3, 4, 16]);
+    records.extend((0..count).map(|_| direction(random, n)));
+    records
+}
+
+/// The records of a valid model with guards at random levels, and the end.
+pub fn model(random: &mut Random) -> Vec<Record> {
+    let mut records = open_model(random);
+    let directions = records.iter().filter(|record| record.kind == 0x30).count();
+    let count = random.pick(&[0, 1, 2, 5, 16]);
+    for _ in 0..count {
+        let level = random.pick(&[i64::MIN, -1, 0, 1, 1_000_000, i64::MAX]);
+        records.push(guard(random.below(directions) as u8, level));
+    }
+    records.push(end());
+    records
+}
+
+/// The places of the records of a kind.
+fn places(records: &[Record], fits: impl Fn(u8) -> bool) -> Vec<usize> {
+    (0..records.len()).filter(|place| fits(records[*place].kind)).collect()
+}
+
+/// Writes a number into a body.
+fn put(record: &mut Record, at: usize, bytes: &[u8]) {
+    record.body[at..at + bytes.len()].copy_from_slice(bytes);
+}
+
+/// One damage to whole records or to a value, that a reader has to see (or, now and then, may accept).
+pub fn damage_records(random: &mut Random, records: &mut Vec<Record>) {
+    let n = usize::from(records[0].body[0]);
+    let place = random.below(records.len());
+    let other = random.below(records.len());
+    match random.below(14) {
+        0 => records.swap(place, other),
+        1 => {
+            records.remove(place);
+        }
+        2 => {
+            let copy = records[place].clone();
+            records.insert(other, copy);
+        }
+        3 => {
+            let copy = records[place].clone();
+            let times = random.pick(&[1, 7, 8, 15, 16, 17]);
+            for _ in 0..times {
+                records.insert(place, copy.clone());
+            }
+        }
+        4 => records[place].kind = random.pick(&[0x01, 0x02, 0x10, 0x11, 0x12, 0x13, 0x14, 0x20, 0x23, 0x24, 0x30, 0x40, 0xFF]),
+        5 => records[place].kind = random.bits() as u8,
+        6 => records[0] = head(random.pick(&[0, 1, 6, 7, 255]), random.pick(&[0, 1, 256, 257, 512, 65_535])),
+        7 => {
+            let place = random.pick(&places(records, |kind| kind == 0x02));
+            put(&mut records[place], 0, &[random.pick(&[0, 1, 5, 6, 255])]);
+        }
+        8 => {
+            let place = random.pick(&places(records, |kind| kind == 0x02));
+            let entry: i32 = random.pick(&[131_073, -131_073, 131_072, -131_072, i32::MIN, i32::MAX]);
+            put(&mut records[place], 1 + 4 * random.below(n), &entry.to_le_bytes());
+        }
+        9 | 10 => {
+            let place = random.pick(&places(records, |kind| (0x10..0x30).contains(&kind)));
+            let value: i32 = random.pick(&[1_048_576, 1_048_577, -1_048_576, -1_048_577, i32::MIN, i32::MAX, 0, 1]);
+            put(&mut records[place], 4 * random.below(n), &value.to_le_bytes());
+        }
+        11 => {
+            let place = random.pick(&places(records, |kind| kind == 0x30));
+            let entry: i32 = random.pick(&[1_001, -1_001, 1_000, -1_000, i32::MIN, i32::MAX]);
+            put(&mut records[place], 4 * random.below(n), &entry.to_le_bytes());
+        }
+        12 => {
+            let place = random.pick(&places(records, |kind| kind == 0x30));
+            put(&mut records[place], 0, &[0; 24][..4 * n]);
+        }
+        _ => {
+            let before_end = records.len() - 1;
+            records.insert(before_end, guard(random.pick(&[0, 1, 2, 15, 16, 255]), 0));
+        }
+    }
+}
+
+/// One damage to the bytes: cut, a flipped byte, bytes put in or taken out, bytes after the end.
+pub fn damage_bytes(random: &mut Random, bytes: &mut Vec<u8>) {
+    let place = random.below(bytes.len());
+    match random.below(6) {
+        0 => bytes.truncate(place),
+        1 => bytes[place] ^= 1 << random.below(8),
+        2 => bytes[place] = random.bits() as u8,
+        3 => bytes.insert(place, random.bits() as u8),
+        4 => {
+            bytes.remove(place);
+        }
+        _ => {
+            let count = 1 + random.below(40);
+            bytes.extend((0..count).map(|_| random.bits() as u8));
+        }
+    }
+}

@@ -1,0 +1,266 @@
+//! Refusals: the number, offset or step is document 01's, and no lent element changes.
+
+use crate::document::{self, Refused};
+use crate::lent::Lent;
+use crate::makers::{damage_bytes, damage_records, end, file, head, model, numbers, open_model, row, Random, Record};
+use crate::sweeps::{compare_judge, compare_sweep};
+use pepperscarp::{judge, sweep, Refusal};
+
+/// Both calls refuse the file by this number at this offset, for any direction, guard and lengths, and touch nothing.
+fn assert_refused(bytes: &[u8], Refused { number, offset }: Refused, asked: usize, lengths: (usize, usize)) {
+    let expected = Refusal::File { number, offset };
+    for call in [sweep_as_unit, judge_as_unit] {
+        let (mut bounds, mut slacks) = (Lent::new(lengths.0), Lent::new(lengths.1));
+        assert_eq!(call(bytes, asked, bounds.part(), slacks.part()), Err(expected), "file {bytes:02X?}");
+        assert!(bounds.is_untouched() && slacks.is_untouched());
+    }
+}
+
+fn sweep_as_unit(bytes: &[u8], direction: usize, bounds: &mut [i64], slacks: &mut [i64]) -> Result<(), Refusal> {
+    sweep(bytes, direction, bounds, slacks).map(|_| ())
+}
+
+fn judge_as_unit(bytes: &[u8], guard: usize, bounds: &mut [i64], slacks: &mut [i64]) -> Result<(), Refusal> {
+    judge(bytes, guard, bounds, slacks).map(|_| ())
+}
+
+/// The file's reply, whatever it is, is document 01's. The number by which it is refused, or 0.
+fn compare_file(random: &mut Random, bytes: &[u8]) -> u8 {
+    match document::read(bytes) {
+        Err(refused) => {
+            let length = random.pick(&[0, 1, 2, 4, 61, 257]);
+            let asked = random.pick(&[0, 0, 1, 15, 16, usize::MAX]);
+            assert_refused(bytes, refused, asked, (length, random.pick(&[length, 61])));
+            refused.number
+        }
+        Ok(model) => {
+            compare_sweep(bytes, &model, random.below(model.directions.len()));
+            if !model.guards.is_empty() {
+                let _ = compare_judge(bytes, &model, random.below(model.guards.len()));
+            }
+            0
+        }
+    }
+}
+
+#[test]
+fn a_file_cut_anywhere_is_refused_as_document_01_says() {
+    let mut random = Random::new(11);
+    for _ in 0..60 {
+        let bytes = file(&model(&mut random));
+        for length in 0..bytes.len() {
+            assert_ne!(compare_file(&mut random, &bytes[..length]), 0, "a part of a file is no model");
+        }
+    }
+}
+
+#[test]
+fn files_with_damaged_records_and_values_get_the_reply_of_document_01() {
+    let mut random = Random::new(12);
+    let mut seen = [0; 11];
+    for _ in 0..40_000 {
+        let mut records = model(&mut random);
+        damage_records(&mut random, &mut records);
+        if random.one_in(4) && records.first().is_some_and(|record| record.kind == 0x01 && (1..=6).contains(&record.body[0])) {
+            let whole = [0x02, 0x30].iter().all(|kind| records.iter().any(|record| record.kind == *kind));
+            let points = records.iter().any(|record| (0x10..0x30).contains(&record.kind));
+            if whole && points && records.iter().all(has_its_body) {
+                damage_records(&mut random, &mut records);
+            }
+        }
+        seen[usize::from(compare_file(&mut random, &file(&records)))] += 1;
+    }
+    println!("accepted, then refused by 1 to 10: {seen:?}");
+    assert!(seen.iter().all(|count| *count > 20), "every number comes: {seen:?}");
+}
+
+/// The record's body is as long as its kind says, so that a second damage finds its place.
+fn has_its_body(record: &Record) -> bool {
+    let length = match record.kind {
+        0x01 => 3,
+        0x02 => 25,
+        0x10..=0x14 | 0x20..=0x24 | 0x30 => 24,
+        0x40 => 9,
+        _ => 0,
+    };
+    record.body.len() == length
+}
+
+#[test]
+fn files_with_damaged_bytes_get_the_reply_of_document_01() {
+    let mut random = Random::new(13);
+    let mut seen = [0; 11];
+    for _ in 0..40_000 {
+        let mut bytes = file(&model(&mut random));
+        damage_bytes(&mut random, &mut bytes);
+        seen[usize::from(compare_file(&mut random, &bytes))] += 1;
+    }
+    println!("accepted, then refused by 1 to 10: {seen:?}");
+    assert!(seen.iter().enumerate().all(|(number, count)| *count > 20 || number == 9), "nearly every number comes: {seen:?}");
+}
+
+#[test]
+fn bytes_that_were_never_a_model_get_the_reply_of_document_01() {
+    let mut random = Random::new(14);
+    let kinds = [0x01, 0x02, 0x10, 0x11, 0x12, 0x13, 0x14, 0x20, 0x21, 0x24, 0x30, 0x40, 0xFF];
+    for _ in 0..40_000 {
+        let length = random.pick(&[0, 1, 3, 4, 5, 30, 90, 200, 2_048, 3_000]);
+        let mut bytes: Vec<u8> = (0..length).map(|_| random.bits() as u8).collect();
+        if random.one_in(2) && !bytes.is_empty() {
+            bytes[0] = random.pick(&kinds);
+        }
+        assert_ne!(compare_file(&mut random, &bytes), 0);
+    }
+}
+
+#[test]
+fn any_kind_in_place_of_any_record_of_a_small_model_gets_the_reply_of_document_01() {
+    let mut random = Random::new(15);
+    let records = small_model();
+    for place in 0..records.len() {
+        for kind in 0..=255 {
+            let mut records = records.clone();
+            records[place].kind = kind;
+            compare_file(&mut random, &file(&records));
+            records.truncate(place + 1);
+            records[place].body.clear();
+            compare_file(&mut random, &file(&records));
+        }
+    }
+}
+
+fn small_model() -> Vec<Record> {
+    vec![
+        head(1, 3),
+        row(0, &[32_768]),
+        numbers(0x12, &[0]),
+        numbers(0x13, &[4]),
+        numbers(0x24, &[0]),
+        numbers(0x24, &[1]),
+        numbers(0x30, &[1]),
+        crate::makers::guard(0, 2),
+        end(),
+    ]
+}
+
+#[test]
+fn a_direction_or_guard_that_is_not_there_is_refused_by_12_before_the_lengths_are_tested() {
+    let mut random = Random::new(16);
+    for _ in 0..500 {
+        let bytes = file(&model(&mut random));
+        let model = document::read(&bytes).expect("a model");
+        for beyond in [0, 1, 100, usize::MAX / 2] {
+            for length in [model.steps + 1, 0, 3] {
+                let (mut bounds, mut slacks) = (Lent::new(length), Lent::new(model.steps + 1));
+                let direction = model.directions.len() + beyond;
+                assert_eq!(sweep(&bytes, direction, bounds.part(), slacks.part()), Err(Refusal::NoSuchNumber));
+                let guard = model.guards.len() + beyond;
+                assert_eq!(judge(&bytes, guard, bounds.part(), slacks.part()), Err(Refusal::NoSuchNumber));
+                assert!(bounds.is_untouched() && slacks.is_untouched());
+            }
+        }
+    }
+}
+
+#[test]
+fn a_list_of_any_other_length_is_refused_by_13_before_growth_is_tested() {
+    let mut random = Random::new(17);
+    let mut growing = 0;
+    for _ in 0..500 {
+        let bytes = file(&model(&mut random));
+        let model = document::read(&bytes).expect("a model");
+        let right = model.steps + 1;
+        let grows = document::sweep(&model, &model.directions[0]).is_err();
+        growing += usize::from(grows);
+        for wrong in [0, 1, right - 1, right + 1, 2 * right, 1_000] {
+            if wrong == right {
+                continue;
+            }
+            for (first, second) in [(wrong, right), (right, wrong), (wrong, wrong), (wrong, 0)] {
+                let (mut bounds, mut slacks) = (Lent::new(first), Lent::new(second));
+                assert_eq!(sweep(&bytes, 0, bounds.part(), slacks.part()), Err(Refusal::WrongLength));
+                if !model.guards.is_empty() {
+                    assert_eq!(judge(&bytes, 0, bounds.part(), slacks.part()), Err(Refusal::WrongLength));
+                }
+                assert!(bounds.is_untouched() && slacks.is_untouched());
+            }
+        }
+    }
+    assert!(growing > 50, "growing models are among them: {growing}");
+}
+
+#[test]
+fn growth_at_the_last_step_leaves_the_lists_untouched() {
+    // Doubling: 1,048,576 passes 1,073,741,824 at step 11.
+    let model = |steps| {
+        let mut records = vec![head(1, steps), row(0, &[131_072])];
+        for kind in [0x10, 0x11, 0x20, 0x21] {
+            records.push(numbers(kind, &[0]));
+        }
+        records.push(numbers(0x30, &[1]));
+        records.push(crate::makers::guard(0, 0));
+        records.push(end());
+        file(&records)
+    };
+    for steps in 11..=256 {
+        let length = usize::from(steps) + 1;
+        let (mut bounds, mut slacks) = (Lent::new(length), Lent::new(length));
+        assert_eq!(sweep(&model(steps), 0, bounds.part(), slacks.part()), Err(Refusal::Growth(11)));
+        assert_eq!(judge(&model(steps), 0, bounds.part(), slacks.part()), Err(Refusal::Growth(11)));
+        assert!(bounds.is_untouched() && slacks.is_untouched());
+    }
+}
+
+#[test]
+fn one_more_of_anything_that_is_counted_is_refused_by_9_and_the_most_is_accepted() {
+    let mut random = Random::new(18);
+    for (kind, most) in [(0x13, 8), (0x23, 8), (0x14, 16), (0x24, 16), (0x30, 16), (0x40, 16)] {
+        for count in [most, most + 1] {
+            let mut records = vec![head(2, 2), row(0, &[1, 2]), row(1, &[3, 4])];
+            for (family, centre, generator, vertex) in [(0x10u8, 0x12, 0x13, 0x14), (0x20, 0x22, 0x23, 0x24)] {
+                if kind == generator {
+                    records.push(numbers(centre, &[1, 1]));
+                    records.extend((0..count).map(|_| numbers(generator, &[1, 0])));
+                } else if kind == vertex {
+                    records.extend((0..count).map(|_| numbers(vertex, &[1, 0])));
+                } else {
+                    records.extend([numbers(family, &[0, 0]), numbers(family + 1, &[1, 1])]);
+                }
+            }
+            records.extend((0..if kind == 0x30 { count } else { 1 }).map(|_| numbers(0x30, &[1, 1])));
+            records.extend((0..if kind == 0x40 { count } else { 0 }).map(|_| crate::makers::guard(0, 5)));
+            records.push(end());
+            let number = compare_file(&mut random, &file(&records));
+            assert_eq!(number, if count > most { 9 } else { 0 }, "kind {kind:02X}, {count} of them");
+        }
+    }
+}
+
+#[test]
+fn the_longest_file_is_accepted_and_a_byte_more_is_refused_by_10() {
+    let mut records = vec![head(6, 256)];
+    records.extend((0..6).map(|number| row(number, &[9_000, -9_000, 9_000, -9_000, 9_000, -9_000])));
+    records.extend((0..16).map(|k| numbers(0x14, &[k, -k, k, -k, k, -k])));
+    records.extend((0..16).map(|k| numbers(0x24, &[k, k, k, k, k, k])));
+    records.extend((0..16).map(|k| numbers(0x30, &[k + 1, 2, 3, 4, 5, 6])));
+    records.extend((0..16).map(|k| crate::makers::guard(k, 1_000)));
+    records.push(end());
+    let mut bytes = file(&records);
+    assert_eq!(bytes.len(), 1_521);
+    let model = document::read(&bytes).expect("a model");
+    for number in 0..16 {
+        compare_sweep(&bytes, &model, number);
+        compare_judge(&bytes, &model, number).expect("calm");
+    }
+    bytes.push(0xFF);
+    assert_refused(&bytes, Refused { number: 10, offset: 1_521 }, 0, (257, 257));
+}
+
+#[test]
+fn open_models_without_an_end_are_refused_by_1_at_their_length() {
+    let mut random = Random::new(19);
+    for _ in 0..200 {
+        let bytes = file(&open_model(&mut random));
+        assert_refused(&bytes, Refused { number: 1, offset: bytes.len() }, 0, (2, 2));
+    }
+}

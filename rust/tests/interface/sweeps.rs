@@ -1,0 +1,167 @@
+//! Accepted models: every sweep and every verdict is document 01's.
+
+use crate::document::{self, Envelope, Model};
+use crate::lent::Lent;
+use crate::makers::{end, file, guard, open_model, Random};
+use pepperscarp::{judge, list_length, sweep, Refusal, Verdict};
+
+/// The sweep of one direction through the interface is the document's; the envelope, where there is one.
+pub fn compare_sweep(bytes: &[u8], model: &Model, direction: usize) -> Option<Envelope> {
+    let (mut bounds, mut slacks) = (Lent::new(model.steps + 1), Lent::new(model.steps + 1));
+    let answer = sweep(bytes, direction, bounds.part(), slacks.part());
+    compare_lists(model, direction, answer.map(|_| ()), &bounds, &slacks)
+        .inspect(|envelope| assert_eq!(answer, Ok(envelope.spare)))
+}
+
+/// The judge of one guard through the interface is the document's.
+pub fn compare_judge(bytes: &[u8], model: &Model, number: usize) -> Result<Verdict, Refusal> {
+    let (mut bounds, mut slacks) = (Lent::new(model.steps + 1), Lent::new(model.steps + 1));
+    let answer = judge(bytes, number, bounds.part(), slacks.part());
+    let (direction, level) = model.guards[number];
+    if let Some(envelope) = compare_lists(model, direction, answer.map(|_| ()), &bounds, &slacks) {
+        assert_eq!(answer, Ok(document::verdict(&envelope, level)), "level {level} of {model:?}");
+    }
+    answer
+}
+
+/// The lists are the document's sweep of the direction, or it grows, the answer says so and the lists are untouched.
+fn compare_lists(model: &Model, direction: usize, answer: Result<(), Refusal>, bounds: &Lent, slacks: &Lent) -> Option<Envelope> {
+    match document::sweep(model, &model.directions[direction]) {
+        Err(step) => {
+            assert_eq!(answer, Err(Refusal::Growth(step)), "direction {direction} of {model:?}");
+            assert!(bounds.is_untouched() && slacks.is_untouched());
+            None
+        }
+        Ok(envelope) => {
+            assert_eq!(answer, Ok(()), "direction {direction} of {model:?}");
+            let wide = |lent: &Lent| -> Vec<i128> { lent.now().iter().map(|value| i128::from(*value)).collect() };
+            assert_eq!(wide(bounds), envelope.bounds, "bounds of direction {direction} of {model:?}");
+            assert_eq!(wide(slacks), envelope.slacks, "slacks of direction {direction} of {model:?}");
+            assert!(bounds.is_untouched_beside() && slacks.is_untouched_beside());
+            Some(envelope)
+        }
+    }
+}
+
+/// A level at or beside a figure of the envelope, or an extreme one.
+fn level(random: &mut Random, envelope: Option<&Envelope>) -> i64 {
+    let beside = random.between(-1, 1);
+    match (random.below(10), envelope) {
+        (0, _) | (_, None) => random.pick(&[i64::MIN, i64::MIN + 1, -1, 0, 1, i64::MAX - 1, i64::MAX]),
+        (1, _) => random.bits() as i64,
+        (case, Some(envelope)) => {
+            let k = random.below(envelope.bounds.len());
+            let most = *envelope.bounds.iter().max().expect("step 0 at least");
+            let certain = envelope.bounds.iter().zip(&envelope.slacks).map(|(bound, slack)| bound - slack);
+            let figure = match case {
+                2 | 3 => envelope.bounds[k],
+                4 | 5 => envelope.bounds[k] - envelope.slacks[k],
+                6 | 7 => most,
+                8 => certain.max().expect("step 0 at least") + 1,
+                _ => most + 1,
+            };
+            figure as i64 + beside
+        }
+    }
+}
+
+#[test]
+fn every_sweep_and_every_verdict_of_random_models_is_that_of_document_01() {
+    let mut random = Random::new(20_260_701);
+    let (mut grown, mut swept) = (0, 0);
+    let mut verdicts = [0; 4];
+    let mut sizes = [0; 7];
+    let mut forms = [0; 3];
+    for _ in 0..6_000 {
+        let mut records = open_model(&mut random);
+        records.push(end());
+        let model = document::read(&file(&records)).expect("the makers make models");
+        records.pop();
+        sizes[model.n] += 1;
+        forms[model.initial.form as usize] += 1;
+        forms[model.input.form as usize] += 1;
+        let envelopes: Vec<Option<Envelope>> =
+            model.directions.iter().map(|direction| document::sweep(&model, direction).ok()).collect();
+        let guards = random.pick(&[0, 1, 3, 16]);
+        for _ in 0..guards {
+            let direction = random.below(model.directions.len());
+            records.push(guard(direction as u8, level(&mut random, envelopes[direction].as_ref())));
+        }
+        records.push(end());
+
+        let bytes = file(&records);
+        let model = document::read(&bytes).expect("with guards too");
+        assert_eq!(list_length(&bytes), Some(model.steps + 1));
+        for direction in 0..model.directions.len() {
+            match compare_sweep(&bytes, &model, direction) {
+                Some(_) => swept += 1,
+                None => grown += 1,
+            }
+        }
+        for number in 0..model.guards.len() {
+            verdicts[match compare_judge(&bytes, &model, number) {
+                Ok(Verdict::Hit(_)) => 0,
+                Ok(Verdict::Unknown(_)) => 1,
+                Ok(Verdict::Clear) => 2,
+                Err(_) => 3,
+            }] += 1;
+        }
+    }
+    println!("swept {swept}, grown {grown}, HIT UNKNOWN CLEAR growth {verdicts:?}, n {sizes:?}, forms {forms:?}");
+    assert!(swept > 10_000 && grown > 2_000, "both come often");
+    assert!(verdicts.iter().all(|count| *count > 800), "each verdict comes often");
+    assert!(sizes[1..].iter().all(|count| *count > 800) && forms.iter().all(|count| *count > 3_000));
+}
+
+#[test]
+fn every_number_of_steps_is_swept_to_its_end() {
+    let mut random = Random::new(77);
+    for steps in 0..=256u16 {
+        let mut records = open_model(&mut random);
+        records[0].body[1..].copy_from_slice(&steps.to_le_bytes());
+        records.push(end());
+        let bytes = file(&records);
+        let model = document::read(&bytes).expect("a model");
+        assert_eq!(model.steps, if steps == 0 { 60 } else { usize::from(steps) });
+        compare_sweep(&bytes, &model, 0);
+    }
+}
+
+#[test]
+fn a_call_leaves_nothing_behind_for_the_next() {
+    let mut random = Random::new(5);
+    let files: Vec<Vec<u8>> = (0..40)
+        .map(|_| {
+            let mut records = open_model(&mut random);
+            records.push(end());
+            file(&records)
+        })
+        .collect();
+    for _ in 0..400 {
+        let bytes = random.pick(&files);
+        let model = document::read(&bytes).expect("a model");
+        let direction = random.below(model.directions.len());
+        compare_sweep(&bytes, &model, direction);
+    }
+}
+
+#[test]
+fn calls_from_several_threads_do_not_disturb_each_other() {
+    let threads: Vec<_> = (0..4)
+        .map(|seed| {
+            std::thread::spawn(move || {
+                let mut random = Random::new(seed);
+                for _ in 0..100 {
+                    let mut records = open_model(&mut random);
+                    records.push(end());
+                    let bytes = file(&records);
+                    let model = document::read(&bytes).expect("a model");
+                    compare_sweep(&bytes, &model, 0);
+                }
+            })
+        })
+        .collect();
+    for thread in threads {
+        thread.join().expect("no comparison fails");
+    }
+}
