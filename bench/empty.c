@@ -1,0 +1,5 @@
+/* The empty process that the program is measured against. */
+int main(void)
+{
+    return 0;
+}

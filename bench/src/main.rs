@@ -1,0 +1,351 @@
+//! Measures the sweep through the C interface against Rust of the same recurrence. Called by bench/run:
+//!
+//!     bench                       agreement, the sweep, and how its time grows, as Markdown
+//!     bench count WHO SETS TIMES  does one thing so often, for an instruction counter
+//!     bench file PATH             writes the model with the largest listing
+//!     bench listing PATH          prints the listing of a model file, from the calls alone
+
+mod clock;
+mod float;
+mod models;
+mod plain;
+mod tuned;
+
+use clock::{measure, Contender, Times};
+use models::{calm, file, Model, Sets};
+use pepperscarp::{judge, list_length, Refusal, Verdict};
+use std::fmt::Write;
+use std::hint::black_box;
+use std::process::exit;
+
+const SEED: u64 = 20_260_701;
+const ROUNDS: usize = 600;
+
+/// A model with its file, and room for the results.
+struct Subject {
+    model: Model,
+    bytes: Vec<u8>,
+    bounds: Vec<i64>,
+    slacks: Vec<i64>,
+}
+
+impl Subject {
+    fn new(n: usize, steps: usize, sets: Sets, directions: usize) -> Subject {
+        let model = calm(SEED, n, steps, sets, directions);
+        let bytes = file(&model, &[]);
+        Subject { model, bytes, bounds: vec![0; steps + 1], slacks: vec![0; steps + 1] }
+    }
+
+    /// One call that reads the file and sweeps.
+    fn call(&mut self, direction: usize) -> Result<u32, Refusal> {
+        pepperscarp::sweep(black_box(&self.bytes), black_box(direction), &mut self.bounds, &mut self.slacks)
+    }
+
+    /// One call that is refused by 13: it reads the file and tests the model, and no more.
+    fn refused(&mut self, direction: usize) -> Result<u32, Refusal> {
+        pepperscarp::sweep(black_box(&self.bytes), black_box(direction), &mut self.bounds[1..], &mut self.slacks)
+    }
+
+    fn plain(&mut self, direction: usize) -> Result<u32, plain::Refusal> {
+        plain::sweep(black_box(&self.model), black_box(direction), &mut self.bounds, &mut self.slacks)
+    }
+
+    /// Laying out the model is a part of it.
+    fn tuned(&mut self, direction: usize) -> Result<u32, plain::Refusal> {
+        let laid = tuned::lay(black_box(&self.model));
+        tuned::sweep(&laid, black_box(direction), &mut self.bounds, &mut self.slacks)
+    }
+}
+
+/// A result that counts as used.
+fn spend<T>(result: T) {
+    let _ = black_box(result);
+}
+
+/// One float sweep.
+fn float_sweep(model: &Model, direction: usize, values: &mut [f64]) {
+    float::sweep(black_box(model), black_box(direction), values);
+    black_box(values);
+}
+
+fn main() {
+    let arguments: Vec<String> = std::env::args().skip(1).collect();
+    let arguments: Vec<&str> = arguments.iter().map(String::as_str).collect();
+    match arguments[..] {
+        [] => report(),
+        ["count", who, sets, times] => count(who, sets, times),
+        ["file", path] => std::fs::write(path, largest()).unwrap_or_else(|error| fail(&format!("{path}: {error}"))),
+        ["listing", path] => match std::fs::read(path) {
+            Ok(bytes) => print!("{}", listing(&bytes)),
+            Err(error) => fail(&format!("{path}: {error}")),
+        },
+        _ => fail("usage: bench [count WHO SETS TIMES | file PATH | listing PATH]"),
+    }
+}
+
+fn fail(message: &str) -> ! {
+    eprintln!("bench: {message}");
+    exit(2);
+}
+
+fn report() {
+    agreement();
+    sweep_times();
+    growth_with_steps();
+    growth_with_coordinates();
+    growth_with_directions();
+}
+
+// Agreement.
+
+/// All results of all versions agree, or the run ends here. The float version: how far it is off.
+fn agreement() {
+    let mut compared = 0usize;
+    let (mut below, mut above, mut outside, mut figures) = (0f64, 0f64, 0usize, 0usize);
+    for sets in [Sets::Boxes, Sets::Vertices] {
+        for n in 1..=6 {
+            for steps in [1, 32, 64, 128, 256] {
+                let mut subject = Subject::new(n, steps, sets, 16);
+                let mut values = vec![0.0; steps + 1];
+                for direction in 0..16 {
+                    let spare =
+                        subject.call(direction).unwrap_or_else(|refusal| fail(&format!("the sweep is refused: {refusal}")));
+                    let (bounds, slacks) = (subject.bounds.clone(), subject.slacks.clone());
+                    let plain = subject.plain(direction);
+                    let same = (&subject.bounds, &subject.slacks) == (&bounds, &slacks);
+                    let tuned = subject.tuned(direction);
+                    let same = same && (&subject.bounds, &subject.slacks) == (&bounds, &slacks);
+                    if !same || plain != Ok(spare) || tuned != Ok(spare) {
+                        fail(&format!("results differ: n {n}, K {steps}, {}, direction {direction}", sets.name()));
+                    }
+                    if subject.refused(direction) != Err(Refusal::WrongLength) {
+                        fail("a list that is too short isn't refused by 13");
+                    }
+                    compared += 1;
+                    float_sweep(&subject.model, direction, &mut values);
+                    for k in 0..=steps {
+                        let off = values[k] - bounds[k] as f64;
+                        below = below.max(-off);
+                        above = above.max(off);
+                        outside += usize::from(off > 0.0 || -off > slacks[k] as f64);
+                        figures += 1;
+                    }
+                }
+            }
+        }
+    }
+    println!("## Agreement\n");
+    println!(
+        "{compared} sweeps: bounds, slacks and spare figures of the C interface, plain and tuned Rust agree to the last number."
+    );
+    println!(
+        "The float version, without error terms, is at most {below:.1} counts below and {above:.6} above the bound; of its {figures} \
+         figures {outside} lie outside bound - slack to bound.\n"
+    );
+}
+
+// Times.
+
+/// The size of a model.
+#[derive(Clone, Copy)]
+struct Size {
+    n: usize,
+    steps: usize,
+    sets: Sets,
+    directions: usize,
+}
+
+impl Size {
+    const FULL: Size = Size { n: 6, steps: 256, sets: Sets::Boxes, directions: 16 };
+
+    fn subject(self) -> Subject {
+        Subject::new(self.n, self.steps, self.sets, self.directions)
+    }
+
+    /// A contender that takes all directions in turn, at least sixteen sweeps.
+    fn contender(self, name: &'static str, mut sweep: impl FnMut(usize) + 'static) -> Contender {
+        let repeats = 16usize.div_ceil(self.directions);
+        let turn = move || (0..repeats).for_each(|_| (0..self.directions).for_each(&mut sweep));
+        Contender { name, units: repeats * self.directions, turn: Box::new(turn) }
+    }
+
+    fn contenders(self) -> [Contender; 5] {
+        let (mut call, mut refused, mut plain, mut tuned) = (self.subject(), self.subject(), self.subject(), self.subject());
+        let model = self.subject().model;
+        let mut values = vec![0.0; self.steps + 1];
+        [
+            self.contender("call: reading, model test and sweep", move |d| spend(call.call(d))),
+            self.contender("call refused by 13: reading and model test", move |d| spend(refused.refused(d))),
+            self.contender("plain Rust", move |d| spend(plain.plain(d))),
+            self.contender("tuned Rust", move |d| spend(tuned.tuned(d))),
+            self.contender("float, without error terms", move |d| float_sweep(&model, d, &mut values)),
+        ]
+    }
+}
+
+/// The times of one sweep of a model.
+struct Measured {
+    call: Times,
+    refused: Times,
+    sweep: Times,
+    plain: Times,
+    tuned: Times,
+    float: Times,
+}
+
+/// The times of one sweep for each size, all measured by turns.
+fn times_of(sizes: &[Size], rounds: usize) -> Vec<Measured> {
+    let mut contenders: Vec<Contender> = sizes.iter().flat_map(|size| size.contenders()).collect();
+    let mut times = measure(&mut contenders, rounds).into_iter();
+    let mut next = || times.next().expect("five times for each size");
+    sizes
+        .iter()
+        .map(|_| {
+            let (call, refused, plain, tuned, float) = (next(), next(), next(), next(), next());
+            let sweep = call.less("sweep: the first less the second", &refused);
+            Measured { call, refused, sweep, plain, tuned, float }
+        })
+        .collect()
+}
+
+fn sweep_times() {
+    println!("## One sweep, n = 6, K = 256\n");
+    let both = [Sets::Boxes, Sets::Vertices];
+    for (sets, times) in both.iter().zip(times_of(&both.map(|sets| Size { sets, ..Size::FULL }), ROUNDS)) {
+        println!("| {} | ns, median | quartiles | to tuned | to plain |\n|---|---|---|---|---|", sets.name());
+        for one in [&times.call, &times.refused, &times.sweep, &times.plain, &times.tuned, &times.float] {
+            let spread = one.spread();
+            println!(
+                "| {} | {:.0} | {:.0} to {:.0} | {:.2} | {:.2} |",
+                one.name,
+                spread.median,
+                spread.low,
+                spread.high,
+                one.over(&times.tuned).median,
+                one.over(&times.plain).median
+            );
+        }
+        let (tuned, plain) = (times.sweep.over(&times.tuned), times.sweep.over(&times.plain));
+        println!(
+            "\nSweep to tuned {:.2} (quartiles {:.2} to {:.2}), to plain {:.2} ({:.2} to {:.2}).\n",
+            tuned.median, tuned.low, tuned.high, plain.median, plain.low, plain.high
+        );
+    }
+}
+
+fn growth_with_steps() {
+    println!("## With the number of steps, n = 6\n");
+    println!("| K | boxes: sweep ns | ns for a step | 16 vertices: sweep ns | ns for a step |\n|---|---|---|---|---|");
+    let all = [32, 64, 96, 128, 192, 256];
+    let boxes = times_of(&all.map(|steps| Size { steps, ..Size::FULL }), ROUNDS / 2);
+    let vertices = times_of(&all.map(|steps| Size { steps, sets: Sets::Vertices, ..Size::FULL }), ROUNDS / 2);
+    for (steps, (boxes, vertices)) in all.iter().zip(boxes.iter().zip(&vertices)) {
+        let (a, b) = (boxes.sweep.spread().median, vertices.sweep.spread().median);
+        let turns = (steps + 1) as f64;
+        println!("| {steps} | {a:.0} | {:.1} | {b:.0} | {:.1} |", a / turns, b / turns);
+    }
+    println!();
+}
+
+fn growth_with_coordinates() {
+    println!("## With the number of coordinates, K = 256\n");
+    println!("| n | boxes: sweep ns | to tuned | to plain | 16 vertices: sweep ns | to tuned | to plain |\n|---|---|---|---|---|---|---|");
+    let all = [1, 2, 3, 4, 5, 6];
+    let boxes = times_of(&all.map(|n| Size { n, ..Size::FULL }), ROUNDS / 2);
+    let vertices = times_of(&all.map(|n| Size { n, sets: Sets::Vertices, ..Size::FULL }), ROUNDS / 2);
+    for (n, pair) in all.iter().zip(boxes.iter().zip(&vertices)) {
+        print!("| {n} |");
+        for times in [pair.0, pair.1] {
+            let (tuned, plain) = (times.sweep.over(&times.tuned), times.sweep.over(&times.plain));
+            print!(" {:.0} | {:.2} | {:.2} |", times.sweep.spread().median, tuned.median, plain.median);
+        }
+        println!();
+    }
+    println!();
+}
+
+fn growth_with_directions() {
+    println!("## With the number of directions, n = 6, K = 256, boxes, all directions swept\n");
+    println!("| directions | all sweeps, ns | for each direction | with reading the file at each call | for each direction |\n|---|---|---|---|---|");
+    let all = [1, 2, 4, 8, 12, 16];
+    for (directions, times) in all.iter().zip(times_of(&all.map(|directions| Size { directions, ..Size::FULL }), ROUNDS / 2)) {
+        let (sweep, call) = (times.sweep.spread().median, times.call.spread().median);
+        let count = f64::from(*directions as u32);
+        println!("| {directions} | {:.0} | {sweep:.0} | {:.0} | {call:.0} |", count * sweep, count * call);
+    }
+    println!();
+}
+
+// One thing, so often, for an instruction counter.
+
+fn count(who: &str, sets: &str, times: &str) {
+    let sets = match sets {
+        "boxes" => Sets::Boxes,
+        "vertices" => Sets::Vertices,
+        _ => fail("SETS is boxes or vertices"),
+    };
+    let Ok(times) = times.parse::<usize>() else {
+        fail("TIMES is a number");
+    };
+    let mut subject = Subject::new(6, 256, sets, 16);
+    let mut values = vec![0.0; 257];
+    for k in 0..times {
+        let direction = k % 16;
+        match who {
+            "call" => spend(subject.call(direction)),
+            "refused" => spend(subject.refused(direction)),
+            "plain" => spend(subject.plain(direction)),
+            "tuned" => spend(subject.tuned(direction)),
+            "float" => float_sweep(&subject.model, direction, &mut values),
+            _ => fail("WHO is call, refused, plain, tuned or float"),
+        }
+    }
+}
+
+// The largest listing.
+
+/// The file of the model with the largest listing, with 16 guards.
+fn largest() -> Vec<u8> {
+    let guards: Vec<(u8, i64)> = (0..16).map(|k| (k, -100_000_000_000 * i64::from(k))).collect();
+    file(&models::wordy(SEED), &guards)
+}
+
+/// The listing of a file, as document 01 shows it, from the calls alone.
+fn listing(bytes: &[u8]) -> String {
+    let length = list_length(bytes).unwrap_or(0);
+    let (mut bounds, mut slacks) = (vec![0; length], vec![0; length]);
+    let mut text = String::new();
+    let mut put = |row: String| writeln!(text, "{row}").expect("a string takes it");
+    for direction in 0.. {
+        match pepperscarp::sweep(bytes, direction, &mut bounds, &mut slacks) {
+            Err(Refusal::File { number, offset }) => {
+                put(format!("refused {number} at {offset}"));
+                return text;
+            }
+            Err(Refusal::NoSuchNumber) => break,
+            answer => {
+                if direction == 0 {
+                    put(format!("model {} {}", bytes[1], length - 1));
+                }
+                match answer {
+                    Ok(spare) => {
+                        put(format!("dir {direction} spare {spare}"));
+                        (0..length).for_each(|k| put(format!("{k} {} {}", bounds[k], slacks[k])));
+                    }
+                    Err(Refusal::Growth(step)) => put(format!("dir {direction} growth {step}")),
+                    Err(refusal) => fail(&refusal.to_string()),
+                }
+            }
+        }
+    }
+    for guard in 0.. {
+        match judge(bytes, guard, &mut bounds, &mut slacks) {
+            Ok(Verdict::Hit(step)) => put(format!("guard {guard} HIT {step}")),
+            Ok(Verdict::Unknown(step)) => put(format!("guard {guard} UNKNOWN {step}")),
+            Ok(Verdict::Clear) => put(format!("guard {guard} CLEAR")),
+            Err(Refusal::Growth(step)) => put(format!("guard {guard} GROWTH {step}")),
+            Err(_) => break,
+        }
+    }
+    text
+}
