@@ -1,8 +1,8 @@
 //! Line-by-line envelopes of stepped printer models.
 //!
 //! Safe bindings of Pepperscarp's C interface. The routines behind it are proved: [`sweep`] leaves exactly the bounds and slacks
-//! of document 01's recurrence, [`judge`] answers exactly its verdicts, and every file, number and list length gets its reply. This
-//! crate adds the types and no arithmetic. It is tested against a version of document 01 in Rust, and not proved.
+//! of document 01's recurrence, [`judge`] answers exactly its verdicts, [`listing`] writes exactly its text, and every file, number and
+//! list length gets its reply. This crate adds the types and no arithmetic. It is tested against a version of document 01 in Rust, and not proved.
 //!
 //! A model is the bytes of a model file. What a call lends is filled to the end, or on a refusal is exactly as it was. Nothing is
 //! kept from one call to the next, and calls from several threads do not disturb each other.
@@ -33,6 +33,9 @@ use std::fmt;
 
 /// The length that is enough for the lists of every model: 256 steps, and step 0.
 pub const LONGEST_LIST: usize = 257;
+
+/// The room that is enough for every listing, in bytes.
+pub const LISTING_ROOM: usize = 270_000;
 
 /// What is said of a guard. A guard is reached where direction · state is at least its level.
 #[derive(Clone, Copy, PartialEq, Eq, Hash, Debug)]
@@ -117,7 +120,7 @@ mod c {
             slacks_len: usize,
         ) -> u64;
 
-        // pepperscarp_listing comes here.
+        pub fn pepperscarp_listing(file: *const u8, file_len: usize, out: *mut u8, out_len: usize) -> usize;
     }
 }
 
@@ -193,7 +196,18 @@ pub fn judge(file: &[u8], guard: usize, bounds: &mut [i64], slacks: &mut [i64]) 
     }
 }
 
-// The listing of a file (`pepperscarp_listing`) comes here.
+/// The whole text that the program `envelope` writes for the file: its listing, or `refused N at P` for a refused file. It stands at
+/// the start of `out`, whose other bytes are as they were.
+///
+/// `None`, with `out` as it was, where `out` has less than [`LISTING_ROOM`] bytes.
+pub fn listing<'a>(file: &[u8], out: &'a mut [u8]) -> Option<&'a [u8]> {
+    // SAFETY: the routine reads the file's bytes, writes within `out` alone, and keeps no pointer.
+    let length = unsafe { c::pepperscarp_listing(file.as_ptr(), file.len(), out.as_mut_ptr(), out.len()) };
+    match length {
+        0 => None,
+        _ => Some(&out[..length]),
+    }
+}
 
 /// The length that the lists for this file have to have, K + 1, as its head says; `None` where the file does not start with a
 /// head. The rest of the file isn't looked at: [`sweep`] and [`judge`] test it all.

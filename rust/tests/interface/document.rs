@@ -332,6 +332,39 @@ pub fn verdict(envelope: &Envelope, level: i64) -> Verdict {
     }
 }
 
+/// The text that the program writes for a file.
+pub fn listing(file: &[u8]) -> String {
+    let model = match read(file) {
+        Ok(model) => model,
+        Err(Refused { number, offset }) => return format!("refused {number} at {offset}\n"),
+    };
+    let sweeps: Vec<Result<Envelope, usize>> = model.directions.iter().map(|direction| sweep(&model, direction)).collect();
+    let mut text = format!("model {} {}\n", model.n, model.steps);
+    for (number, swept) in sweeps.iter().enumerate() {
+        match swept {
+            Err(step) => text += &format!("dir {number} growth {step}\n"),
+            Ok(envelope) => {
+                text += &format!("dir {number} spare {}\n", envelope.spare);
+                for (k, (bound, slack)) in envelope.bounds.iter().zip(&envelope.slacks).enumerate() {
+                    text += &format!("{k} {bound} {slack}\n");
+                }
+            }
+        }
+    }
+    for (number, (direction, level)) in model.guards.iter().enumerate() {
+        let verdict = match &sweeps[*direction] {
+            Err(step) => format!("GROWTH {step}"),
+            Ok(envelope) => match verdict(envelope, *level) {
+                Verdict::Hit(step) => format!("HIT {step}"),
+                Verdict::Unknown(step) => format!("UNKNOWN {step}"),
+                Verdict::Clear => "CLEAR".to_string(),
+            },
+        };
+        text += &format!("guard {number} {verdict}\n");
+    }
+    text
+}
+
 /// One step of stored values, with the growth sum of what it leaves; `None` is number 11.
 pub fn step(n: usize, matrix: &[i32; 36], r: &[i64; 6], e: &[i64; 6]) -> Option<(Working, i128)> {
     if !(1..=6).contains(&n) {

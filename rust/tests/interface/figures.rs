@@ -3,7 +3,7 @@
 use crate::document;
 use crate::makers::{end, file, guard, head, numbers, row, Record};
 use crate::sweeps::compare_sweep;
-use pepperscarp::{judge, list_length, step, sweep, Refusal, Verdict};
+use pepperscarp::{judge, list_length, step, sweep, Refusal, Verdict, LISTING_ROOM};
 use std::fmt::Write;
 use std::path::Path;
 
@@ -171,7 +171,7 @@ fn listing(bytes: &[u8]) -> String {
 }
 
 #[test]
-fn the_calls_give_the_listing_of_every_example() {
+fn the_calls_and_the_listing_give_the_text_of_every_example() {
     let folder = Path::new(env!("CARGO_MANIFEST_DIR")).join("../examples");
     let mut seen = 0;
     for entry in std::fs::read_dir(&folder).expect("the folder of examples") {
@@ -180,6 +180,8 @@ fn the_calls_give_the_listing_of_every_example() {
             let bytes = std::fs::read(&path).expect("the packed model");
             let expected = std::fs::read_to_string(path.with_extension("listing")).expect("its listing");
             assert_eq!(listing(&bytes), expected, "{}", path.display());
+            let mut out = vec![0; LISTING_ROOM];
+            assert_eq!(pepperscarp::listing(&bytes, &mut out), Some(expected.as_bytes()), "{}", path.display());
             let model = document::read(&bytes).expect("a model");
             compare_sweep(&bytes, &model, 0);
             seen += 1;

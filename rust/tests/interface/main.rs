@@ -6,6 +6,7 @@
 mod document;
 mod figures;
 mod lent;
+mod listings;
 mod makers;
 mod refusals;
 mod steps;

@@ -1,0 +1,94 @@
+//! Listings: the text is document 01's, whole, and no byte beside it changes.
+
+use crate::document;
+use crate::makers::{damage_bytes, damage_records, end, file, guard, head, model, numbers, row, Random};
+use pepperscarp::{listing, LISTING_ROOM};
+
+/// A different byte at nearly each place, none of which a listing has.
+fn sentinel(place: usize) -> u8 {
+    0x80 | (place % 127) as u8
+}
+
+/// Room for a listing, full of sentinels.
+fn room(length: usize) -> Vec<u8> {
+    (0..length).map(sentinel).collect()
+}
+
+/// The listing of a file is the document's. `out` is room with sentinels, before and after.
+fn compare(bytes: &[u8], out: &mut [u8]) {
+    let expected = document::listing(bytes);
+    let length = out.len();
+    assert_eq!(listing(bytes, out), Some(expected.as_bytes()), "file {bytes:02X?}");
+    assert!((expected.len()..length).all(|place| out[place] == sentinel(place)), "bytes behind the text");
+    for (place, byte) in out[..expected.len()].iter_mut().enumerate() {
+        *byte = sentinel(place);
+    }
+}
+
+#[test]
+fn listings_of_random_models_are_those_of_document_01() {
+    let mut random = Random::new(41);
+    let mut out = room(LISTING_ROOM);
+    for _ in 0..1_500 {
+        compare(&file(&model(&mut random)), &mut out);
+    }
+}
+
+#[test]
+fn listings_of_damaged_files_are_those_of_document_01() {
+    let mut random = Random::new(42);
+    let mut out = room(LISTING_ROOM);
+    for turn in 0..6_000 {
+        let mut records = model(&mut random);
+        if turn % 2 == 0 {
+            damage_records(&mut random, &mut records);
+        }
+        let mut bytes = file(&records);
+        if turn % 2 == 1 {
+            damage_bytes(&mut random, &mut bytes);
+        }
+        compare(&bytes, &mut out);
+    }
+}
+
+#[test]
+fn less_room_than_the_longest_listing_needs_is_refused_and_nothing_is_written() {
+    let bytes = file(&model(&mut Random::new(43)));
+    for length in [0, 1, 100, 2_048, LISTING_ROOM - 1] {
+        for bytes in [&bytes[..], &[]] {
+            let mut out = room(length);
+            assert_eq!(listing(bytes, &mut out), None);
+            assert_eq!(out, room(length));
+        }
+    }
+}
+
+#[test]
+fn more_room_than_needed_is_taken_and_left_as_it_was() {
+    let mut random = Random::new(44);
+    for length in [LISTING_ROOM, LISTING_ROOM + 1, 2 * LISTING_ROOM] {
+        compare(&file(&model(&mut random)), &mut room(length));
+    }
+}
+
+#[test]
+fn long_numbers_of_either_sign_are_written_whole() {
+    let mut out = room(LISTING_ROOM);
+    for corner in [-1_048_576i32, -1_000_000, 0, 1_048_576] {
+        for entry in [-1_000i32, 1_000] {
+            let mut records = vec![head(6, 256)];
+            for number in 0..6u8 {
+                let mut entries = [3; 6];
+                entries[usize::from(number)] = 65_500;
+                records.push(row(number, &entries));
+            }
+            for kind in [0x14, 0x24] {
+                records.extend((0..16).map(|k| numbers(kind, &[corner - corner.signum() * k; 6])));
+            }
+            records.extend((0..16).map(|k| numbers(0x30, &[entry - entry.signum() * k; 6])));
+            records.extend((0..16).map(|k| guard(k, 0)));
+            records.push(end());
+            compare(&file(&records), &mut out);
+        }
+    }
+}
