@@ -13,7 +13,7 @@ mod tuned;
 
 use clock::{measure, Contender, Times};
 use models::{calm, file, Model, Sets};
-use pepperscarp::{judge, list_length, Refusal, Verdict};
+use pepperscarp::{judge, list_length, Refusal, Verdict, LISTING_ROOM};
 use std::fmt::Write;
 use std::hint::black_box;
 use std::process::exit;
@@ -94,6 +94,7 @@ fn report() {
     growth_with_steps();
     growth_with_coordinates();
     growth_with_directions();
+    listing_times();
 }
 
 // Agreement.
@@ -272,6 +273,32 @@ fn growth_with_directions() {
         let (sweep, call) = (times.sweep.spread().median, times.call.spread().median);
         let count = f64::from(*directions as u32);
         println!("| {directions} | {:.0} | {sweep:.0} | {:.0} | {call:.0} |", count * sweep, count * call);
+    }
+    println!();
+}
+
+/// The largest listing, written by the routine and by Rust that formats the results of the calls.
+fn listing_times() {
+    let bytes = largest();
+    let mut out = vec![0; LISTING_ROOM];
+    let text = listing(&bytes);
+    if pepperscarp::listing(&bytes, &mut out) != Some(text.as_bytes()) {
+        fail("the listing isn't what the calls give");
+    }
+    let copy = bytes.clone();
+    let mut contenders = [
+        Contender {
+            name: "the routine `listing`",
+            units: 1,
+            turn: Box::new(move || spend(pepperscarp::listing(black_box(&bytes), &mut out).map(<[u8]>::len))),
+        },
+        Contender { name: "Rust that calls and formats", units: 1, turn: Box::new(move || spend(listing(black_box(&copy)))) },
+    ];
+    println!("## The largest listing, {} bytes, in one process\n", text.len());
+    println!("| | µs, median | quartiles |\n|---|---|---|");
+    for times in measure(&mut contenders, ROUNDS / 2) {
+        let spread = times.spread();
+        println!("| {} | {:.0} | {:.0} to {:.0} |", times.name, spread.median / 1e3, spread.low / 1e3, spread.high / 1e3);
     }
     println!();
 }
