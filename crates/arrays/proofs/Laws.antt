@@ -1,7 +1,7 @@
 -- What the tests over an array say of each element, also of a place past its end, where a stored vector is zero.
 -- Assumes nothing.
 use mathlib.Core.Path.{_≡_, refl, sym, ap, subst, _∙_}
-use mathlib.Core.Bool.{Bool, true, false, _&&_, _||_}
+use mathlib.Core.Bool.{Bool, true, false, _&&_, _||_, cond}
 use mathlib.Core.List.{List}
 use Prim.Native.Nat.{ℕ, _+_, _*_, _/_, _%_, _≤_, _<_}
 use native.Mathlib.Decide.{decLt}
@@ -77,3 +77,10 @@ module _ (rows columns : ℕ) (xs : List ℤ) (t : zeroOutside rows columns xs �
   zeroOutside-column p i hi h =
       let outside : ltb ((6 * p + i) % 6) columns ≡ false = le-ltb _ columns (omega arith) in
       zeroOutside-at (6 * p + i) (ap (λ (b : Bool). ltb ((6 * p + i) / 6) rows && b) outside ∙ and-false (ltb ((6 * p + i) / 6) rows))
+
+-- ---- answers
+
+-- the number of an answer that is one of two
+pub number-cond : {A : Type 0} (number : A → ℕ) (t : Bool) (x y : A) → number (cond t x y) ≡ cond t (number x) (number y)
+number-cond number true x y = refl
+number-cond number false x y = refl

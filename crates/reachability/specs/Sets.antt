@@ -108,15 +108,22 @@ valueOk n i x = leb (natAbs x) growthLimit && (ltb i n || eqb (natAbs x) 0)
 abbrev pub directionOk : ℕ → List ℤ → Bool
 directionOk n r = allBelow 6 (λ i. valueOk n i (vector r i))
 
-abbrev pub supportAnswer : ℕ → Set → List ℤ → Supported
-supportAnswer n s r =
-    cond (dimensionOk n && (setOk n (s .shape) (s .count) (s .points) && directionOk n r))
-    (Value (supportOf n (s .shape) (s .count) (points (s .points)) (vector r)))
-    Refused
+-- No condition of number 11 holds for a support.
+abbrev pub supportOk : ℕ → Set → List ℤ → Bool
+supportOk n s r = dimensionOk n && (setOk n (s .shape) (s .count) (s .points) && directionOk n r)
 
+abbrev pub supportAnswer : ℕ → Set → List ℤ → Supported
+supportAnswer n s r = cond (supportOk n s r) (Value (supportOf n (s .shape) (s .count) (points (s .points)) (vector r))) Refused
+
+-- The document's number of an answer.
 abbrev pub supportNumber : Supported → ℕ
 supportNumber (Value v) = 0
 supportNumber Refused = 11
+
+-- What `support` answers: the value, or number 11.
+pub record Supports (n : ℕ) (s : Set) (r : List ℤ) (a : Supported) : Type 0 where
+  pub answer : a ≡ supportAnswer n s r
+  pub number : supportNumber a ≡ cond (supportOk n s r) 0 11
 
 -- What `reach` answers: number 11 with six zeros, or 0 with the six reaches.
 pub record ReachAnswer (n : ℕ) (s : Set) (number : ℕ) (reaches : List ℤ) : Type 0 where

@@ -7,7 +7,7 @@ pub(crate) use checks::set_ok;
 pub(crate) use reaches::reaches_of;
 pub(crate) use supports::support_of;
 ghost use mathlib.Core.Path.{_≡_};
-ghost use Rattle.reachability.specs.Sets.{supportAnswer, ReachAnswer, reachWithin, cornersOrdered};
+ghost use Rattle.reachability.specs.Sets.{Supports, ReachAnswer, reachWithin, cornersOrdered};
 
 // How a set's points are to be read: lower and upper corner; centre and generators; vertices.
 pub enum Shape {
@@ -38,7 +38,7 @@ pub struct Reached {
 // The support of the set at r: the largest r · point over it. Number 11 for n outside 1 to 6, a set that breaks a rule of
 // document 01, or an r with a value beyond n or a magnitude above 1,073,741,824.
 pub fn support(n: usize, set: Set, r: &[i64; 6]) -> Supported
-    ensures { λ a. ⌜ a ≡ supportAnswer n set (now (r .entry)) ⌝ }
+    ensures { λ a. ⌜ Supports n set (now (r .entry)) a ⌝ }
 {
     let shape = set.shape;
     let count = set.count;

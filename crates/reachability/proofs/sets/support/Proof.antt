@@ -1,16 +1,17 @@
 -- `reachability::sets::support` meets its contract: a set and a direction that pass are within what the inner support asks, and its
 -- sums to six are those to n. Assumes nothing.
-use Rattle.integers.proofs.Basics.{_≡_, refl, sym, ap, _∙_, Bool, true, false, ℕ, arith, needs, set, w64}
+use Rattle.integers.proofs.Basics.{_≡_, refl, sym, ap, _∙_, Bool, true, false, ℕ, ℤ, arith, needs, set, w64}
 use mathlib.Core.Bool.{cond, _&&_}
 use mathlib.Core.List.{List}
 use borrow.Author.Tests.{not-true, not-false}
 use Rattle.integers.specs.Sums.{vector}
 use Rattle.integers.proofs.Machine.{read-given}
-use Rattle.arrays.proofs.Laws.{and-true}
+use Rattle.arrays.proofs.Laws.{and-true, number-cond}
 use Rattle.stepping.specs.Refusals.{dimensionOk}
-use Rattle.reachability.specs.Sets.{setOk, directionOk}
+use Rattle.reachability.specs.Sets.{points, setOk, directionOk, supportOf, supportOk, supportAnswer, supportNumber, Supports}
 use Rattle.reachability.specs.declared.sets.Set.{Set}
-use Rattle.reachability.specs.declared.sets.Supported.the-variants.{Value}
+use Rattle.reachability.specs.declared.sets.Supported.{Supported}
+use Rattle.reachability.specs.declared.sets.Supported.the-variants.{Value, Refused}
 use Rattle.reachability.proofs.SetTests.{SetFacts, set-facts, n-range, direction-small}
 use Rattle.reachability.proofs.SetBounds.{supportOf-six}
 use Rattle.reachability.proofs.sets.support.Statement.{statement}
@@ -28,11 +29,15 @@ fails true true r e = let z : _≡_ {A = ℕ} 0 1 = cc in absurd (omega arith)
 fails true false r e = refl
 fails false s r e = refl
 
+settled : (n : ℕ) (s : Set) (r : List ℤ) (a : Supported) → a ≡ supportAnswer n s r → Supports n s r a
+settled n s r a e = record { answer = e; number = ap supportNumber e ∙ number-cond supportNumber (supportOk n s r) (Value (supportOf n (s .shape) (s .count) (points (s .points)) (vector r))) Refused }
+
 returns : tie.Need-returns
 returns c =
     let a = c .before .before .before .before .args in
     let s = a .set in
-    simp (fails (dimensionOk (a .n)) (setOk (a .n) (s .shape) (s .count) (s .points)) (directionOk (a .n) (a .r .now)) (sym (not-true _ (c .if1 .taken)) ∙ c .before .set-ok .ensures))
+    settled (a .n) s (a .r .now) Refused
+    (simp (fails (dimensionOk (a .n)) (setOk (a .n) (s .shape) (s .count) (s .points)) (directionOk (a .n) (a .r .now)) (sym (not-true _ (c .if1 .taken)) ∙ c .before .set-ok .ensures)))
 
 direction-ok-requires : tie.Need-direction-ok-requires
 direction-ok-requires c κs = search needs
@@ -41,7 +46,9 @@ passed : (c : tie.Else1) → (dimensionOk (c .before .before .before .before .ar
 passed c = split (c .before .before .before .before .args .n) (c .before .before .before .before .args .set) (c .before .set-ok .result) (c .before .set-ok .ensures) (not-false _ (c .if1 .left))
 
 returns-2 : tie.Need-returns-2
-returns-2 c = simp (passed (c .before .before) .0, passed (c .before .before) .1, sym (c .before .direction-ok .ensures) ∙ not-true _ (c .if2 .taken))
+returns-2 c =
+    let a = c .before .before .before .before .before .before .args in
+    settled (a .n) (a .set) (a .r .now) Refused (simp (passed (c .before .before) .0, passed (c .before .before) .1, sym (c .before .direction-ok .ensures) ∙ not-true _ (c .if2 .taken)))
 
 -- after both tests
 module _ (c : tie.Else2) where
@@ -65,7 +72,7 @@ returns-3 c =
     let a = b .before .before .before .before .before .before .args in
     let ok = passed (b .before .before) in
     let value = read-given w64 (c .support-of .result) (c .support-of .ok) ∙ c .support-of .ensures ∙ supportOf-six (a .n) (n-range (a .n) (ok .0) .1) (a .set .count) (a .set .points) (facts b .outside) (a .set .shape) (vector (a .r .now)) in
-    simp (ok .0, ok .1, direction b) (ap Value value)
+    settled (a .n) (a .set) (a .r .now) _ (simp (ok .0, ok .1, direction b) (ap Value value))
 
 pub support-spec : {M : Type 1} → statement M
 support-spec =
