@@ -67,20 +67,32 @@ pub(crate) fn next_error(errors: u64, sum: i64) -> i64
     ((errors + 65535) / 65536 + arrays::fraction(sum, 65536)) as i64
 }
 
-// r and e one step on, in place.
+// The next e of column i, whose N is `sum`.
+fn column_error(matrix: &[i32; 36], e: &[i64; 6], i: usize, sum: i64) -> i64
+    requires { ⌜ (i < 6) × Bounded (now matrix) (now e) ⌝ }
+    ensures { λ x. ⌜ x ≡ pos (ceilDivℕ (errorSum 6 (matrixOf (now (matrix .entry))) (magnitudes (now (e .entry))) i) matrixUnit + fraction sum matrixUnit) ⌝ }
+{
+    next_error(error_sum(matrix, e, i), sum)
+}
+
+// r and e one step on, in place. The six columns stand in a straight line, so that r and e are stored once each and as a
+// whole.
 pub(crate) fn advance(matrix: &[i32; 36], r: &mut [i64; 6], e: &mut [i64; 6])
     requires { ⌜ Bounded (now matrix) (now r) × Bounded (now matrix) (now e) ⌝ }
     ensures { λ _. ⌜ Advanced (now (matrix .entry)) (now (r .entry)) (now (e .entry)) (now (r .exit)) (now (e .exit)) ⌝ }
 {
-    let mut next_r = [0i64; 6];
-    let mut next_e = [0i64; 6];
-    let mut i: usize = 0;
-    while i < 6 {
-        let sum = product_sum(matrix, r, i);
-        next_r[i] = sum >> 16;
-        next_e[i] = next_error(error_sum(matrix, e, i), sum);
-        i += 1;
-    }
-    *r = next_r;
-    *e = next_e;
+    let n0 = product_sum(matrix, r, 0);
+    let e0 = column_error(matrix, e, 0, n0);
+    let n1 = product_sum(matrix, r, 1);
+    let e1 = column_error(matrix, e, 1, n1);
+    let n2 = product_sum(matrix, r, 2);
+    let e2 = column_error(matrix, e, 2, n2);
+    let n3 = product_sum(matrix, r, 3);
+    let e3 = column_error(matrix, e, 3, n3);
+    let n4 = product_sum(matrix, r, 4);
+    let e4 = column_error(matrix, e, 4, n4);
+    let n5 = product_sum(matrix, r, 5);
+    let e5 = column_error(matrix, e, 5, n5);
+    *r = [n0 >> 16, n1 >> 16, n2 >> 16, n3 >> 16, n4 >> 16, n5 >> 16];
+    *e = [e0, e1, e2, e3, e4, e5];
 }
