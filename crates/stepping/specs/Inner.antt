@@ -1,10 +1,12 @@
 -- What the inner functions ask of each other and leave, after `step` has tested its arguments. Definitions only; no public
 -- contract cites them. Assumes nothing.
 use mathlib.Core.Path.{_≡_}
+use mathlib.Core.Bool.{Bool, cond, _||_}
 use mathlib.Core.List.{List}
 use Prim.Native.Nat.{ℕ, _*_, _≤_, _<_}
+use lib.Dec.{ltb, eqb}
 use lib.IntN.{ℤ, pos, natAbs}
-use Rattle.integers.specs.Sums.{vector, magnitudes, matrix, tabulate}
+use Rattle.integers.specs.Sums.{vector, magnitudes, matrix, allBelow, tabulate}
 use Rattle.stepping.specs.Limits.{entryLimit, growthLimit}
 use Rattle.stepping.specs.Recurrence.{nextR, nextE}
 
@@ -18,6 +20,18 @@ pub record TimesAdd (sum a b : ℤ) : Type 0 where
 pub record Bounded (m xs : List ℤ) : Type 0 where
   pub entries : (k : ℕ) → k < 36 → natAbs (vector m k) ≤ entryLimit
   pub values : (i : ℕ) → i < 6 → natAbs (vector xs i) ≤ growthLimit
+
+-- Where the zeros of row p of an n by n matrix begin: past its n columns, or in a row past its n rows at once.
+abbrev pub zerosFrom : ℕ → ℕ → ℕ
+zerosFrom n p = cond (ltb p n) n 0
+
+-- Row p is zero from column `from` on.
+abbrev pub rowZero : ℕ → ℕ → List ℤ → Bool
+rowZero p from m = allBelow 6 (λ i. ltb i from || eqb (natAbs (matrix m p i)) 0)
+
+-- Each entry outside the n by n matrix is zero, row by row.
+abbrev pub zeroAround : ℕ → List ℤ → Bool
+zeroAround n m = allBelow 6 (λ p. rowZero p (zerosFrom n p) m)
 
 -- r and e one step on, all six coordinates.
 pub record Advanced (m r e r′ e′ : List ℤ) : Type 0 where

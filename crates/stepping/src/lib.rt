@@ -1,5 +1,5 @@
 // The stepping arithmetic of document 01, "The recurrence": the first working direction of a direction, one step of it
-// with its errors, the growth sum and the spare figure.
+// with its errors, the growth sum and the spare figure; and the test of a matrix.
 //
 // No public function has a `requires`. A working direction is six numbers r in units of 1/1,048,576 with six errors e;
 // what lies beyond the n coordinates is zero. A refusal is number 11, and leaves r and e as they were.
@@ -12,7 +12,7 @@ ghost use lib.ListN.{length};
 ghost use lib.IntN.{pos};
 ghost use Rattle.integers.specs.Sums.{vector, tabulate};
 ghost use Rattle.stepping.specs.Recurrence.{firstR, firstE};
-ghost use Rattle.stepping.specs.Refusals.{growthAnswer, Steps, spareAnswer, First};
+ghost use Rattle.stepping.specs.Refusals.{growthAnswer, matrixOk, Steps, spareAnswer, First};
 
 // What a step or a growth sum answers: the growth sum, or number 11.
 pub enum Stepped {
@@ -60,6 +60,19 @@ pub fn growth(n: usize, r: &[i64; 6], e: &[i64; 6]) -> Stepped
     refusals::largest_sum(r, e)
 }
 
+// Each entry of the n by n matrix is within its limit, and the others are zero. At n = 6 there are no others.
+pub fn matrix_ok(n: usize, matrix: &[i32; 36]) -> bool
+    ensures { λ b. ⌜ b ≡ matrixOk n (now (matrix .entry)) ⌝ }
+{
+    if !arrays::all_between(-131072, 131072, matrix) {
+        return false;
+    }
+    if 6 <= n {
+        return true;
+    }
+    refusals::zero_around(n, matrix)
+}
+
 // One step: r and e of the next step by the transpose of the matrix, and the growth sum of what it left. Number 11, with r
 // and e as they were, for n outside 1 to 6, a matrix entry beyond its limit, a nonzero matrix, r or e value beyond n, an e
 // below 0, or a growth sum of r and e above 1,073,741,824.
@@ -72,7 +85,7 @@ pub fn step(n: usize, matrix: &[i32; 36], r: &mut [i64; 6], e: &mut [i64; 6]) ->
     if 1073741824 < sum {
         return Stepped::Refused;
     }
-    if !refusals::matrix_ok(n, matrix) {
+    if !matrix_ok(n, matrix) {
         return Stepped::Refused;
     }
     column::advance(matrix, r, e);

@@ -1,7 +1,9 @@
 // The conditions of number 11, one function for each, and the growth sum.
 use crate::Stepped;
 ghost use mathlib.Core.Path.{_≡_};
-ghost use Rattle.stepping.specs.Refusals.{zeroBeyond, matrixOk, largestAnswer};
+ghost use Prim.Native.Nat.{_<_};
+ghost use Rattle.stepping.specs.Refusals.{zeroBeyond, largestAnswer};
+ghost use Rattle.stepping.specs.Inner.{zerosFrom, rowZero, zeroAround};
 
 // All from n on is zero.
 pub(crate) fn zero_beyond(n: usize, xs: &[i64; 6]) -> bool
@@ -35,15 +37,40 @@ pub(crate) fn largest_sum(r: &[i64; 6], e: &[i64; 6]) -> Stepped
     Stepped::Sum(most)
 }
 
-// Each entry of the n by n matrix is within its limit, and the others are zero. At n = 6 there are no others.
-pub(crate) fn matrix_ok(n: usize, matrix: &[i32; 36]) -> bool
-    ensures { λ b. ⌜ b ≡ matrixOk n (now (matrix .entry)) ⌝ }
+// Where the zeros of row p of an n by n matrix begin.
+fn zeros_from(n: usize, p: usize) -> usize
+    ensures { λ i. ⌜ i ≡ zerosFrom n p ⌝ }
 {
-    if !arrays::all_between(-131072, 131072, matrix) {
-        return false;
+    if p < n { n } else { 0 }
+}
+
+// Row p of the matrix is zero from column `from` on.
+fn row_zero(p: usize, from: usize, matrix: &[i32; 36]) -> bool
+    requires { ⌜ p < 6 ⌝ }
+    ensures { λ b. ⌜ b ≡ rowZero p from (now (matrix .entry)) ⌝ }
+{
+    let mut i = from;
+    while i < 6 {
+        if matrix[6 * p + i] != 0 {
+            return false;
+        }
+        i += 1;
     }
-    if 6 <= n {
-        return true;
+    true
+}
+
+// The entries outside the n by n matrix are zero. It looks at those alone: `arrays::zero_outside` says the same, by a division
+// for each of the 36 entries.
+pub(crate) fn zero_around(n: usize, matrix: &[i32; 36]) -> bool
+    ensures { λ b. ⌜ b ≡ zeroAround n (now (matrix .entry)) ⌝ }
+{
+    let mut p: usize = 0;
+    while p < 6 {
+        let from = zeros_from(n, p);
+        if !row_zero(p, from, matrix) {
+            return false;
+        }
+        p += 1;
     }
-    arrays::zero_outside(n, n, matrix)
+    true
 }

@@ -103,10 +103,7 @@ fn frame_ok(n: usize, steps: usize, matrix: &[i32; 36]) -> bool
     if 256 < steps {
         return false;
     }
-    if !arrays::all_between(-131072, 131072, matrix) {
-        return false;
-    }
-    arrays::zero_outside(n, n, matrix)
+    stepping::matrix_ok(n, matrix)
 }
 
 // n and the set break no rule.
