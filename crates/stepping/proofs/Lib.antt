@@ -1,3 +1,4 @@
 pub mod SpareFigure
 pub mod Beyond
 pub mod Stands
+pub mod Shifts

@@ -5,14 +5,15 @@ use mathlib.Core.Bool.{cond, _&&_}
 use mathlib.Core.List.{List}
 use native.Mathlib.Nat.{le-trans}
 use borrow.Author.Tests.{lt-leb, le-leb, leb-true, not-true, not-false}
-use lib.Dec.{leb}
+use lib.Dec.{T, leb}
+use lib.Signed.{nonNeg}
 use Rattle.integers.specs.Sums.{vector, magnitudes}
-use Rattle.integers.proofs.Sums.{le-maxℕ}
+use Rattle.integers.proofs.Sums.{le-maxℕ, allBelow-at}
 use Rattle.arrays.specs.Tests.{allBetween, zeroOutside}
 use Rattle.arrays.proofs.Laws.{and-true, and-false, allBetween-at}
 use Rattle.stepping.specs.Recurrence.{growthSum}
 use Rattle.stepping.specs.Refusals.{Steps, stepOk, workingOk, dimensionOk, zeroBeyond, nonNegative, matrixOk, steppedR, steppedE}
-use Rattle.stepping.specs.Inner.{Bounded}
+use Rattle.stepping.specs.Inner.{Bounded, BoundedErrors}
 use Rattle.stepping.specs.declared.Stepped.{Stepped}
 use Rattle.stepping.specs.declared.Stepped.the-variants.{Sum, Refused}
 use Rattle.stepping.proofs.Beyond.{zeroBeyond-at, growthSum-six, growthSum-stepped, nonNegative-stepped, steppedR-six, steppedE-six}
@@ -53,16 +54,20 @@ module _ (n : ℕ) (m r e : List ℤ) (working : workingOk n r e ≡ true) where
   n-most : n ≤ 6
   n-most = leb-true n 6 (and-true (leb 1 n) (leb n 6) (and-true (dimensionOk n) (zeroBeyond n r && (zeroBeyond n e && nonNegative e)) working .0) .1)
 
-  zeros : (zeroBeyond n r ≡ true) × (zeroBeyond n e ≡ true)
-  zeros =
+  parts-pass : (zeroBeyond n r ≡ true) × (zeroBeyond n e ≡ true) × (nonNegative e ≡ true)
+  parts-pass =
       let rest = and-true (dimensionOk n) (zeroBeyond n r && (zeroBeyond n e && nonNegative e)) working .1 in
       let more = and-true (zeroBeyond n r) (zeroBeyond n e && nonNegative e) rest in
-      (more .0, and-true (zeroBeyond n e) (nonNegative e) (more .1) .0)
+      let last = and-true (zeroBeyond n e) (nonNegative e) (more .1) in
+      (more .0, last .0, last .1)
+
+  natural : (i : ℕ) → i < 6 → T (nonNeg (vector e i))
+  natural i h = subst T (sym (allBelow-at 6 (λ j. nonNeg (vector e j)) (parts-pass .2) i h)) tt
 
   -- each |r[i]| + e[i], of six, is at most the growth sum of n
   each : (i : ℕ) → i < 6 → natAbs (vector r i) + magnitudes e i ≤ growthSum n (vector r) (magnitudes e)
   each i h =
-      subst (λ (s : ℕ). natAbs (vector r i) + magnitudes e i ≤ s) (growthSum-six n n-most (vector r) (magnitudes e) (zeroBeyond-at n r (zeros .0)) (zeroBeyond-at n e (zeros .1)))
+      subst (λ (s : ℕ). natAbs (vector r i) + magnitudes e i ≤ s) (growthSum-six n n-most (vector r) (magnitudes e) (zeroBeyond-at n r (parts-pass .0)) (zeroBeyond-at n e (parts-pass .1)))
       (le-maxℕ 6 (λ j. natAbs (vector r j) + magnitudes e j) i h)
 
   module _ (small : growthSum n (vector r) (magnitudes e) ≤ 1073741824) (entries : allBetween (negsuc 131071) (pos 131072) m ≡ true) where
@@ -72,8 +77,8 @@ module _ (n : ℕ) (m r e : List ℤ) (working : workingOk n r e ≡ true) where
     bounded-r : Bounded m r
     bounded-r = record { entries = entry; values = λ i h. omega (arith, each i h) }
 
-    bounded-e : Bounded m e
-    bounded-e = record { entries = entry; values = λ i h. omega (arith, each i h) }
+    bounded-e : BoundedErrors m e
+    bounded-e = record { bounded = record { entries = entry; values = λ i h. omega (arith, each i h) }; natural = natural }
 
 -- ---- the needs
 

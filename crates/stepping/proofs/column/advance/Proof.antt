@@ -1,13 +1,13 @@
 -- `stepping::column::advance` meets its contract: N and the error of each column are what `product_sum` and `column_error` say, and the
 -- two lists are stored whole. Assumes nothing.
-use Rattle.integers.proofs.Basics.{_≡_, sym, ap, subst, _∙_, ℕ, _+_, _<_, arith, needs, ℤ, pos, w64, toZ, ofZ}
+use Rattle.integers.proofs.Basics.{_≡_, ap, _∙_, ℕ, _+_, _<_, arith, needs, ℤ, pos, w64, toZ, ofZ}
 use mathlib.Core.List.{List, [], _∷_}
-use native.Mathlib.Nat.{lt-of-le-of-lt}
-use lib.Signed.{mag, shrZ, mag-shr}
+use lib.Signed.{mag, shrZ}
 use Rattle.integers.specs.Whole.{ceilDivℕ, fraction}
 use Rattle.integers.specs.Sums.{vector, magnitudes, matrix as matrixOf, transposed}
 use Rattle.integers.proofs.Machine.{read-given}
 use Rattle.stepping.specs.Recurrence.{nextR, nextE, errorSum}
+use Rattle.stepping.proofs.Shifts.{read-shifted}
 use Rattle.stepping.proofs.column.advance.Statement.{statement}
 use Rattle.stepping.proofs.column.advance.Tie as tie
 
@@ -53,9 +53,7 @@ module _ (m r e : List ℤ) (i : ℕ) {N : ℤ} (fits : mag N < 9223372036854775
   read = read-given w64 N fits ∙ is
 
   in-r : toZ w64 (ofZ w64 (shrZ (toZ w64 (ofZ w64 N)) 65536)) ≡ nextR 6 (matrixOf m) (vector r) i
-  in-r =
-      let small = subst (λ (z : ℤ). mag z < 9223372036854775808) (sym (read-given w64 N fits)) fits in
-      read-given w64 (shrZ (toZ w64 (ofZ w64 N)) 65536) (lt-of-le-of-lt (mag-shr (toZ w64 (ofZ w64 N)) 65536) small) ∙ ap (λ (z : ℤ). shrZ z 65536) read
+  in-r = read-shifted N fits ∙ ap (λ (z : ℤ). shrZ z 65536) is
 
   in-e : {x : ℤ} → mag x < 9223372036854775808 → x ≡ pos (ceilDivℕ (errorSum 6 (matrixOf m) (magnitudes e) i) 65536 + fraction (toZ w64 (ofZ w64 N)) 65536) → toZ w64 (ofZ w64 x) ≡ pos (nextE 6 (matrixOf m) (vector r) (magnitudes e) i)
   in-e {x} small f = read-given w64 x small ∙ f ∙ ap (λ (z : ℤ). pos (ceilDivℕ (errorSum 6 (matrixOf m) (magnitudes e) i) 65536 + fraction z 65536)) read

@@ -21,7 +21,7 @@ errorSum-small m e i h b = sumℕ-bound 6 (131072 * 1073741824) (λ p l. mul-le-
 next-error-requires : tie.Need-next-error-requires
 next-error-requires c κs =
     let a = c .before .args in
-    subst (λ (k : ℕ). k ≤ 6 * (131072 * 1073741824)) (sym (c .error-sum .ensures)) (errorSum-small (a .matrix .now) (a .e .now) (a .i) (c .before .pre .0) (c .before .pre .1))
+    subst (λ (k : ℕ). k ≤ 6 * (131072 * 1073741824)) (sym (c .error-sum .ensures)) (errorSum-small (a .matrix .now) (a .e .now) (a .i) (c .before .pre .0) (c .before .pre .1 .bounded))
 
 returns : tie.Need-returns
 returns c =

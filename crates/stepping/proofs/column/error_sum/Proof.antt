@@ -5,6 +5,8 @@ use mathlib.Core.List.{List}
 use Rattle.integers.specs.Sums.{vector, magnitudes, matrix as matrixOf, sum as sumOf, sumℕ}
 use Rattle.integers.proofs.Machine.{read-given}
 use native.Mathlib.Nat.{mul-le-mul}
+use lib.Dec.{T}
+use lib.Signed.{nonNeg}
 use Rattle.integers.proofs.Sums.{sumℕ-zero, sumℕ-suc}
 use Rattle.stepping.proofs.column.error_sum.Statement.{statement}
 use Rattle.stepping.proofs.column.error_sum.Tie as tie
@@ -65,19 +67,21 @@ module _ (c : tie.After-magnitude-times-add-arg2 Inv-loop μ-loop) where
   value = read-given w64 (vector xs p) (c .magnitude-times-add-arg2 .given)
 
   entry-small : natAbs (matrixOf m p i) ≤ 131072
-  entry-small = c .before .before .before .before .pre .1 .entries (6 * p + i) (omega (arith, c .before .before .before .before .pre .0))
+  entry-small = c .before .before .before .before .pre .1 .bounded .entries (6 * p + i) (omega (arith, c .before .before .before .before .pre .0))
 
   value-small : natAbs (vector xs p) ≤ 1073741824
-  value-small = c .before .before .before .before .pre .1 .values p (omega arith)
+  value-small = c .before .before .before .before .pre .1 .bounded .values p (omega arith)
 
 magnitude-times-add-requires : tie.Need-magnitude-times-add-requires Inv-loop μ-loop
 magnitude-times-add-requires c κs =
-    let inv = c .before .before .before .loop .inv in
-    record {
-      sum-small = omega (arith, inv .small, c .before .before .loop-test .taken);
-      entry-small = subst (λ (z : ℤ). natAbs z ≤ 131072) (sym (entry c)) (entry-small c);
-      value-small = subst (λ (z : ℤ). natAbs z ≤ 1073741824) (sym (value c)) (value-small c);
-    }
+    let inv = c .before .before .before .loop .inv in (
+      record {
+        sum-small = omega (arith, inv .small, c .before .before .loop-test .taken);
+        entry-small = subst (λ (z : ℤ). natAbs z ≤ 131072) (sym (entry c)) (entry-small c);
+        value-small = subst (λ (z : ℤ). natAbs z ≤ 1073741824) (sym (value c)) (value-small c);
+      },
+      subst (λ (z : ℤ). T (nonNeg z)) (sym (value c)) (c .before .before .before .before .pre .1 .natural (p c) (omega arith)),
+    )
 
 add-p : tie.Need-add-p Inv-loop μ-loop
 add-p c = omega arith
