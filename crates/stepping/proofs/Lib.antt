@@ -2,3 +2,4 @@ pub mod SpareFigure
 pub mod Beyond
 pub mod Stands
 pub mod Shifts
+pub mod Numbers

@@ -43,13 +43,26 @@ pub record First (d r e : List ℤ) : Type 0 where
   pub direction : r ≡ tabulate 6 (firstR (vector d))
   pub errors : e ≡ tabulate 6 (λ i. pos (firstE i))
 
+-- The document's number of an answer: 0 where nothing is refused.
+abbrev pub steppedNumber : Stepped → ℕ
+steppedNumber (Sum s) = 0
+steppedNumber Refused = 11
+
+abbrev pub spareNumber : Spare → ℕ
+spareNumber (Bits h) = 0
+spareNumber NoSpare = 11
+
 -- The growth sum of six coordinates, or a refusal where an e is below 0.
 abbrev pub largestAnswer : List ℤ → List ℤ → Stepped
 largestAnswer r e = cond (nonNegative e) (Sum (growthSum 6 (vector r) (magnitudes e))) Refused
 
--- What `growth` answers: the growth sum of r and e.
+-- What `growth` answers: the growth sum of r and e, or number 11.
 abbrev pub growthAnswer : ℕ → List ℤ → List ℤ → Stepped
 growthAnswer n r e = cond (workingOk n r e) (Sum (growthSum n (vector r) (magnitudes e))) Refused
+
+pub record Grows (n : ℕ) (r e : List ℤ) (a : Stepped) : Type 0 where
+  pub answer : a ≡ growthAnswer n r e
+  pub number : steppedNumber a ≡ cond (workingOk n r e) 0 11
 
 -- No condition of number 11 holds for a step.
 abbrev pub stepOk : ℕ → List ℤ → List ℤ → List ℤ → Bool
@@ -65,18 +78,17 @@ steppedE n m r e = tabulate 6 (λ i. pos (nextE n (matrix m) (vector r) (magnitu
 -- What `step` answers and leaves: r and e as lent, r′ and e′ as left. Where it refuses, r and e keep every element.
 pub record Steps (n : ℕ) (m r e : List ℤ) (a : Stepped) (r′ e′ : List ℤ) : Type 0 where
   pub answer : a ≡ cond (stepOk n m r e) (Sum (growthSum n (vector r′) (magnitudes e′))) Refused
+  pub number : steppedNumber a ≡ cond (stepOk n m r e) 0 11
   pub direction : r′ ≡ cond (stepOk n m r e) (steppedR n m r) r
   pub errors : e′ ≡ cond (stepOk n m r e) (steppedE n m r e) e
 
--- What `spare_bits` answers: the spare figure of a sum from 1 to 1,073,741,824.
+-- What `spare_bits` answers: the spare figure of a sum from 1 to 1,073,741,824, or number 11.
+abbrev pub spareOk : ℕ → Bool
+spareOk s = leb 1 s && leb s growthLimit
+
 abbrev pub spareAnswer : ℕ → Spare
-spareAnswer s = cond (leb 1 s && leb s growthLimit) (Bits (spare s)) NoSpare
+spareAnswer s = cond (spareOk s) (Bits (spare s)) NoSpare
 
--- The document's number of an answer: 0 where nothing is refused.
-abbrev pub steppedNumber : Stepped → ℕ
-steppedNumber (Sum s) = 0
-steppedNumber Refused = 11
-
-abbrev pub spareNumber : Spare → ℕ
-spareNumber (Bits h) = 0
-spareNumber NoSpare = 11
+pub record Spares (s : ℕ) (a : Spare) : Type 0 where
+  pub answer : a ≡ spareAnswer s
+  pub number : spareNumber a ≡ cond (spareOk s) 0 11

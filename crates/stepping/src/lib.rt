@@ -12,7 +12,7 @@ ghost use lib.ListN.{length};
 ghost use lib.IntN.{pos};
 ghost use Rattle.integers.specs.Sums.{vector, tabulate};
 ghost use Rattle.stepping.specs.Recurrence.{firstR, firstE};
-ghost use Rattle.stepping.specs.Refusals.{growthAnswer, matrixOk, Steps, spareAnswer, First};
+ghost use Rattle.stepping.specs.Refusals.{First, Grows, matrixOk, Steps, Spares};
 
 // What a step or a growth sum answers: the growth sum, or number 11.
 pub enum Stepped {
@@ -43,7 +43,7 @@ pub fn first(direction: &[i32; 6], r: &mut [i64; 6], e: &mut [i64; 6])
 // The growth sum of r and e: the largest |r[i]| + e[i], exact for every value that an i64 can hold. Number 11 for n
 // outside 1 to 6, a nonzero value beyond n, or an e below 0.
 pub fn growth(n: usize, r: &[i64; 6], e: &[i64; 6]) -> Stepped
-    ensures { λ a. ⌜ a ≡ growthAnswer n (now (r .entry)) (now (e .entry)) ⌝ }
+    ensures { λ a. ⌜ Grows n (now (r .entry)) (now (e .entry)) a ⌝ }
 {
     if n < 1 {
         return Stepped::Refused;
@@ -94,7 +94,7 @@ pub fn step(n: usize, matrix: &[i32; 36], r: &mut [i64; 6], e: &mut [i64; 6]) ->
 
 // The spare figure of a largest sum from 1 to 1,073,741,824; number 11 for any other.
 pub fn spare_bits(largest: u64) -> Spare
-    ensures { λ a. ⌜ a ≡ spareAnswer largest ⌝ }
+    ensures { λ a. ⌜ Spares largest a ⌝ }
 {
     if largest < 1 {
         return Spare::NoSpare;

@@ -6,15 +6,16 @@ use lib.Dec.{leb}
 use Rattle.stepping.specs.Refusals.{zeroBeyond, nonNegative}
 use Rattle.stepping.specs.declared.Stepped.the-variants.{Sum, Refused}
 use Rattle.integers.specs.Sums.{vector, magnitudes}
+use Rattle.stepping.proofs.Numbers.{grows}
 use Rattle.stepping.proofs.Beyond.{zeroBeyond-at, growthSum-six}
 use Rattle.stepping.proofs.growth.Statement.{statement}
 use Rattle.stepping.proofs.growth.Tie as tie
 
 returns : tie.Need-returns
-returns c = simp (lt-leb _ _ (c .if1 .taken))
+returns c = grows _ _ _ Refused (simp (lt-leb _ _ (c .if1 .taken)))
 
 returns-2 : tie.Need-returns-2
-returns-2 c = simp (le-leb _ _ (c .before .if1 .left), lt-leb _ _ (c .if2 .taken))
+returns-2 c = grows _ _ _ Refused (simp (le-leb _ _ (c .before .if1 .left), lt-leb _ _ (c .if2 .taken)))
 
 zero-beyond-requires : tie.Need-zero-beyond-requires
 zero-beyond-requires c κs = search needs
@@ -30,7 +31,7 @@ module _ (c : tie.Else2) where
 returns-3 : tie.Need-returns-3
 returns-3 c =
     let at-n = c .before .before in
-    simp (least at-n, most at-n, sym (c .before .zero-beyond .ensures) ∙ not-true _ (c .if3 .taken))
+    grows _ _ _ Refused (simp (least at-n, most at-n, sym (c .before .zero-beyond .ensures) ∙ not-true _ (c .if3 .taken)))
 
 zero-beyond-requires-2 : tie.Need-zero-beyond-requires-2
 zero-beyond-requires-2 c κs = search needs
@@ -42,7 +43,7 @@ returns-4 : tie.Need-returns-4
 returns-4 c =
     let at-r = c .before .before in
     let at-n = at-r .before .before in
-    simp (least at-n, most at-n, zero-r at-r, sym (c .before .zero-beyond2 .ensures) ∙ not-true _ (c .if4 .taken))
+    grows _ _ _ Refused (simp (least at-n, most at-n, zero-r at-r, sym (c .before .zero-beyond2 .ensures) ∙ not-true _ (c .if4 .taken)))
 
 largest-sum-requires : tie.Need-largest-sum-requires
 largest-sum-requires c κs = search needs
@@ -54,9 +55,8 @@ returns-5 c =
     let a = at-n .before .before .args in
     let zero-e = sym (c .before .before .zero-beyond2 .ensures) ∙ not-false _ (c .before .if4 .left) in
     let same = growthSum-six (a .n) (at-n .if2 .left) (vector (a .r .now)) (magnitudes (a .e .now)) (zeroBeyond-at (a .n) (a .r .now) (zero-r at-r)) (zeroBeyond-at (a .n) (a .e .now) zero-e) in
-    c .largest-sum .ensures
-    ∙ ap (λ (s : ℕ). cond (nonNegative (a .e .now)) (Sum s) Refused) same
-    ∙ sym (simp (least at-n, most at-n, zero-r at-r, zero-e))
+    grows (a .n) (a .r .now) (a .e .now) (c .largest-sum .result)
+    (c .largest-sum .ensures ∙ ap (λ (s : ℕ). cond (nonNegative (a .e .now)) (Sum s) Refused) same ∙ sym (simp (least at-n, most at-n, zero-r at-r, zero-e)))
 
 pub growth-spec : {M : Type 1} → statement M
 growth-spec =

@@ -16,6 +16,7 @@ use Rattle.stepping.specs.Refusals.{Steps, stepOk, workingOk, dimensionO
 use Rattle.stepping.specs.Inner.{Bounded, BoundedErrors}
 use Rattle.stepping.specs.declared.Stepped.{Stepped}
 use Rattle.stepping.specs.declared.Stepped.the-variants.{Sum, Refused}
+use Rattle.stepping.proofs.Numbers.{stepped-number}
 use Rattle.stepping.proofs.Beyond.{zeroBeyond-at, growthSum-six, growthSum-stepped, nonNegative-stepped, steppedR-six, steppedE-six}
 use Rattle.stepping.proofs.step.Statement.{statement}
 use Rattle.stepping.proofs.step.Tie as tie
@@ -34,16 +35,20 @@ sum-only false s x e = let z : _≡_ {A = ℕ} 0 1 = cc in absurd (omega arith)
 
 refuses : (n : ℕ) (m r e : List ℤ) → stepOk n m r e ≡ false → Steps n m r e Refused r e
 refuses n m r e h =
+    let answer = sym (ap (λ (t : Bool). cond t (Sum (growthSum n (vector r) (magnitudes e))) Refused) h) in
     record {
-      answer = sym (ap (λ (t : Bool). cond t (Sum (growthSum n (vector r) (magnitudes e))) Refused) h);
+      answer = answer;
+      number = stepped-number (stepOk n m r e) _ Refused answer;
       direction = sym (ap (λ (t : Bool). cond t (steppedR n m r) r) h);
       errors = sym (ap (λ (t : Bool). cond t (steppedE n m r e) e) h);
     }
 
 steps : (n : ℕ) (m r e : List ℤ) (a : Stepped) (r′ e′ : List ℤ) → stepOk n m r e ≡ true → a ≡ Sum (growthSum n (vector r′) (magnitudes e′)) → r′ ≡ steppedR n m r → e′ ≡ steppedE n m r e → Steps n m r e a r′ e′
 steps n m r e a r′ e′ h p q s =
+    let answer = p ∙ sym (ap (λ (t : Bool). cond t (Sum (growthSum n (vector r′) (magnitudes e′))) Refused) h) in
     record {
-      answer = p ∙ sym (ap (λ (t : Bool). cond t (Sum (growthSum n (vector r′) (magnitudes e′))) Refused) h);
+      answer = answer;
+      number = stepped-number (stepOk n m r e) _ a answer;
       direction = q ∙ sym (ap (λ (t : Bool). cond t (steppedR n m r) r) h);
       errors = s ∙ sym (ap (λ (t : Bool). cond t (steppedE n m r e) e) h);
     }
@@ -94,7 +99,7 @@ enum-told c = search needs
 returns : tie.Need-returns
 returns c =
     let a = c .before .before .before .before .before .args in
-    let failed = refused-only (workingOk (a .n) (a .r .now) (a .e .now)) _ (sym (c .enum-told .given .1) ∙ c .before .before .growth .ensures) in
+    let failed = refused-only (workingOk (a .n) (a .r .now) (a .e .now)) _ (sym (c .enum-told .given .1) ∙ c .before .before .growth .ensures .answer) in
     refuses (a .n) (a .matrix .now) (a .r .now) (a .e .now) (ap (λ (t : Bool). t && (leb (growthSum (a .n) (vector (a .r .now)) (magnitudes (a .e .now))) 1073741824 && matrixOk (a .n) (a .matrix .now))) failed)
 
 -- after `growth` has answered a sum: r and e pass, and it is their growth sum
@@ -115,7 +120,7 @@ module _ (c : tie.After-known-told) where
   answered = c .before .sum .given .0 .0
 
   passed : (workingOk n r e ≡ true) × (answered ≡ growthSum n (vector r) (magnitudes e))
-  passed = sum-only (workingOk n r e) _ answered (sym (c .before .sum .given .1) ∙ c .before .before .before .growth .ensures)
+  passed = sum-only (workingOk n r e) _ answered (sym (c .before .sum .given .1) ∙ c .before .before .before .growth .ensures .answer)
 
 returns-2 : tie.Need-returns-2
 returns-2 c =

@@ -50,7 +50,7 @@ loop-holds c =
     let start = c .before .before .before .before in
     let a = start .args in
     let own = ap (λ (n : ℕ). growthAnswer n (a .r .now) (a .e .now)) (start .pre .1 .n-is) in
-    let sum-is = c .sum-of .ensures ∙ growth-is (m start) (facts start) (d start) (d-inside start) 0 (a .r .now) (a .e .now) (c .before .growth .result) (first-stored start) (c .before .growth .ensures ∙ own) in
+    let sum-is = c .sum-of .ensures ∙ growth-is (m start) (facts start) (d start) (d-inside start) 0 (a .r .now) (a .e .now) (c .before .growth .result) (first-stored start) (c .before .growth .ensures .answer ∙ own) in
     starts (m start) (facts start) (d start) (d-inside start) (a .bounds .now) (a .slacks .now) (a .r .now) (a .e .now) (c .sum-of .result) (first-stored start) sum-is
 
 returns : tie.Need-returns Inv-loop μ-loop

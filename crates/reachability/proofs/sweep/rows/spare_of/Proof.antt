@@ -22,7 +22,7 @@ answer : (s : ℕ) → 1 ≤ s → s ≤ 1073741824 → spareAnswer s ≡ Bits (
 answer s l h = ap (λ (t : Bool). cond t (Bits (spare s)) NoSpare) (ap₂ _&&_ (le-leb 1 s l) (le-leb s 1073741824 h))
 
 is : (c : tie.After-spare-bits) → c .spare-bits .result ≡ Bits (spare (c .before .args .sum))
-is c = c .spare-bits .ensures ∙ answer (c .before .args .sum) (c .before .pre .0) (c .before .pre .1)
+is c = c .spare-bits .ensures .answer ∙ answer (c .before .args .sum) (c .before .pre .0) (c .before .pre .1)
 
 same-bits : {a b : ℕ} {x : Spare} → x ≡ Bits a → x ≡ Bits b → a ≡ b
 same-bits p q = cc
