@@ -1,8 +1,9 @@
--- From what the called functions leave to the replies, one law for each end. Assumes nothing.
-use mathlib.Core.Path.{_≡_, refl, sym, ap, ap₂, subst, _∙_}
+-- From what the called functions leave to the replies, one law for each end; those of a file serve the sweep and the judge.
+-- Assumes nothing.
+use mathlib.Core.Path.{_≡_, refl, sym, ap, ap₂, _∙_}
 use mathlib.Core.Bool.{Bool, true, false, cond}
 use mathlib.Core.List.{List}
-use Prim.Native.Nat.{ℕ}
+use Prim.Native.Nat.{ℕ, _<_}
 use native.Mathlib.Omega.{arith}
 use lib.ListN.{length}
 use lib.IntN.{ℤ}
@@ -11,14 +12,17 @@ use Rattle.stepping.specs.Recurrence.{growthSum}
 use Rattle.stepping.specs.Refusals.{Steps, stepOk, steppedR, steppedE}
 use Rattle.stepping.specs.declared.Stepped.{Stepped}
 use Rattle.stepping.specs.declared.Stepped.the-variants as P
+use Rattle.reachability.specs.Limits.{accepted}
 use Rattle.reachability.specs.Answers.{sweepAnswer, judgeAnswer, SweepLeaves, JudgeLeaves}
-use Rattle.reachability.specs.declared.sweep.Swept.{Swept}
-use Rattle.reachability.specs.declared.judge.Judged.{Judged}
+use Rattle.reachability.specs.declared.model.Model.{Model}
+use Rattle.reader.specs.declared.Reading.{Reading}
 use Rattle.reader.specs.declared.Status.{Status}
 use Rattle.reader.specs.declared.Status.the-variants.{Read, Refused}
 use Rattle.reader.specs.Reading.{readModel}
-use Rattle.pepperscarp.specs.Packing.{packed, steppedPacked, sweptPacked, judgedPacked}
-use Rattle.pepperscarp.specs.Replies.{stepAnswer, fileAnswer, Kept, StepReply, SweepReply, JudgeReply}
+use Rattle.reader.proofs.ReadModels.{readModel-accepted}
+use Rattle.pepperscarp.specs.Packing.{packed, figureLimit, steppedPacked, sweptFigure, judgedFigure}
+use Rattle.pepperscarp.specs.Replies.{stepAnswer, Promise, StepReply, FileReply}
+use Rattle.pepperscarp.proofs.Figures.{offset-small, swept-small, judged-small}
 
 -- ---- a step
 
@@ -44,40 +48,50 @@ step-reply n m r e a r′ e′ x s p =
 not-refused : {C : Type 0} (status : Status) (number offset : ℕ) → status ≡ Read → status ≡ Refused number offset → C
 not-refused status number offset p q = let z : _≡_ {A = ℕ} 0 1 = cc in absurd (omega arith)
 
-module _ (file : List ℕ) (i : ℕ) (b₀ s₀ : List ℤ) (x : ℕ) where
-  module _ (number offset : ℕ) (e : readModel file .status ≡ Refused number offset) (p : x ≡ packed number 0 offset) where
-    pub sweep-refused : SweepReply file i b₀ s₀ x b₀ s₀
-    sweep-refused =
-        record {
-          answer = p ∙ sym (ap (λ (t : Status). fileAnswer t (sweptPacked (sweepAnswer (readModel file .model) i (length b₀) (length s₀)))) e);
-          kept = λ n o f. (refl, refl);
-          left = λ f. not-refused _ number offset f e;
-        }
+module _ (file : List ℕ) {r : Reading} (is : r ≡ readModel file) where
+  status-is : {t : Status} → r .status ≡ t → readModel file .status ≡ t
+  status-is e = ap (λ (y : Reading). y .status) (sym is) ∙ e
 
-    pub judge-refused : JudgeReply file i b₀ s₀ x b₀ s₀
-    judge-refused =
-        record {
-          answer = p ∙ sym (ap (λ (t : Status). fileAnswer t (judgedPacked (judgeAnswer (readModel file .model) i (length b₀) (length s₀)))) e);
-          kept = λ n o f. (refl, refl);
-          left = λ f. not-refused _ number offset f e;
-        }
+  -- What `packing::refused` asks for.
+  pub refused-small : {number offset : ℕ} → r .status ≡ Refused number offset → offset < figureLimit
+  refused-small e = offset-small file _ _ (status-is e)
 
-  module _ (b s : List ℤ) (e : readModel file .status ≡ Read) where
-    kept-none : Kept (readModel file .status) b₀ s₀ b s
-    kept-none n o f = not-refused _ n o e f
+  pub reply-refused : {A : Type 0} {pack : A → ℕ} {answerOf : Model → ℕ → ℕ → ℕ → A} {Leaves : Promise Model A} {number offset i x : ℕ} {b₀ s₀ : List ℤ} → r .status ≡ Refused number offset → x ≡ packed number 0 offset → FileReply pack answerOf Leaves file i b₀ s₀ x b₀ s₀
+  reply-refused e p =
+      record {
+        answer = rw (status-is e) p;
+        kept = λ n o f. (refl, refl);
+        left = λ f. not-refused _ _ _ f (status-is e);
+      }
 
-    pub sweep-read : (a : Swept) → SweepLeaves (readModel file .model) i b₀ s₀ a b s → x ≡ sweptPacked a → SweepReply file i b₀ s₀ x b s
-    sweep-read a h p =
-        record {
-          answer = p ∙ ap sweptPacked (h .answer) ∙ sym (ap (λ (t : Status). fileAnswer t (sweptPacked (sweepAnswer (readModel file .model) i (length b₀) (length s₀)))) e);
-          kept = kept-none;
-          left = λ f. subst (λ (y : Swept). SweepLeaves (readModel file .model) i b₀ s₀ y b s) (h .answer) h;
-        }
+-- Of the function over models: the promise has the answer, and the answer of an accepted model has a small figure.
+pub record Answers {A : Type 0} (figure : A → ℕ) (answerOf : Model → ℕ → ℕ → ℕ → A) (Leaves : Promise Model A) : Type 0 where
+  pub says : (m : Model) (i : ℕ) (b₀ s₀ : List ℤ) (a : A) (b s : List ℤ) → Leaves m i b₀ s₀ a b s → a ≡ answerOf m i (length b₀) (length s₀)
+  pub small : (m : Model) (i lb ls : ℕ) → accepted m ≡ true → figure (answerOf m i lb ls) < figureLimit
 
-    pub judge-read : (a : Judged) → JudgeLeaves (readModel file .model) i b₀ s₀ a b s → x ≡ judgedPacked a → JudgeReply file i b₀ s₀ x b s
-    judge-read a h p =
-        record {
-          answer = p ∙ ap judgedPacked (h .answer) ∙ sym (ap (λ (t : Status). fileAnswer t (judgedPacked (judgeAnswer (readModel file .model) i (length b₀) (length s₀)))) e);
-          kept = kept-none;
-          left = λ f. subst (λ (y : Judged). JudgeLeaves (readModel file .model) i b₀ s₀ y b s) (h .answer) h;
-        }
+pub sweep-answers : Answers sweptFigure sweepAnswer SweepLeaves
+sweep-answers = record { says = λ m i b₀ s₀ a b s h. h .answer; small = swept-small }
+
+pub judge-answers : Answers judgedFigure judgeAnswer JudgeLeaves
+judge-answers = record { says = λ m i b₀ s₀ a b s h. h .answer; small = judged-small }
+
+module _ {A : Type 0} {figure : A → ℕ} {answerOf : Model → ℕ → ℕ → ℕ → A} {Leaves : Promise Model A} (f : Answers figure answerOf Leaves)
+    (file : List ℕ) {r : Reading} (is : r ≡ readModel file) (was : r .status ≡ Read)
+    {i : ℕ} {b₀ s₀ b s : List ℤ} {a : A} (h : Leaves (r .model) i b₀ s₀ a b s) where
+  left : Leaves (readModel file .model) i b₀ s₀ a b s
+  left = rw is at h
+
+  said : a ≡ answerOf (readModel file .model) i (length b₀) (length s₀)
+  said = f .says _ _ _ _ _ _ _ left
+
+  -- What the packing of the answer asks for.
+  pub read-small : figure a < figureLimit
+  read-small = rw said (f .small _ _ _ _ (readModel-accepted file (status-is file is was)))
+
+  pub reply-read : {pack : A → ℕ} {x : ℕ} → x ≡ pack a → FileReply pack answerOf Leaves file i b₀ s₀ x b s
+  reply-read {pack} p =
+      record {
+        answer = rw (status-is file is was) (p ∙ ap pack said);
+        kept = λ n o e. not-refused _ n o (status-is file is was) e;
+        left = λ e. rw said at left;
+      }

@@ -12,6 +12,7 @@ use Rattle.stepping.specs.Refusals.{stepOk, steppedR, steppedE}
 use Rattle.stepping.specs.declared.Stepped.{Stepped}
 use Rattle.stepping.specs.declared.Stepped.the-variants.{Sum, Refused as Unstepped}
 use Rattle.reachability.specs.Answers.{sweepAnswer, judgeAnswer, SweepLeaves, JudgeLeaves}
+use Rattle.reachability.specs.declared.model.Model.{Model}
 use Rattle.reader.specs.declared.Status.{Status}
 use Rattle.reader.specs.declared.Status.the-variants.{Read, Refused}
 use Rattle.reader.specs.Reading.{readModel}
@@ -36,15 +37,23 @@ fileAnswer (Refused number offset) x = packed number 0 offset
 abbrev pub Kept : Status → List ℤ → List ℤ → List ℤ → List ℤ → Type 0
 Kept status b₀ s₀ b s = (number offset : ℕ) → status ≡ Refused number offset → (b ≡ b₀) × (s ≡ s₀)
 
--- What a sweep of a file answers and leaves. `left` is the promise of the sweep of the file's model, its accuracy included.
-pub record SweepReply (file : List ℕ) (d : ℕ) (b₀ s₀ : List ℤ) (x : ℕ) (b s : List ℤ) : Type 0 where
-  pub answer : x ≡ fileAnswer (readModel file .status) (sweptPacked (sweepAnswer (readModel file .model) d (length b₀) (length s₀)))
+-- The form of SweepLeaves and JudgeLeaves and, with a file for the model and one number for the answer, of the two replies: of
+-- what was given, the direction's or guard's number, the lists as lent, the answer and the lists as left.
+abbrev pub Promise : Type 0 → Type 0 → Type 1
+Promise X A = X → ℕ → List ℤ → List ℤ → A → List ℤ → List ℤ → Type 0
+
+-- What a function of a file answers and leaves. `pack` puts an answer in one number; `answerOf` is the answer of a model, from the
+-- number i and the lengths of the lists, and `Leaves` the promise of it, here for the file's model.
+pub record FileReply {A : Type 0} (pack : A → ℕ) (answerOf : Model → ℕ → ℕ → ℕ → A) (Leaves : Promise Model A) (file : List ℕ) (i : ℕ) (b₀ s₀ : List ℤ) (x : ℕ) (b s : List ℤ) : Type 0 where
+  pub answer : x ≡ fileAnswer (readModel file .status) (pack (answerOf (readModel file .model) i (length b₀) (length s₀)))
   pub kept : Kept (readModel file .status) b₀ s₀ b s
-  pub left : readModel file .status ≡ Read → SweepLeaves (readModel file .model) d b₀ s₀ (sweepAnswer (readModel file .model) d (length b₀) (length s₀)) b s
+  pub left : readModel file .status ≡ Read → Leaves (readModel file .model) i b₀ s₀ (answerOf (readModel file .model) i (length b₀) (length s₀)) b s
+
+-- What a sweep of a file answers and leaves. `left` is the promise of the sweep of the file's model, its accuracy included.
+abbrev pub SweepReply : Promise (List ℕ) ℕ
+SweepReply = FileReply sweptPacked sweepAnswer SweepLeaves
 
 -- What a judge of a file answers and leaves. `left` is the promise of the judge of the file's model, its accuracy and its
 -- verdict's meaning included.
-pub record JudgeReply (file : List ℕ) (g : ℕ) (b₀ s₀ : List ℤ) (x : ℕ) (b s : List ℤ) : Type 0 where
-  pub answer : x ≡ fileAnswer (readModel file .status) (judgedPacked (judgeAnswer (readModel file .model) g (length b₀) (length s₀)))
-  pub kept : Kept (readModel file .status) b₀ s₀ b s
-  pub left : readModel file .status ≡ Read → JudgeLeaves (readModel file .model) g b₀ s₀ (judgeAnswer (readModel file .model) g (length b₀) (length s₀)) b s
+abbrev pub JudgeReply : Promise (List ℕ) ℕ
+JudgeReply = FileReply judgedPacked judgeAnswer JudgeLeaves
