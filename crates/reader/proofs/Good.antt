@@ -16,7 +16,7 @@ use Rattle.reader.specs.declared.parts.Part.{Part}
 use Rattle.reader.specs.declared.parts.Part.the-variants.{Head, Row, Initial, Input, Direction, Guard, End}
 use Rattle.reader.specs.declared.state.State.{State}
 use Rattle.reader.specs.Order.{partOf, mostOf}
-use Rattle.reader.specs.Models.{zeros, blankSet, blankModel, start, firstByte, defaultSteps, rowPlace, withHead, withRow, withPoint, withInitial, withInput, withDirection, withGuard}
+use Rattle.reader.specs.Models.{zeros, blankSet, blankModel, start, firstByte, defaultSteps, rowPlace, withHead, withRow, withPoint, withSetPoint, withDirection, withGuard}
 use Rattle.reader.specs.Values.{headOk, rowOk, pointOk, directionOk, guardOk, valueNumber}
 use Rattle.reader.specs.Refusals.{countOf, kindNumber, storedIn, stored}
 use Rattle.reader.proofs.Taking.{kindNumber-zero, lt-of-mostOf}
@@ -140,8 +140,8 @@ module _ (s : State) (kind : ℕ) (body : List ℕ) (g : Good s) where
         guards = g .guards;
       }
 
-  good-initial : pointMay 0x10 (s .last) kind ≡ true → leb 0x02 (s .last) ≡ true → ltb (s .last) 0x20 ≡ true → s .model .initial .count < mostOf kind → pointOk (s .model .n) kind (withPoint (s .model .n) (s .model .initial) kind body) ≡ true → Good (withInitial s kind body)
-  unfolding withInitial
+  good-initial : pointMay 0x10 (s .last) kind ≡ true → leb 0x02 (s .last) ≡ true → ltb (s .last) 0x20 ≡ true → s .model .initial .count < mostOf kind → pointOk (s .model .n) kind (withPoint (s .model .n) (s .model .initial) kind body) ≡ true → Good (withSetPoint false s kind body)
+  unfolding withSetPoint
   good-initial may late early few ok =
       let l = leb-true 0x02 (s .last) late in
       let h = ltb-true (s .last) 0x20 early in
@@ -157,8 +157,8 @@ module _ (s : State) (kind : ℕ) (body : List ℕ) (g : Good s) where
         guards = g .guards;
       }
 
-  good-input : pointMay 0x20 (s .last) kind ≡ true → isDone 0x10 (s .last) ≡ true → leb 0x02 (s .last) ≡ true → s .model .input .count < mostOf kind → pointOk (s .model .n) kind (withPoint (s .model .n) (s .model .input) kind body) ≡ true → Good (withInput s kind body)
-  unfolding withInput
+  good-input : pointMay 0x20 (s .last) kind ≡ true → isDone 0x10 (s .last) ≡ true → leb 0x02 (s .last) ≡ true → s .model .input .count < mostOf kind → pointOk (s .model .n) kind (withPoint (s .model .n) (s .model .input) kind body) ≡ true → Good (withSetPoint true s kind body)
+  unfolding withSetPoint
   good-input may done late few ok =
       let l = leb-true 0x02 (s .last) late in
       let p = set-point 0x20 (s .last) (s .model .n) (s .model .input) kind body (g .input) refl may few ok in

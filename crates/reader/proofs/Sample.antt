@@ -13,7 +13,7 @@ use Rattle.reachability.specs.declared.sets.Shape.the-variants.{Box}
 use Rattle.reachability.specs.declared.model.Model.{Model}
 use Rattle.reader.specs.declared.Status.the-variants.{Read}
 use Rattle.reader.specs.Order.{mayFollow, partOf}
-use Rattle.reader.specs.Models.{zeros, blankSet, blankModel, start, sixAt, putRow, withHead, withRow, withPoint, withInitial, withInput, withDirection, withGuard}
+use Rattle.reader.specs.Models.{zeros, blankSet, blankModel, start, sixAt, putRow, withHead, withRow, withPoint, withSetPoint, withDirection, withGuard}
 use Rattle.reader.specs.Values.{rowOk, pointOk, directionOk}
 use Rattle.reader.specs.Refusals.{kindNumber, refusal, stored}
 use Rattle.reader.specs.Reading.{ended, readRecord, readFor, readModel, refused}
@@ -59,7 +59,7 @@ unfolding sample
 sample-length = refl
 
 pub sample-read : readModel sample ≡ record { status = Read; model = sampleModel }
-unfolding allBelow sumℕ maxℕ bodyLength recordAt littleEndian mayFollow partOf zeros blankSet blankModel start sixAt putRow withHead withRow withPoint withInitial withInput withDirection withGuard rowOk pointOk directionOk kindNumber refusal stored ended readRecord readFor readModel sample sampleModel
+unfolding allBelow sumℕ maxℕ bodyLength recordAt littleEndian mayFollow partOf zeros blankSet blankModel start sixAt putRow withHead withRow withPoint withSetPoint withDirection withGuard rowOk pointOk directionOk kindNumber refusal stored ended readRecord readFor readModel sample sampleModel
 sample-read = refl
 
 -- "14. Empty file: number 1 at offset 0."

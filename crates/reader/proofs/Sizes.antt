@@ -18,7 +18,7 @@ use Rattle.reader.specs.declared.parts.Part.{Part}
 use Rattle.reader.specs.declared.parts.Part.the-variants.{Head, Row, Initial, Input, Direction, Guard, End}
 use Rattle.reader.specs.declared.state.State.{State}
 use Rattle.reader.specs.Order.{mayFollow, partOf}
-use Rattle.reader.specs.Models.{blankSet, blankModel, start, rowPlace, withHead, withRow, withPoint, withInitial, withInput, withDirection, withGuard}
+use Rattle.reader.specs.Models.{blankSet, blankModel, start, rowPlace, withHead, withRow, withPoint, withSetPoint, withDirection, withGuard}
 use Rattle.reader.specs.Refusals.{storedIn, stored}
 use Rattle.reader.proofs.OrderFacts.{isDone, pointMay, fact, order-fact}
 use Rattle.reader.proofs.PartsSoFar.{n-most}
@@ -75,13 +75,10 @@ module _ (s : State) (kind : ℕ) (body : List ℕ) (g : Good s) where
   used-row e n = omega (arith, started-row (s .rows + 1) (s .model .n), started-is (s .last) (omega arith))
 
   module _ (late : 0 < s .last) (new : 0 < kind) where
-    used-initial : length body ≡ 24 → used (withInitial s kind body) ≡ used s + (1 + length body)
-    unfolding used withInitial withPoint
-    used-initial n = omega (arith, started-is kind new, started-is (s .last) late)
-
-    used-input : length body ≡ 24 → used (withInput s kind body) ≡ used s + (1 + length body)
-    unfolding used withInput withPoint
-    used-input n = omega (arith, started-is kind new, started-is (s .last) late)
+    used-point : (input : Bool) → length body ≡ 24 → used (withSetPoint input s kind body) ≡ used s + (1 + length body)
+    unfolding used withSetPoint withPoint
+    used-point false n = omega (arith, started-is kind new, started-is (s .last) late)
+    used-point true n = omega (arith, started-is kind new, started-is (s .last) late)
 
     used-direction : length body ≡ 24 → used (withDirection s kind body) ≡ used s + (1 + length body)
     unfolding used withDirection
@@ -102,11 +99,11 @@ module _ (s : State) (kind : ℕ) (body : List ℕ) (g : Good s) where
   used-part Initial f ne n =
       let a = and-true (pointMay 0x10 (s .last) kind) (leb 0x02 (s .last) && ltb (s .last) 0x20) f in
       let l = leb-true 0x02 (s .last) (and-true (leb 0x02 (s .last)) (ltb (s .last) 0x20) (a .1) .0) in
-      used-initial (omega arith) (from-base 0x10 (omega arith) (a .0)) n
+      used-point (omega arith) (from-base 0x10 (omega arith) (a .0)) false n
   used-part Input f ne n =
       let a = and-true (pointMay 0x20 (s .last) kind) (isDone 0x10 (s .last) && leb 0x02 (s .last)) f in
       let l = leb-true 0x02 (s .last) (and-true (isDone 0x10 (s .last)) (leb 0x02 (s .last)) (a .1) .1) in
-      used-input (omega arith) (from-base 0x20 (omega arith) (a .0)) n
+      used-point (omega arith) (from-base 0x20 (omega arith) (a .0)) true n
   used-part Direction f ne n =
       let a = and-true (eqb kind 0x30) (isDone 0x20 (s .last) && leb 0x20 (s .last)) f in
       let l = leb-true 0x20 (s .last) (and-true (isDone 0x20 (s .last)) (leb 0x20 (s .last)) (a .1) .1) in

@@ -8,6 +8,7 @@ use borrow.Author.Tests.{leb-false}
 use lib.Dec.{eqb, leb}
 use Rattle.reader.specs.declared.parts.Part.{Part}
 use Rattle.reader.specs.declared.state.State.{State}
+use Rattle.reader.specs.declared.take.Taken.{Taken}
 use Rattle.reader.specs.Order.{mayFollow, partOf, mostOf}
 use Rattle.reader.specs.Values.{unless}
 use Rattle.reader.specs.Refusals.{countOf, oneTooMany, kindNumber}
@@ -18,8 +19,12 @@ takes-refused {ok} number e h =
     let is : unless ok number ≡ number = ap (λ (b : Bool). unless b number) e in
     record { number-is = sym is; state-is = λ z. absurd (omega (arith, sym is ∙ z)) }
 
-pub takes-passed : {ok : Bool} (number : ℕ) {next s : State} → ok ≡ true → s ≡ next → Takes (unless ok number) next (record { number = 0; state = s })
-takes-passed {ok} number e is = record { number-is = sym (ap (λ (b : Bool). unless b number) e); state-is = λ z. is }
+pub takes-passed : {ok : Bool} (number : ℕ) {next : State} {r : Taken} → ok ≡ true → r ≡ record { number = 0; state = next } → Takes (unless ok number) next r
+takes-passed {ok} number e is =
+    record {
+      number-is = ap (λ (t : Taken). t .number) is ∙ sym (ap (λ (b : Bool). unless b number) e);
+      state-is = λ z. ap (λ (t : Taken). t .state) is;
+    }
 
 -- ---- 3 and 9
 

@@ -1,6 +1,6 @@
 -- How far a file has been read, and what each record adds to the model. Definitions only. A record that a block has no room for
 -- changes nothing in it; none such is ever let in. Assumes nothing.
-use mathlib.Core.Bool.{cond}
+use mathlib.Core.Bool.{Bool, cond}
 use mathlib.Core.List.{List}
 use Prim.Native.Nat.{ℕ, _+_, _*_}
 use lib.Dec.{eqb, ltb}
@@ -61,95 +61,40 @@ defaultSteps k = cond (eqb k 0) 60 k
 
 -- ---- a model with one part changed
 
-abbrev pub setHead : Model → ℕ → ℕ → Model
-setHead m n steps =
+-- The model of these fields, in the order of the code.
+abbrev pub modelOf : ℕ → ℕ → List ℤ → Set → Set → ℕ → List ℤ → ℕ → List ℕ → List ℤ → Model
+modelOf n steps matrix initial input directions entries guards watched levels =
     record {
       n = n;
       steps = steps;
-      matrix = m .matrix;
-      initial = m .initial;
-      input = m .input;
-      directions = m .directions;
-      entries = m .entries;
-      guards = m .guards;
-      watched = m .watched;
-      levels = m .levels;
-    }
-
-abbrev pub setMatrix : Model → List ℤ → Model
-setMatrix m matrix =
-    record {
-      n = m .n;
-      steps = m .steps;
       matrix = matrix;
-      initial = m .initial;
-      input = m .input;
-      directions = m .directions;
-      entries = m .entries;
-      guards = m .guards;
-      watched = m .watched;
-      levels = m .levels;
-    }
-
-abbrev pub setInitial : Model → Set → Model
-setInitial m initial =
-    record {
-      n = m .n;
-      steps = m .steps;
-      matrix = m .matrix;
       initial = initial;
-      input = m .input;
-      directions = m .directions;
-      entries = m .entries;
-      guards = m .guards;
-      watched = m .watched;
-      levels = m .levels;
-    }
-
-abbrev pub setInput : Model → Set → Model
-setInput m input =
-    record {
-      n = m .n;
-      steps = m .steps;
-      matrix = m .matrix;
-      initial = m .initial;
       input = input;
-      directions = m .directions;
-      entries = m .entries;
-      guards = m .guards;
-      watched = m .watched;
-      levels = m .levels;
-    }
-
-abbrev pub setDirections : Model → ℕ → List ℤ → Model
-setDirections m directions entries =
-    record {
-      n = m .n;
-      steps = m .steps;
-      matrix = m .matrix;
-      initial = m .initial;
-      input = m .input;
       directions = directions;
       entries = entries;
-      guards = m .guards;
-      watched = m .watched;
-      levels = m .levels;
-    }
-
-abbrev pub setGuards : Model → ℕ → List ℕ → List ℤ → Model
-setGuards m guards watched levels =
-    record {
-      n = m .n;
-      steps = m .steps;
-      matrix = m .matrix;
-      initial = m .initial;
-      input = m .input;
-      directions = m .directions;
-      entries = m .entries;
       guards = guards;
       watched = watched;
       levels = levels;
     }
+
+abbrev pub setHead : Model → ℕ → ℕ → Model
+setHead m n steps = modelOf n steps (m .matrix) (m .initial) (m .input) (m .directions) (m .entries) (m .guards) (m .watched) (m .levels)
+
+abbrev pub setMatrix : Model → List ℤ → Model
+setMatrix m matrix = modelOf (m .n) (m .steps) matrix (m .initial) (m .input) (m .directions) (m .entries) (m .guards) (m .watched) (m .levels)
+
+-- The initial set or, with `input`, the input set.
+abbrev pub setOf : Bool → Model → Set
+setOf input m = cond input (m .input) (m .initial)
+
+abbrev pub setSet : Bool → Model → Set → Model
+setSet input m set = modelOf (m .n) (m .steps) (m .matrix) (cond input (m .initial) set) (cond input set (m .input)) (m .directions) (m .entries) (m .guards) (m .watched) (m .levels)
+
+abbrev pub setDirections : Model → ℕ → List ℤ → Model
+setDirections m directions entries = modelOf (m .n) (m .steps) (m .matrix) (m .initial) (m .input) directions entries (m .guards) (m .watched) (m .levels)
+
+abbrev pub setGuards : Model → ℕ → List ℕ → List ℤ → Model
+setGuards m guards watched levels = modelOf (m .n) (m .steps) (m .matrix) (m .initial) (m .input) (m .directions) (m .entries) guards watched levels
 
 -- ---- what each record adds
 
@@ -187,12 +132,10 @@ withPoint n set kind body =
       points = putRow (set .points) (set .count) (sixAt n body 0);
     }
 
-unfoldable pub withInitial : State → ℕ → List ℕ → State
-withInitial s kind body = stateOf kind (s .rows) (setInitial (s .model) (withPoint (s .model .n) (s .model .initial) kind body))
-
 -- "20 to 24 | the same five for the input set".
-unfoldable pub withInput : State → ℕ → List ℕ → State
-withInput s kind body = stateOf kind (s .rows) (setInput (s .model) (withPoint (s .model .n) (s .model .input) kind body))
+unfoldable pub withSetPoint : Bool → State → ℕ → List ℕ → State
+withSetPoint input s kind body =
+    stateOf kind (s .rows) (setSet input (s .model) (withPoint (s .model .n) (setOf input (s .model)) kind body))
 
 -- "30 | direction, six entries".
 unfoldable pub withDirection : State → ℕ → List ℕ → State

@@ -1,6 +1,6 @@
 -- Document 01, "Refusals by place": the number of a record, and what a record that is not refused adds. Definitions only.
 -- Assumes nothing.
-use mathlib.Core.Bool.{Bool, cond}
+use mathlib.Core.Bool.{Bool, true, false, cond}
 use mathlib.Core.List.{List}
 use Prim.Native.Nat.{ℕ}
 use lib.Dec.{eqb, leb}
@@ -9,7 +9,7 @@ use Rattle.reader.specs.declared.parts.Part.{Part}
 use Rattle.reader.specs.declared.parts.Part.the-variants.{Head, Row, Initial, Input, Direction, Guard, End}
 use Rattle.reader.specs.declared.state.State.{State}
 use Rattle.reader.specs.Order.{mayFollow, partOf, mostOf}
-use Rattle.reader.specs.Models.{withHead, withRow, withInitial, withInput, withDirection, withGuard}
+use Rattle.reader.specs.Models.{withHead, withRow, withSetPoint, withDirection, withGuard}
 use Rattle.reader.specs.Values.{valueNumber}
 
 -- How many a part has that "9" counts. A head, rows and the end are not counted, so there is never one too many.
@@ -46,8 +46,8 @@ refusal s (whole kind body) = firstOf (kindNumber s kind) (valueNumber (partOf k
 abbrev pub storedIn : Part → State → ℕ → List ℕ → State
 storedIn Head s kind body = withHead s body
 storedIn Row s kind body = withRow s body
-storedIn Initial s kind body = withInitial s kind body
-storedIn Input s kind body = withInput s kind body
+storedIn Initial s kind body = withSetPoint false s kind body
+storedIn Input s kind body = withSetPoint true s kind body
 storedIn Direction s kind body = withDirection s kind body
 storedIn Guard s kind body = withGuard s kind body
 storedIn End s kind body = s

@@ -1,5 +1,5 @@
 -- Document 01, "Refusals by place", numbers 4 to 8: what a body may hold. Definitions only. Assumes nothing.
-use mathlib.Core.Bool.{Bool, cond, not, _&&_, _||_}
+use mathlib.Core.Bool.{Bool, true, false, cond, not, _&&_, _||_}
 use mathlib.Core.List.{List}
 use Prim.Native.Nat.{ℕ}
 use lib.Dec.{eqb, leb, ltb}
@@ -15,7 +15,7 @@ use Rattle.reader.specs.declared.parts.Part.{Part}
 use Rattle.reader.specs.declared.parts.Part.the-variants.{Head, Row, Initial, Input, Direction, Guard, End}
 use Rattle.reader.specs.declared.state.State.{State}
 use Rattle.reader.specs.Order.{isUpper}
-use Rattle.reader.specs.Models.{firstByte, sixAt, withPoint}
+use Rattle.reader.specs.Models.{firstByte, sixAt, setOf, withPoint}
 
 -- "4 | n or steps outside 1 to 6, 0 to 256": neither.
 abbrev pub headValuesOk : ℕ → ℕ → Bool
@@ -49,12 +49,16 @@ guardOk s body = ltb (firstByte body) (s .model .directions)
 abbrev pub unless : Bool → ℕ → ℕ
 unless ok number = cond ok 0 number
 
+-- The number of a point more of the initial set or, with `input`, of the input set.
+abbrev pub pointNumber : Bool → State → ℕ → List ℕ → ℕ
+pointNumber input s kind body = unless (pointOk (s .model .n) kind (withPoint (s .model .n) (setOf input (s .model)) kind body)) 6
+
 -- The number of the value test of a record's part, 0 where the body passes. The end has no body.
 abbrev pub valueNumber : Part → State → ℕ → List ℕ → ℕ
 valueNumber Head s kind body = unless (headOk body) 4
 valueNumber Row s kind body = unless (rowOk s body) 5
-valueNumber Initial s kind body = unless (pointOk (s .model .n) kind (withPoint (s .model .n) (s .model .initial) kind body)) 6
-valueNumber Input s kind body = unless (pointOk (s .model .n) kind (withPoint (s .model .n) (s .model .input) kind body)) 6
+valueNumber Initial s kind body = pointNumber false s kind body
+valueNumber Input s kind body = pointNumber true s kind body
 valueNumber Direction s kind body = unless (directionOk (s .model .n) body) 7
 valueNumber Guard s kind body = unless (guardOk s body) 8
 valueNumber End s kind body = 0

@@ -1,10 +1,11 @@
 // The numbers of a body, and where they are stored.
 use crate::parts::shape_of;
+use reachability::model::Model;
 use reachability::sets::Set;
 ghost use mathlib.Core.Path.{_≡_};
 ghost use Prim.Native.Nat.{_+_, _*_, _≤_, _<_};
 ghost use lib.ListN.{length, getD};
-ghost use Rattle.reader.specs.Models.{firstByte, entryAt, sixAt, defaultSteps, putRow, withPoint};
+ghost use Rattle.reader.specs.Models.{firstByte, entryAt, sixAt, defaultSteps, putRow, setOf, setSet, withPoint};
 
 // The byte that a body starts with.
 pub(crate) fn first_byte(body: &[u8]) -> usize
@@ -100,4 +101,29 @@ pub(crate) fn with_point(n: usize, set: Set, kind: u8, body: &[u8]) -> Set
         count: count + 1,
         points,
     }
+}
+
+// The initial set or, with `input`, the input set.
+pub(crate) fn set_of(input: bool, model: Model) -> Set
+    ensures { λ r. ⌜ r ≡ setOf input model ⌝ }
+{
+    if input {
+        let set = model.input;
+        return set;
+    }
+    let set = model.initial;
+    set
+}
+
+// A model with another initial set or, with `input`, another input set.
+pub(crate) fn with_set(input: bool, model: Model, set: Set) -> Model
+    ensures { λ r. ⌜ r ≡ setSet input model set ⌝ }
+{
+    let mut next = model;
+    if input {
+        next.input = set;
+        return next;
+    }
+    next.initial = set;
+    next
 }

@@ -4,24 +4,35 @@ use crate::parts::part_of;
 use crate::state::State;
 use crate::store::default_steps;
 use crate::store::first_byte;
+use crate::store::set_of;
 use crate::store::six_at;
 use crate::store::with_matrix_row;
 use crate::store::with_point;
 use crate::store::with_row_of_six;
+use crate::store::with_set;
+use reachability::model::Model;
 use reachability::sets::Set;
 ghost use mathlib.Core.Path.{_≡_};
 ghost use mathlib.Core.Bool.{false};
 ghost use Prim.Native.Nat.{_<_};
 ghost use Rattle.reader.specs.Order.{partOf};
-ghost use Rattle.reader.specs.Models.{rowPlace, withHead, withRow, withInitial, withInput, withDirection, withGuard};
-ghost use Rattle.reader.specs.Values.{headValuesOk, headOk, rowOk, pointOk, directionOk, guardOk, unless, valueNumber};
+ghost use Rattle.reader.specs.Models.{rowPlace, withHead, withRow, setOf, withSetPoint, withDirection, withGuard};
+ghost use Rattle.reader.specs.Values.{headValuesOk, headOk, rowOk, pointOk, directionOk, guardOk, unless, pointNumber, valueNumber};
 ghost use Rattle.reader.specs.Refusals.{oneTooMany, stored};
-ghost use Rattle.reader.specs.Inner.{Takes};
+ghost use Rattle.reader.specs.Inner.{Takes, takenAs};
 
 // The number of the value test that the record fails, 0 where it passes, and then the state behind the record.
 pub struct Taken {
     pub number: u8,
     pub state: State,
+}
+
+// What passes its value test, with the state behind it.
+fn passed(last: u8, rows: usize, model: Model) -> Taken
+    ensures { λ r. ⌜ r ≡ takenAs last rows model ⌝ }
+{
+    let state = State { last, rows, model };
+    Taken { number: 0, state }
 }
 
 fn head_ok(n: usize, steps: usize) -> bool
@@ -47,15 +58,7 @@ fn take_head(state: State, body: &[u8]) -> Taken
     let mut model = state.model;
     model.n = n;
     model.steps = default_steps(said);
-    let next = State {
-        last: 0x01,
-        rows: 0,
-        model,
-    };
-    Taken {
-        number: 0,
-        state: next,
-    }
+    passed(0x01, 0, model)
 }
 
 // The place in the order after a row, so many being read.
@@ -82,15 +85,7 @@ fn take_row(state: State, body: &[u8]) -> Taken
     let matrix = model.matrix;
     let filled = with_matrix_row(matrix, row, &six);
     model.matrix = filled;
-    let next = State {
-        last: place_of(row + 1, n),
-        rows: row + 1,
-        model,
-    };
-    Taken {
-        number: 0,
-        state: next,
-    }
+    passed(place_of(row + 1, n), row + 1, model)
 }
 
 // The reach of the set so far is within its limit, and a box's corners, once both are read, are in order.
@@ -110,50 +105,20 @@ fn point_ok(n: usize, kind: u8, set: Set) -> bool
     reachability::sets::corners_ordered(n, &points)
 }
 
-fn take_initial(state: State, kind: u8, body: &[u8]) -> Taken
-    requires { ⌜ state .model .initial .count < 16 ⌝ }
-    ensures { λ r. ⌜ Takes (valueNumber Part.Initial state kind (now (body .entry))) (withInitial state kind (now (body .entry))) r ⌝ }
+// One point more of the initial set or, with `input`, of the input set.
+fn take_point(state: State, input: bool, kind: u8, body: &[u8]) -> Taken
+    requires { ⌜ setOf input (state .model) .count < 16 ⌝ }
+    ensures { λ r. ⌜ Takes (pointNumber input state kind (now (body .entry))) (withSetPoint input state kind (now (body .entry))) r ⌝ }
 {
-    let mut model = state.model;
+    let model = state.model;
     let n = model.n;
-    let before = model.initial;
+    let before = set_of(input, model);
     let set = with_point(n, before, kind, body);
     if !point_ok(n, kind, set) {
         return Taken { number: 6, state };
     }
-    model.initial = set;
-    let next = State {
-        last: kind,
-        rows: state.rows,
-        model,
-    };
-    Taken {
-        number: 0,
-        state: next,
-    }
-}
-
-fn take_input(state: State, kind: u8, body: &[u8]) -> Taken
-    requires { ⌜ state .model .input .count < 16 ⌝ }
-    ensures { λ r. ⌜ Takes (valueNumber Part.Input state kind (now (body .entry))) (withInput state kind (now (body .entry))) r ⌝ }
-{
-    let mut model = state.model;
-    let n = model.n;
-    let before = model.input;
-    let set = with_point(n, before, kind, body);
-    if !point_ok(n, kind, set) {
-        return Taken { number: 6, state };
-    }
-    model.input = set;
-    let next = State {
-        last: kind,
-        rows: state.rows,
-        model,
-    };
-    Taken {
-        number: 0,
-        state: next,
-    }
+    let next = with_set(input, model, set);
+    passed(kind, state.rows, next)
 }
 
 fn take_direction(state: State, kind: u8, body: &[u8]) -> Taken
@@ -173,15 +138,7 @@ fn take_direction(state: State, kind: u8, body: &[u8]) -> Taken
     let filled = with_row_of_six(entries, directions, &six);
     model.directions = directions + 1;
     model.entries = filled;
-    let next = State {
-        last: kind,
-        rows: state.rows,
-        model,
-    };
-    Taken {
-        number: 0,
-        state: next,
-    }
+    passed(kind, state.rows, model)
 }
 
 fn take_guard(state: State, kind: u8, body: &[u8]) -> Taken
@@ -201,15 +158,7 @@ fn take_guard(state: State, kind: u8, body: &[u8]) -> Taken
     model.guards = guards + 1;
     model.watched = watched;
     model.levels = levels;
-    let next = State {
-        last: kind,
-        rows: state.rows,
-        model,
-    };
-    Taken {
-        number: 0,
-        state: next,
-    }
+    passed(kind, state.rows, model)
 }
 
 // The record's value test and the state behind it. The kind has passed 3 and 9.
@@ -221,8 +170,8 @@ pub(crate) fn take(state: State, kind: u8, body: &[u8]) -> Taken
     match part {
         Part::Head => take_head(state, body),
         Part::Row => take_row(state, body),
-        Part::Initial => take_initial(state, kind, body),
-        Part::Input => take_input(state, kind, body),
+        Part::Initial => take_point(state, false, kind, body),
+        Part::Input => take_point(state, true, kind, body),
         Part::Direction => take_direction(state, kind, body),
         Part::Guard => take_guard(state, kind, body),
         Part::End => Taken { number: 0, state },

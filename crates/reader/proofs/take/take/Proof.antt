@@ -35,50 +35,50 @@ take-row-requires c κs = search needs
 enum-told-3 : tie.Need-enum-told-3
 enum-told-3 c = search needs
 
-take-initial-requires : tie.Need-take-initial-requires
-take-initial-requires c κs = count-lt (c .before .before .before .before .args .state) (c .before .before .before .before .args .kind) (c .before .before .before .before .pre) (sym (c .before .before .part-of .ensures) ∙ c .enum-told3 .given .1)
+take-point-requires : tie.Need-take-point-requires
+take-point-requires c κs = count-lt _ _ (c .before .before .before .before .pre) (sym (c .before .before .part-of .ensures) ∙ c .enum-told3 .given .1)
 
 enum-told-4 : tie.Need-enum-told-4
 enum-told-4 c = search needs
 
-take-input-requires : tie.Need-take-input-requires
-take-input-requires c κs = count-lt (c .before .before .before .before .args .state) (c .before .before .before .before .args .kind) (c .before .before .before .before .pre) (sym (c .before .before .part-of .ensures) ∙ c .enum-told4 .given .1)
+take-point-requires-2 : tie.Need-take-point-requires-2
+take-point-requires-2 c κs = count-lt _ _ (c .before .before .before .before .pre) (sym (c .before .before .part-of .ensures) ∙ c .enum-told4 .given .1)
 
 enum-told-5 : tie.Need-enum-told-5
 enum-told-5 c = search needs
 
 take-direction-requires : tie.Need-take-direction-requires
-take-direction-requires c κs = count-lt (c .before .before .before .before .args .state) (c .before .before .before .before .args .kind) (c .before .before .before .before .pre) (sym (c .before .before .part-of .ensures) ∙ c .enum-told5 .given .1)
+take-direction-requires c κs = count-lt _ _ (c .before .before .before .before .pre) (sym (c .before .before .part-of .ensures) ∙ c .enum-told5 .given .1)
 
 enum-told-6 : tie.Need-enum-told-6
 enum-told-6 c = search needs
 
 take-guard-requires : tie.Need-take-guard-requires
-take-guard-requires c κs = count-lt (c .before .before .before .before .args .state) (c .before .before .before .before .args .kind) (c .before .before .before .before .pre) (sym (c .before .before .part-of .ensures) ∙ c .enum-told6 .given .1)
+take-guard-requires c κs = count-lt _ _ (c .before .before .before .before .pre) (sym (c .before .before .part-of .ensures) ∙ c .enum-told6 .given .1)
 
 enum-told-7 : tie.Need-enum-told-7
 enum-told-7 c = search needs
 
 returns : tie.Need-returns
-returns c = by-part (c .before .before .before .before .before .args .state) (c .before .before .before .before .before .args .kind) (c .before .before .before .before .before .args .body .now) Head (c .take-head .ensures) (sym (c .before .before .before .part-of .ensures) ∙ c .before .enum-told .given .1)
+returns c = by-part _ _ _ Head (c .take-head .ensures) (sym (c .before .before .before .part-of .ensures) ∙ c .before .enum-told .given .1)
 
 returns-2 : tie.Need-returns-2
-returns-2 c = by-part (c .before .before .before .before .before .args .state) (c .before .before .before .before .before .args .kind) (c .before .before .before .before .before .args .body .now) Row (c .take-row .ensures) (sym (c .before .before .before .part-of .ensures) ∙ c .before .enum-told2 .given .1)
+returns-2 c = by-part _ _ _ Row (c .take-row .ensures) (sym (c .before .before .before .part-of .ensures) ∙ c .before .enum-told2 .given .1)
 
 returns-3 : tie.Need-returns-3
-returns-3 c = by-part (c .before .before .before .before .before .args .state) (c .before .before .before .before .before .args .kind) (c .before .before .before .before .before .args .body .now) Initial (c .take-initial .ensures) (sym (c .before .before .before .part-of .ensures) ∙ c .before .enum-told3 .given .1)
+returns-3 c = by-part _ _ _ Initial (c .take-point .ensures) (sym (c .before .before .before .part-of .ensures) ∙ c .before .enum-told3 .given .1)
 
 returns-4 : tie.Need-returns-4
-returns-4 c = by-part (c .before .before .before .before .before .args .state) (c .before .before .before .before .before .args .kind) (c .before .before .before .before .before .args .body .now) Input (c .take-input .ensures) (sym (c .before .before .before .part-of .ensures) ∙ c .before .enum-told4 .given .1)
+returns-4 c = by-part _ _ _ Input (c .take-point2 .ensures) (sym (c .before .before .before .part-of .ensures) ∙ c .before .enum-told4 .given .1)
 
 returns-5 : tie.Need-returns-5
-returns-5 c = by-part (c .before .before .before .before .before .args .state) (c .before .before .before .before .before .args .kind) (c .before .before .before .before .before .args .body .now) Direction (c .take-direction .ensures) (sym (c .before .before .before .part-of .ensures) ∙ c .before .enum-told5 .given .1)
+returns-5 c = by-part _ _ _ Direction (c .take-direction .ensures) (sym (c .before .before .before .part-of .ensures) ∙ c .before .enum-told5 .given .1)
 
 returns-6 : tie.Need-returns-6
-returns-6 c = by-part (c .before .before .before .before .before .args .state) (c .before .before .before .before .before .args .kind) (c .before .before .before .before .before .args .body .now) Guard (c .take-guard .ensures) (sym (c .before .before .before .part-of .ensures) ∙ c .before .enum-told6 .given .1)
+returns-6 c = by-part _ _ _ Guard (c .take-guard .ensures) (sym (c .before .before .before .part-of .ensures) ∙ c .before .enum-told6 .given .1)
 
 returns-7 : tie.Need-returns-7
-returns-7 c = by-part (c .before .before .before .before .args .state) (c .before .before .before .before .args .kind) (c .before .before .before .before .args .body .now) End (record { number-is = refl; state-is = λ z. refl }) (sym (c .before .before .part-of .ensures) ∙ c .enum-told7 .given .1)
+returns-7 c = by-part _ _ _ End (record { number-is = refl; state-is = λ z. refl }) (sym (c .before .before .part-of .ensures) ∙ c .enum-told7 .given .1)
 
 pub take-spec : {M : Type 1} → statement M
 take-spec =
@@ -90,9 +90,9 @@ take-spec =
     enum-told-2
     take-row-requires
     enum-told-3
-    take-initial-requires
+    take-point-requires
     enum-told-4
-    take-input-requires
+    take-point-requires-2
     enum-told-5
     take-direction-requires
     enum-told-6

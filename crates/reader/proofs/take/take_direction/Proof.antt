@@ -7,8 +7,9 @@ use Rattle.integers.specs.Sums.{allBelow}
 use Rattle.arrays.specs.Tests.{zeroOutside}
 use Rattle.arrays.proofs.Laws.{and-skip, and-stop}
 use Rattle.reachability.specs.Limits.{allZero}
-use Rattle.reader.specs.Models.{stateOf, setDirections, sixAt, putRow, withDirection}
+use Rattle.reader.specs.Models.{setDirections, sixAt, putRow, withDirection}
 use Rattle.reader.specs.Values.{within, directionOk}
+use Rattle.reader.specs.Inner.{takenAs}
 use Rattle.reader.proofs.Taking.{takes-refused, takes-passed}
 use Rattle.reader.proofs.take.take_direction.Statement.{statement}
 use Rattle.reader.proofs.take.take_direction.Tie as tie
@@ -55,17 +56,21 @@ with-row-of-six-requires c κs = search needs
 add-model : tie.Need-add-model
 add-model c = search needs
 
+passed-requires : tie.Need-passed-requires
+passed-requires c κs = search needs
+
 returns-3 : tie.Need-returns-3
 unfolding directionOk withDirection
 returns-3 c =
-    let a = c .before .before .before .before .before .before .before .before .before .before .before .before .args in
+    let a = c .before .before .before .before .before .before .before .before .before .before .before .before .before .args in
     let m = a .state .model in
-    let six = c .before .before .before .before .before .before .before .before .before .six-at .ensures in
-    let small = ap (within 1000) (sym six) ∙ sym (c .before .before .before .before .before .before .before .all-between .ensures) ∙ not-false _ (c .before .before .before .before .before .before .if1 .left) in
-    let some = sym (zeros-is _ _) ∙ ap (zeroOutside 0 0) (sym six) ∙ sym (c .before .before .before .before .zero-outside .ensures) ∙ c .before .before .before .if2 .left in
+    let six = c .before .before .before .before .before .before .before .before .before .before .six-at .ensures in
+    let small = ap (within 1000) (sym six) ∙ sym (c .before .before .before .before .before .before .before .before .all-between .ensures) ∙ not-false _ (c .before .before .before .before .before .before .before .if1 .left) in
+    let some = sym (zeros-is _ _) ∙ ap (zeroOutside 0 0) (sym six) ∙ sym (c .before .before .before .before .before .zero-outside .ensures) ∙ c .before .before .before .before .if2 .left in
     takes-passed 7 (and-skip _ small ∙ ap not some)
-    (ap (λ (xs : List ℤ). stateOf (a .kind) (a .state .rows) (setDirections m (m .directions + 1) xs))
-    (c .with-row-of-six .ensures ∙ ap (λ (l : List ℤ). putRow (m .entries) (m .directions) l) six))
+    (c .passed .ensures
+    ∙ ap (λ (xs : List ℤ). takenAs (a .kind) (a .state .rows) (setDirections m (m .directions + 1) xs))
+    (c .before .with-row-of-six .ensures ∙ ap (λ (l : List ℤ). putRow (m .entries) (m .directions) l) six))
 
 pub take-direction-spec : {M : Type 1} → statement M
 take-direction-spec =
@@ -80,4 +85,5 @@ take-direction-spec =
     returns-2
     with-row-of-six-requires
     add-model
+    passed-requires
     returns-3)

@@ -3,8 +3,9 @@ use Rattle.integers.proofs.Basics.{ℕ, _+_, ℤ, ap₂, sym, ap, _∙_, arith,
 use borrow.Author.Tests.{not-true, not-false, eq-eqb, ne-eqb}
 use mathlib.Core.List.{List}
 use Rattle.arrays.proofs.Laws.{and-skip, and-stop}
-use Rattle.reader.specs.Models.{firstByte, stateOf, setMatrix, sixAt, rowPlace, putRow, withRow}
+use Rattle.reader.specs.Models.{firstByte, setMatrix, sixAt, rowPlace, putRow, withRow}
 use Rattle.reader.specs.Values.{within, rowOk}
+use Rattle.reader.specs.Inner.{takenAs}
 use Rattle.reader.proofs.Taking.{takes-refused, takes-passed}
 use Rattle.reader.proofs.take.take_row.Statement.{statement}
 use Rattle.reader.proofs.take.take_row.Tie as tie
@@ -45,22 +46,26 @@ add-place-of c = omega (arith, c .before .before .before .before .before .before
 place-of-requires : tie.Need-place-of-requires
 place-of-requires c κs = search needs
 
-add-t19 : tie.Need-add-t19
-add-t19 c = omega (arith, c .before .before .before .before .before .before .before .before .before .before .first-byte .ensures, c .before .before .before .before .before .before .before .before .before .before .before .shared-slice-known .given 0)
+add-passed : tie.Need-add-passed
+add-passed c = omega (arith, c .before .before .before .before .before .before .before .before .before .before .first-byte .ensures, c .before .before .before .before .before .before .before .before .before .before .before .shared-slice-known .given 0)
+
+passed-requires : tie.Need-passed-requires
+passed-requires c κs = search needs
 
 returns-3 : tie.Need-returns-3
 unfolding rowOk withRow
 returns-3 c =
-    let a = c .before .before .before .before .before .before .before .before .before .before .before .before .args in
+    let a = c .before .before .before .before .before .before .before .before .before .before .before .before .before .args in
     let m = a .state .model in
-    let at-if = c .before .before .before .before .before .before .before .before .before in
+    let at-if = c .before .before .before .before .before .before .before .before .before .before in
     let next = eq-eqb _ _ (sym (at-if .before .first-byte .ensures) ∙ at-if .if1 .left) in
-    let six = c .before .before .before .before .before .before .before .six-at .ensures in
-    let small = ap (within 131072) (sym six) ∙ sym (c .before .before .before .before .before .all-between .ensures) ∙ not-false _ (c .before .before .before .before .if2 .left) in
+    let six = c .before .before .before .before .before .before .before .before .six-at .ensures in
+    let small = ap (within 131072) (sym six) ∙ sym (c .before .before .before .before .before .before .all-between .ensures) ∙ not-false _ (c .before .before .before .before .before .if2 .left) in
     takes-passed 5 (and-skip _ next ∙ small)
-    (ap₂ (λ (l : ℕ) (xs : List ℤ). stateOf l (at-if .before .first-byte .result + 1) (setMatrix m xs)) (c .place-of .ensures)
-    (c .before .with-matrix-row .ensures ∙ ap (λ (l : List ℤ). putRow (m .matrix) (at-if .before .first-byte .result) l) six)
-    ∙ ap (λ (k : ℕ). stateOf (rowPlace (k + 1) (m .n)) (k + 1) (setMatrix m (putRow (m .matrix) k (sixAt (m .n) (a .body .now) 1)))) (at-if .if1 .left))
+    (c .passed .ensures
+    ∙ ap₂ (λ (l : ℕ) (xs : List ℤ). takenAs l (at-if .before .first-byte .result + 1) (setMatrix m xs)) (c .before .place-of .ensures)
+    (c .before .before .with-matrix-row .ensures ∙ ap (λ (l : List ℤ). putRow (m .matrix) (at-if .before .first-byte .result) l) six)
+    ∙ ap (λ (k : ℕ). takenAs (rowPlace (k + 1) (m .n)) (k + 1) (setMatrix m (putRow (m .matrix) k (sixAt (m .n) (a .body .now) 1)))) (at-if .if1 .left))
 
 pub take-row-spec : {M : Type 1} → statement M
 take-row-spec =
@@ -75,5 +80,6 @@ take-row-spec =
     with-matrix-row-requires
     add-place-of
     place-of-requires
-    add-t19
+    add-passed
+    passed-requires
     returns-3)
