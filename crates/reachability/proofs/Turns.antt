@@ -24,7 +24,7 @@ use Rattle.stepping.specs.Recurrence.{firstR, firstE, nextR, nextE, errorSum, g
 use Rattle.stepping.specs.Refusals.{dimensionOk, matrixOk, zeroBeyond, nonNegative, workingOk, growthAnswer, stepOk, steppedR, steppedE, Steps}
 use Rattle.stepping.specs.declared.Stepped.{Stepped}
 use Rattle.stepping.specs.declared.Stepped.the-variants.{Sum, Refused}
-use Rattle.stepping.proofs.Beyond.{nextR-beyond, nextE-beyond}
+use Rattle.stepping.proofs.Beyond.{nextR-beyond, nextE-beyond, steps-six}
 use Rattle.reachability.specs.Sets.{points, supportOf, reachOf, reachLimit}
 use Rattle.reachability.specs.Limits.{accepted, stepsOk, directionsOk, someNonzero}
 use Rattle.reachability.specs.Runs.{moves, direction}
@@ -391,8 +391,9 @@ module _ (m : Model) (facts : ModelFacts m) (d : ℕ) (d-inside : d < m .directi
           ∙ sum-stored (m .n) n≤6 (at (suc k)) r′ e′ (stored-next st)
           ∙ ap (sumAt m d) (sym (native.Mathlib.Numerals.add-one k))
 
-      pub turn : 257 ≡ length b₀ → 257 ≡ length s₀ → {a : Stepped} {r′ e′ : List ℤ} → Steps (m .n) (m .matrix) r e a r′ e′ → So m d b₀ s₀ r′ e′ (lib.ListN.set b k bv) (lib.ListN.set s k sv) (sumOf a) (max most sm) inputs′ errors′ (k + 1)
-      turn long-b long-s {a} {r′} {e′} st =
+      pub turn : 257 ≡ length b₀ → 257 ≡ length s₀ → {a : Stepped} {r′ e′ : List ℤ} → Steps 6 (m .matrix) r e a r′ e′ → So m d b₀ s₀ r′ e′ (lib.ListN.set b k bv) (lib.ListN.set s k sv) (sumOf a) (max most sm) inputs′ errors′ (k + 1)
+      turn long-b long-s {a} {r′} {e′} six =
+          let st = steps-six (m .n) (m .matrix) r e step-passes six in
           record {
             within = omega (arith, k-inside);
             stored = subst (λ (j : ℕ). Stored (m .n) (at j) r′ e′) (sym (native.Mathlib.Numerals.add-one k)) (stored-next st);

@@ -1,23 +1,28 @@
 -- What lies beyond n is zero, so the loops, which run to six, give what the definitions, which run to n, say.
--- In order: from the tests of number 11 to the zeros; the growth sum; one step. Assumes nothing.
+-- In order: from the tests of number 11 to the zeros; the growth sum; one step; a step that is taken with six for n. Assumes
+-- nothing.
 use mathlib.Core.Path.{_≡_, refl, sym, ap, ap₂, subst, _∙_}
-use mathlib.Core.Bool.{Bool, true, false, _||_}
+use mathlib.Core.Bool.{Bool, true, false, cond, _&&_, _||_}
 use mathlib.Core.List.{List}
-use Prim.Native.Nat.{ℕ, _+_, _*_, _-_, _≤_, _<_}
+use Prim.Native.Nat.{ℕ, _+_, _*_, _-_, _/_, _%_, _≤_, _<_}
 use native.Mathlib.Omega.{arith}
-use borrow.Author.Tests.{le-ltb, eqb-true}
-use lib.Dec.{ltb, eqb}
+use native.Mathlib.Nat.{lt-of-lt-of-le}
+use borrow.Author.Tests.{lt-ltb, le-ltb, le-leb, leb-true, eqb-true}
+use lib.Dec.{leb, ltb, eqb}
 use lib.Signed.{nonNeg}
-use lib.IntN.{ℤ, pos, natAbs, _*ℤ_, zero-*ℤ}
+use lib.ListN.{length}
+use lib.IntN.{ℤ, pos, negsuc, natAbs, _*ℤ_, zero-*ℤ}
 use Rattle.integers.specs.Whole.{floorDiv, ceilDivℕ, fraction}
 use Rattle.integers.specs.Sums.{vector, magnitudes, matrix, sum, sumℕ, maxℕ, transposed, tabulate}
 use Rattle.integers.proofs.Sums.{allBelow-at, allBelow-intro, sum-cong, sum-none, sum-beyond, sumℕ-cong, sumℕ-none, sumℕ-beyond, maxℕ-beyond}
-use Rattle.arrays.specs.Tests.{zeroOutside}
-use Rattle.arrays.proofs.Laws.{zeroOutside-row, zeroOutside-column}
+use Rattle.arrays.specs.Tests.{allBetween, zeroUnless, zeroOutside}
+use Rattle.arrays.proofs.Laws.{and-true, and-false, or-true, zeroOutside-row, zeroOutside-column}
 use Rattle.integers.proofs.Machine.{tabulate-cong, getD-tabulate}
 use Rattle.stepping.specs.Limits.{matrixUnit}
 use Rattle.stepping.specs.Recurrence.{nextR, nextE, errorSum, growthSum}
-use Rattle.stepping.specs.Refusals.{zeroBeyond, nonNegative, steppedR, steppedE}
+use Rattle.stepping.specs.Refusals.{dimensionOk, zeroBeyond, nonNegative, matrixOk, workingOk, stepOk, steppedR, steppedE, Steps}
+use Rattle.stepping.specs.declared.Stepped.{Stepped}
+use Rattle.stepping.specs.declared.Stepped.the-variants.{Sum, Refused}
 
 or-false : (a b : Bool) → a || b ≡ true → a ≡ false → b ≡ true
 or-false a b t f = sym (ap (λ (x : Bool). x || b) f) ∙ t
@@ -78,3 +83,70 @@ module _ (n : ℕ) (n≤6 : n ≤ 6) where
 
 pub nonNegative-stepped : (n : ℕ) (m r e : List ℤ) → nonNegative (steppedE n m r e) ≡ true
 nonNegative-stepped n m r e = allBelow-intro 6 (λ i. nonNeg (vector (steppedE n m r e) i)) (λ i h. ap nonNeg (getD-tabulate 6 (λ j. pos (nextE n (matrix m) (vector r) (magnitudes e) j)) i (pos 0) h))
+
+-- ---- a step of n coordinates may be taken with six
+
+zeroBeyond-six : (xs : List ℤ) → zeroBeyond 6 xs ≡ true
+zeroBeyond-six xs = allBelow-intro 6 (λ i. ltb i 6 || eqb (magnitudes xs i) 0) (λ i h. ap (λ (t : Bool). t || eqb (magnitudes xs i) 0) (lt-ltb i 6 h))
+
+zeroOutside-six : (n : ℕ) → n ≤ 6 → (m : List ℤ) → zeroOutside n n m ≡ true → zeroOutside 6 6 m ≡ true
+zeroOutside-six n n≤6 m t =
+    allBelow-intro (length m) (λ k. zeroUnless 6 6 k (vector m k)) (λ k h. either k (allBelow-at (length m) (λ j. zeroUnless n n j (vector m j)) t k h) (native.Mathlib.Decide.decLt (k / 6) n) (native.Mathlib.Decide.decLt (k % 6) n))
+  where
+    zero-there : (k : ℕ) (a : Bool) → a || eqb (natAbs (vector m k)) 0 ≡ true → a ≡ false → zeroUnless 6 6 k (vector m k) ≡ true
+    zero-there k a p f = ap (λ (b : Bool). (ltb (k / 6) 6 && ltb (k % 6) 6) || b) (or-false a (eqb (natAbs (vector m k)) 0) p f) ∙ or-true (ltb (k / 6) 6 && ltb (k % 6) 6)
+
+    either : (k : ℕ) → zeroUnless n n k (vector m k) ≡ true → Dec (k / 6 < n) → Dec (k % 6 < n) → zeroUnless 6 6 k (vector m k) ≡ true
+    either k p (yes a) (yes b) = ap₂ (λ (x y : Bool). (x && y) || eqb (natAbs (vector m k)) 0) (lt-ltb (k / 6) 6 (lt-of-lt-of-le a n≤6)) (lt-ltb (k % 6) 6 (lt-of-lt-of-le b n≤6))
+    either k p (no a) b = zero-there k (ltb (k / 6) n && ltb (k % 6) n) p (ap (λ (x : Bool). x && ltb (k % 6) n) (le-ltb (k / 6) n (omega (arith, a))))
+    either k p (yes a) (no b) = zero-there k (ltb (k / 6) n && ltb (k % 6) n) p (ap (λ (x : Bool). ltb (k / 6) n && x) (le-ltb (k % 6) n (omega (arith, b))) ∙ and-false (ltb (k / 6) n))
+
+-- Where a step of n coordinates is not refused, a step that is told six coordinates does the same.
+pub steps-six : (n : ℕ) (m r e : List ℤ) → stepOk n m r e ≡ true → {a : Stepped} {r′ e′ : List ℤ} → Steps 6 m r e a r′ e′ → Steps n m r e a r′ e′
+steps-six n m r e ok {a} {r′} {e′} st =
+    record {
+      answer = six-answer ∙ sym (ap (λ (t : Bool). cond t (Sum (growthSum n (vector r′) (magnitudes e′))) Refused) ok);
+      direction = in-r ∙ sym (ap (λ (t : Bool). cond t (steppedR n m r) r) ok);
+      errors = in-e ∙ sym (ap (λ (t : Bool). cond t (steppedE n m r e) e) ok);
+    }
+  where
+    whole : (workingOk n r e ≡ true) × (leb (growthSum n (vector r) (magnitudes e)) 1073741824 && matrixOk n m ≡ true)
+    whole = and-true (workingOk n r e) (leb (growthSum n (vector r) (magnitudes e)) 1073741824 && matrixOk n m) ok
+
+    rest : (leb (growthSum n (vector r) (magnitudes e)) 1073741824 ≡ true) × (matrixOk n m ≡ true)
+    rest = and-true (leb (growthSum n (vector r) (magnitudes e)) 1073741824) (matrixOk n m) (whole .1)
+
+    working : (dimensionOk n ≡ true) × (zeroBeyond n r && (zeroBeyond n e && nonNegative e) ≡ true)
+    working = and-true (dimensionOk n) (zeroBeyond n r && (zeroBeyond n e && nonNegative e)) (whole .0)
+
+    n≤6 : n ≤ 6
+    n≤6 = leb-true n 6 (and-true (leb 1 n) (leb n 6) (working .0) .1)
+
+    zeros : (zeroBeyond n r ≡ true) × (zeroBeyond n e && nonNegative e ≡ true)
+    zeros = and-true (zeroBeyond n r) (zeroBeyond n e && nonNegative e) (working .1)
+
+    last : (zeroBeyond n e ≡ true) × (nonNegative e ≡ true)
+    last = and-true (zeroBeyond n e) (nonNegative e) (zeros .1)
+
+    entries : (allBetween (negsuc 131071) (pos 131072) m ≡ true) × (zeroOutside n n m ≡ true)
+    entries = and-true (allBetween (negsuc 131071) (pos 131072) m) (zeroOutside n n m) (rest .1)
+
+    small : growthSum 6 (vector r) (magnitudes e) ≤ 1073741824
+    small = subst (λ (s : ℕ). s ≤ 1073741824) (sym (growthSum-six n n≤6 (vector r) (magnitudes e) (zeroBeyond-at n r (zeros .0)) (zeroBeyond-at n e (last .0)))) (leb-true _ 1073741824 (rest .0))
+
+    six-ok : stepOk 6 m r e ≡ true
+    six-ok = ap₂ _&&_ (ap₂ _&&_ (zeroBeyond-six r) (ap₂ _&&_ (zeroBeyond-six e) (last .1))) (ap₂ _&&_ (le-leb _ 1073741824 small) (ap₂ _&&_ (entries .0) (zeroOutside-six n n≤6 m (entries .1))))
+
+    in-r : r′ ≡ steppedR n m r
+    in-r = st .direction ∙ ap (λ (t : Bool). cond t (steppedR 6 m r) r) six-ok ∙ steppedR-six n n≤6 m (entries .1) r
+
+    in-e : e′ ≡ steppedE n m r e
+    in-e = st .errors ∙ ap (λ (t : Bool). cond t (steppedE 6 m r e) e) six-ok ∙ steppedE-six n n≤6 m (entries .1) r e
+
+    six-answer : a ≡ Sum (growthSum n (vector r′) (magnitudes e′))
+    six-answer =
+        st .answer
+        ∙ ap (λ (t : Bool). cond t (Sum (growthSum 6 (vector r′) (magnitudes e′))) Refused) six-ok
+        ∙ ap₂ (λ (x y : List ℤ). Sum (growthSum 6 (vector x) (magnitudes y))) in-r in-e
+        ∙ ap Sum (growthSum-stepped n n≤6 m (entries .1) r e)
+        ∙ sym (ap₂ (λ (x y : List ℤ). Sum (growthSum n (vector x) (magnitudes y))) in-r in-e)

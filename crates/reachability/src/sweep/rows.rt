@@ -158,7 +158,8 @@ fn line_of(
 }
 
 // Both rows for steps 0 to K, and the largest growth sum, or the first step with growth. The arrays are those of the model, r
-// and e the first working direction.
+// and e the first working direction. Each step is told six coordinates: it does the same, since what lies beyond n is zero, and
+// has no zeros to test.
 fn fill_rows(
     model: Model,
     direction: usize,
@@ -211,7 +212,7 @@ fn fill_rows(
         inputs = line.inputs;
         errors = line.errors;
         most = arrays::larger(most, sum);
-        sum = sum_of(stepping::step(n, matrix, r, e));
+        sum = sum_of(stepping::step(6, matrix, r, e));
         k += 1;
     }
     Filled::Largest(most)

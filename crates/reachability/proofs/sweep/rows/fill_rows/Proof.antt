@@ -130,7 +130,7 @@ loop-again c =
     let start = at-loop .before .before .before .before .before in
     let l = at-loop .loop in
     let line = at-line .line-of in
-    let next = prepared-own (m start) (d start) (start .pre .1) (λ n mat sI cI pI wI sU cU pU wU. LineGives sI cI pI wI sU cU pU wU (l .r) (l .e) (toZ w64 (l .inputs)) (l .errors) (line .result .bound) (line .result .slack) (line .result .inputs) (line .result .errors) → Steps n mat (l .r) (l .e) (stepped .result) (stepped .last .1 .1 .0) (stepped .last .1 .1 .1 .0) → So (m start) (d start) (start .args .bounds .now) (start .args .slacks .now) (stepped .last .1 .1 .0) (stepped .last .1 .1 .1 .0) (set (l .bounds) (l .k) (line .result .bound)) (set (l .slacks) (l .k) (line .result .slack)) (sumOf (stepped .result)) (max (l .most) (l .sum)) (line .result .inputs) (line .result .errors) (l .k + 1)) (λ gives st. turn (m start) (facts start) (d start) (d-inside start) (l .inv) (small .before .if1 .taken) (small .if2 .left) gives (start .pre .0 .bounds-long) (start .pre .0 .slacks-long) st) (line .ensures) (stepped .ensures) in
+    let next = prepared-own (m start) (d start) (start .pre .1) (λ n mat sI cI pI wI sU cU pU wU. LineGives sI cI pI wI sU cU pU wU (l .r) (l .e) (toZ w64 (l .inputs)) (l .errors) (line .result .bound) (line .result .slack) (line .result .inputs) (line .result .errors) → Steps 6 mat (l .r) (l .e) (stepped .result) (stepped .last .1 .1 .0) (stepped .last .1 .1 .1 .0) → So (m start) (d start) (start .args .bounds .now) (start .args .slacks .now) (stepped .last .1 .1 .0) (stepped .last .1 .1 .1 .0) (set (l .bounds) (l .k) (line .result .bound)) (set (l .slacks) (l .k) (line .result .slack)) (sumOf (stepped .result)) (max (l .most) (l .sum)) (line .result .inputs) (line .result .errors) (l .k + 1)) (λ gives st. turn (m start) (facts start) (d start) (d-inside start) (l .inv) (small .before .if1 .taken) (small .if2 .left) gives (start .pre .0 .bounds-long) (start .pre .0 .slacks-long) st) (line .ensures) (stepped .ensures) in
     adjusted next (ap (λ (z : ℤ). set (l .bounds) (l .k) z) (read-bound at-told)) (ap (λ (z : ℤ). set (l .slacks) (l .k) z) (read-slack at-told)) (c .sum-of2 .ensures) (c .before .before .before .before .larger .ensures) (read-inputs at-told)
 
 returns-2 : tie.Need-returns-2 Inv-loop μ-loop
