@@ -23,6 +23,7 @@ use Rattle.stepping.specs.Recurrence.{nextR, nextE, errorSum, growthSum}
 use Rattle.stepping.specs.Refusals.{dimensionOk, zeroBeyond, nonNegative, matrixOk, workingOk, stepOk, steppedR, steppedE, Steps}
 use Rattle.stepping.specs.declared.Stepped.{Stepped}
 use Rattle.stepping.specs.declared.Stepped.the-variants.{Sum, Refused}
+use Rattle.stepping.proofs.Numbers.{stepped-number}
 
 or-false : (a b : Bool) → a || b ≡ true → a ≡ false → b ≡ true
 or-false a b t f = sym (ap (λ (x : Bool). x || b) f) ∙ t
@@ -104,8 +105,10 @@ zeroOutside-six n n≤6 m t =
 -- Where a step of n coordinates is not refused, a step that is told six coordinates does the same.
 pub steps-six : (n : ℕ) (m r e : List ℤ) → stepOk n m r e ≡ true → {a : Stepped} {r′ e′ : List ℤ} → Steps 6 m r e a r′ e′ → Steps n m r e a r′ e′
 steps-six n m r e ok {a} {r′} {e′} st =
+    let answer = six-answer ∙ sym (ap (λ (t : Bool). cond t (Sum (growthSum n (vector r′) (magnitudes e′))) Refused) ok) in
     record {
-      answer = six-answer ∙ sym (ap (λ (t : Bool). cond t (Sum (growthSum n (vector r′) (magnitudes e′))) Refused) ok);
+      answer = answer;
+      number = stepped-number (stepOk n m r e) (growthSum n (vector r′) (magnitudes e′)) a answer;
       direction = in-r ∙ sym (ap (λ (t : Bool). cond t (steppedR n m r) r) ok);
       errors = in-e ∙ sym (ap (λ (t : Bool). cond t (steppedE n m r e) e) ok);
     }
