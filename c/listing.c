@@ -49,6 +49,8 @@ static int write_guard(size_t guard, uint64_t answer)
 {
     static const char *const words[] = {"", "HIT", "UNKNOWN", "CLEAR"};
     unsigned verdict = PEPPERSCARP_VERDICT(answer);
+    if (PEPPERSCARP_NUMBER(answer) == PEPPERSCARP_FINISHED && (verdict < PEPPERSCARP_HIT || PEPPERSCARP_CLEAR < verdict))
+        return 0;
     switch (PEPPERSCARP_NUMBER(answer)) {
     case PEPPERSCARP_FINISHED:
         printf("guard %zu %s", guard, words[verdict]);
@@ -67,14 +69,23 @@ static int write_guard(size_t guard, uint64_t answer)
 int main(int count, char **words)
 {
     int whole = count == 3 && strcmp(words[1], "--whole") == 0;
-    FILE *in = count == 2 + whole ? fopen(words[1 + whole], "rb") : NULL;
+    FILE *in;
     size_t rows, i;
     uint64_t answer;
-    if (in == NULL) {
+    if (count != 2 + whole) {
         fprintf(stderr, "usage: listing [--whole] FILE\n");
         return 1;
     }
+    in = fopen(words[1 + whole], "rb");
+    if (in == NULL) {
+        perror(words[1 + whole]);
+        return 1;
+    }
     length = fread(file, 1, sizeof file, in);
+    if (ferror(in)) {
+        perror(words[1 + whole]);
+        return 1;
+    }
     fclose(in);
     if (whole) {
         i = pepperscarp_listing(file, length, text, sizeof text);

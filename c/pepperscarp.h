@@ -3,7 +3,8 @@
  * Link libpepperscarp.a. It needs nothing but memcpy and memset of the C library, keeps nothing between calls and may be called
  * from several threads at once.
  *
- * Every call is answered, whatever the values: a refusal has one of document 01's numbers, and leaves the lent memory as it was.
+ * Every call is answered, whatever the values. A refusal by step, sweep or judge has a number, 1 to 14 (README.md, "The model
+ * file", says what each means), and leaves the lent memory as it was.
  * Pointers must not be null, not even for a list of no elements; each must lead to as many elements as its length says; and the
  * memory of a list that is written must overlap nothing else that the same call is lent.
  */
@@ -17,12 +18,14 @@
 extern "C" {
 #endif
 
-/* An answer is one number, number + 256 * verdict + 65536 * figure. These take it apart. */
+/* What step, sweep and judge return is one number, number + 256 * verdict + 65536 * figure. These take it apart. A call has
+ * finished where PEPPERSCARP_NUMBER is 0; the returned value itself is then seldom 0. */
 #define PEPPERSCARP_NUMBER(answer) ((unsigned)((uint64_t)(answer) & 255u))
 #define PEPPERSCARP_VERDICT(answer) ((unsigned)(((uint64_t)(answer) >> 8) & 255u))
 #define PEPPERSCARP_FIGURE(answer) ((uint64_t)(answer) >> 16)
 
-/* Numbers. 1 to 10 refuse the file, and the figure is the offset that document 01 tells with them. */
+/* Numbers. 1 to 10 refuse the file, and the figure is the offset of the record at fault; for 10, of the first byte behind the
+ * end; the file's length where no byte is left. */
 #define PEPPERSCARP_FINISHED 0u
 #define PEPPERSCARP_INVALID 11u      /* a step's values break a rule */
 #define PEPPERSCARP_NOT_THERE 12u    /* no such direction, or no such guard */
@@ -39,24 +42,26 @@ extern "C" {
 
 /* One step of a working direction. Takes the number n of coordinates, 1 to 6; the matrix in six rows of six, in units of
  * 1/65,536; the direction r in units of 1/1,048,576 and its errors e, zero beyond n.
- * Answers 0, with r and e of the next step in place of the old ones and their growth sum as the figure: the largest |r[i]| + e[i].
- * Answers 11 for n outside 1 to 6, a matrix entry outside -131,072 to 131,072, a value beyond n that isn't zero, an e below 0, or
+ * Number 0: r and e of the next step stand in place of the old ones, and the figure is their growth sum, the largest
+ * |r[i]| + e[i].
+ * Number 11: for n outside 1 to 6, a matrix entry outside -131,072 to 131,072, a value beyond n that isn't zero, an e below 0, or
  * a growth sum of r and e above 1,073,741,824. */
 uint64_t pepperscarp_step(size_t n, const int32_t matrix[36], int64_t r[6], int64_t e[6]);
 
 /* The sweep of one direction of a model file. Takes the file's bytes, the direction's number from 0, and two lists of K + 1
- * elements, where K is the model's number of steps: bytes 2 and 3 of the file, low byte first, and 60 where they say 0.
- * Answers 0, with the bound and the slack of steps 0 to K in the lists and the spare figure, 0 to 10, as the figure. No run of the
+ * elements, where K is the model's number of steps: bytes 2 and 3 of the file, counted from 0, low byte first, and 60 where they
+ * say 0.
+ * Number 0: the lists have the bound and the slack of steps 0 to K, and the figure is the spare figure, 0 to 10. No run of the
  * model passes a bound, and some run comes within its slack.
- * Answers 1 to 10 where the file is refused, 12 where it has no such direction, 13 where a list isn't K + 1 long, and 14 for
- * growth. Number 11 never comes: the model of a file that is read breaks no rule. */
+ * Numbers 1 to 10: the file is refused. 12: it has no such direction. 13: a list isn't K + 1 long. 14: growth. Number 11 never
+ * comes: the model of a file that is read breaks no rule. */
 uint64_t pepperscarp_sweep(const uint8_t *file, size_t file_length, size_t direction, int64_t *bounds, size_t bounds_length,
                            int64_t *slacks, size_t slacks_length);
 
 /* The judge of one guard of a model file. Takes the guard's number from 0, the rest as for the sweep.
- * Answers 0 with a verdict: HIT or UNKNOWN with its step as the figure, or CLEAR with figure 0. The lists have the sweep of the
+ * Number 0, with a verdict: HIT or UNKNOWN with its step as the figure, or CLEAR with figure 0. The lists have the sweep of the
  * guard's direction.
- * Answers 1 to 10, 13 and 14 as for the sweep, and 12 where the file has no such guard. */
+ * Numbers 1 to 10, 13 and 14: as for the sweep. 12: the file has no such guard. */
 uint64_t pepperscarp_judge(const uint8_t *file, size_t file_length, size_t guard, int64_t *bounds, size_t bounds_length,
                            int64_t *slacks, size_t slacks_length);
 
@@ -65,8 +70,8 @@ uint64_t pepperscarp_judge(const uint8_t *file, size_t file_length, size_t guard
 
 /* The whole text that the program `envelope` writes for a model file: its listing, or its refusal. Takes the file's bytes and room
  * for at least PEPPERSCARP_LISTING_ROOM bytes.
- * Answers how many bytes of text stand at the start of `out`; no zero follows them, and what lies behind them is as it was.
- * Answers 0, with `out` as it was, where it has less room. */
+ * Returns how many bytes of text stand at the start of `out`; no zero follows them, and what lies behind them is as it was.
+ * Returns 0, with `out` as it was, where it has less room. */
 size_t pepperscarp_listing(const uint8_t *file, size_t file_length, uint8_t *out, size_t out_length);
 
 #ifdef __cplusplus

@@ -23,7 +23,6 @@ EXAMPLES = ROOT / "examples"
 SAMPLE = (ROOT / "crates" / "envelope" / "stdin").read_bytes()
 SAMPLE_TEXT = (ROOT / "crates" / "envelope" / "stdout").read_bytes()
 TIME_LIMIT = 10  # seconds; a program that has not ended by then hangs
-MOST_WRITES = 20
 MOST_MEMORY = 4 * 1024  # kB
 
 sys.path.insert(0, str(ROOT / "tools"))
@@ -115,7 +114,7 @@ class Input(unittest.TestCase):
 
 
 class Output(unittest.TestCase):
-    def test_the_largest_listing_takes_few_writes(self) -> None:
+    def test_the_largest_listing_takes_one_write(self) -> None:
         # A packet for each write.
         ours, theirs = socket.socketpair(socket.AF_UNIX, socket.SOCK_SEQPACKET)
         theirs.setsockopt(socket.SOL_SOCKET, socket.SO_SNDBUF, 1 << 20)
@@ -128,7 +127,7 @@ class Output(unittest.TestCase):
             while packet := ours.recv(1 << 20):
                 packets.append(packet)
         self.assertEqual(b"".join(packets), exact.listing(largest()).encode("ascii"))
-        self.assertLessEqual(len(packets), MOST_WRITES)
+        self.assertEqual(len(packets), 1)
 
     def test_output_that_fails_is_told_on_standard_error(self) -> None:
         for output in (">&-", "> /dev/full"):
@@ -171,6 +170,12 @@ class Run(unittest.TestCase):
             file.flush()
             done = self.run_on(file.name)
         self.assertEqual((done.returncode, done.stdout), (1, b"refused 1 at 185\n"))
+
+    def test_output_that_fails_has_a_status(self) -> None:
+        command = f"'{ROOT / 'run'}' '{EXAMPLES / 'rail.bin'}' > /dev/full"
+        done = subprocess.run(["sh", "-c", command], capture_output=True, timeout=600)
+        self.assertEqual(done.returncode, 2)
+        self.assertIn(b"standard output could not be written", done.stderr)
 
     def test_bad_input_is_named(self) -> None:
         for words, status, message in (

@@ -1,6 +1,5 @@
 //! Tuned Rust of the recurrence of document 01, for speed alone: flat arrays by reference, every loop to the constant 6, magnitudes
 //! and reaches taken once for a sweep, no test inside a step but that of growth. It is made for a model that has been tested.
-//! Of eight forms tried none was faster by more than a few percent; it does little more than its multiplications.
 
 use crate::models::{Model, Set};
 use crate::plain::Refusal;

@@ -81,10 +81,27 @@ impl Refusal {
     }
 }
 
+/// Why a file is refused, by its number.
+fn reason(number: u8) -> &'static str {
+    match number {
+        1 => "the file ends where a record should stand, or within one",
+        2 => "a kind is unknown",
+        3 => "a record of this kind may not stand here",
+        4 => "n or the steps are out of range",
+        5 => "a row is out of turn, or an entry beyond its limit",
+        6 => "a set reaches too far, or its upper corner is below its lower",
+        7 => "a direction's entry is beyond its limit, or all are zero",
+        8 => "a guard is on a direction that is not there",
+        9 => "there is one generator, vertex, direction or guard too many",
+        10 => "bytes follow the end",
+        _ => "the file is no model",
+    }
+}
+
 impl fmt::Display for Refusal {
     fn fmt(&self, f: &mut fmt::Formatter<'_>) -> fmt::Result {
         match self {
-            Refusal::File { number, offset } => write!(f, "refused {number} at {offset}: the file is no model"),
+            Refusal::File { number, offset } => write!(f, "refused {number} at {offset}: {}", reason(*number)),
             Refusal::Invalid => write!(f, "refused 11: a value breaks a rule"),
             Refusal::NoSuchNumber => write!(f, "refused 12: no such direction or guard"),
             Refusal::WrongLength => write!(f, "refused 13: a list isn't K + 1 long"),

@@ -24,7 +24,7 @@ abbrev pub rowText : ℕ → ℤ → ℤ → List ℕ
 rowText k b s = decimal k ++ word " " ++ signedDecimal b ++ word " " ++ signedDecimal s ++ word "\n"
 
 -- "Each direction: its number and spare figure, then step, bound, slack." "A direction refused for growth prints only
--- `dir I growth J`". There is no other refusal with lists of K + 1.
+-- `dir I growth J`". A direction of an accepted model has no other refusal with lists of K + 1.
 abbrev pub sweptText : Model → ℕ → Swept → List ℕ
 sweptText m d (S.Spare h) = line (word "dir ") d (word " spare ") h ++ each (suc (m .steps)) (λ k. rowText k (bound m d k) (pos (slack m d k)))
 sweptText m d (S.Growth k) = line (word "dir ") d (word " growth ") k
@@ -39,7 +39,8 @@ sweepOf m d = sweepAnswer m d (suc (m .steps)) (suc (m .steps))
 unfoldable pub directionText : Model → ℕ → List ℕ
 directionText m d = sweptText m d (sweepOf m d)
 
--- "Each guard: its number, verdict, step if any. The verdict words are fixed bytes." "its guards `guard I GROWTH J`"
+-- "Each guard: its number, verdict, step if any. The verdict words are fixed bytes." "its guards `guard I GROWTH J`". A guard of an
+-- accepted model has no other refusal.
 abbrev pub judgedText : ℕ → Judged → List ℕ
 judgedText g (J.Hit k) = line (word "guard ") g (word " HIT ") k
 judgedText g (J.Unknown k) = line (word "guard ") g (word " UNKNOWN ") k

@@ -22,8 +22,8 @@ pub enum Judged {
     Growth(usize),
 }
 
-// The verdict on a level by what a sweep answered and left: the first-step rules over its lists, or its refusal. Number 13 where
-// the lists are not as long as each other. Guards on one direction share its sweep in this way.
+// The verdict on a level by what a sweep answered and left: its refusal, if it refused; 13 where the lists are not as long as
+// each other; else the first-step rules over them. Guards on one direction share its sweep in this way.
 pub fn verdict(swept: Swept, level: i64, bounds: &[i64], slacks: &[i64]) -> Judged
     ensures { λ a. ⌜ a ≡ sweptVerdict swept level (now (bounds .entry)) (now (slacks .entry)) ⌝ }
 {

@@ -1,6 +1,6 @@
 //! Tests of the bindings, and through them of the archive that they link, against document 01 in Rust (`document.rs`).
 //!
-//! Best run optimised: `cargo test --release`. Whatever is lent stands between sentinels (`lent.rs`). Tests that draw at random use
+//! Optimised by the profile `test`, with overflow checks. Whatever is lent stands between sentinels (`lent.rs`). Tests that draw at random use
 //! fixed seeds and assert that each kind of reply came often enough.
 
 mod document;

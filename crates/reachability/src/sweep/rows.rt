@@ -158,8 +158,8 @@ fn line_of(
 }
 
 // Both rows for steps 0 to K, and the largest growth sum, or the first step with growth. The arrays are those of the model, r
-// and e the first working direction. Each step is told six coordinates: it does the same, since what lies beyond n is zero, and
-// has no zeros to test.
+// and e the first working direction. Each step is passed 6 for n: it does the same, since what lies beyond n is zero, and has
+// no zeros to test.
 fn fill_rows(
     model: Model,
     direction: usize,
