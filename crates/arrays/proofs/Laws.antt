@@ -12,7 +12,7 @@ use lib.ListN.{length, List·getD-eq-default}
 use lib.IntN.{ℤ, pos, negℤ, natAbs}
 use lib.Signed.{leZ}
 use Rattle.integers.specs.Sums.{vector, matrix}
-use Rattle.integers.proofs.Parts.{v, #, neg, le?, abs! }
+use Rattle.integers.proofs.SignedParts.{v, #, neg, le?, abs! }
 use Rattle.integers.proofs.Order.{⩽-of-leZ}
 use Rattle.integers.proofs.Sums.{allBelow-at}
 use Rattle.integers.proofs.Machine.{zero-of-natAbs}

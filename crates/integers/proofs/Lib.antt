@@ -1,4 +1,4 @@
-pub mod Parts
+pub mod SignedParts
 pub mod Order
 pub mod Rounding
 pub mod Sums

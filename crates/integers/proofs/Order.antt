@@ -1,5 +1,5 @@
 -- Laws of ℤ that later proofs cite by name: the ring, the order, tests of order, magnitude, distance.
--- Each is a line by `le!` and `eq!` of `Parts`. Assumes nothing.
+-- Each is a line by `le!` and `eq!` of `SignedParts`. Assumes nothing.
 use mathlib.Core.Path.{_≡_, refl, sym, ap, subst, _∙_}
 use mathlib.Core.Bool.{Bool, true, false, not}
 use Prim.Native.Nat.{ℕ, zero, suc, _+_, _*_, _≤_, _<_}
@@ -10,7 +10,7 @@ use lib.Dec.{T, ltb, leb}
 use lib.IntN.{ℤ, pos, negsuc, negℤ, natAbs, _+ℤ_, _-ℤ_, _*ℤ_}
 use lib.Signed.{leZ, ltZ, ltZ-no}
 use Rattle.integers.specs.Whole.{_⩽_, Near}
-use Rattle.integers.proofs.Parts.{pp, nn, v, #, _⊕_, _⊖_, _⊗_, le!, eq!, le?, eq?, abs!, near!, near?, natAbs-parts, parts-of-le}
+use Rattle.integers.proofs.SignedParts.{pp, nn, v, #, _⊕_, _⊖_, _⊗_, le!, eq!, le?, eq?, abs!, near!, near?, natAbs-parts, parts-of-le}
 
 -- ---- the ring
 

@@ -9,7 +9,7 @@ use borrow.Author.Tests.{eqb-true}
 use lib.Dec.{eqb}
 use lib.IntN.{ℤ, pos, negsuc, negℤ, natAbs, _+ℤ_, _-ℤ_, _*ℤ_}
 use Rattle.integers.specs.Whole.{_⩽_, Near, floorDiv, ceilDiv, ceilDivℕ, isMultiple, fraction}
-use Rattle.integers.proofs.Parts.{v, #, neg, _⊕_, _⊖_, _⊗_, le!, eq!, le?, eq?, near!, near?}
+use Rattle.integers.proofs.SignedParts.{v, #, neg, _⊕_, _⊖_, _⊗_, le!, eq!, le?, eq?, near!, near?}
 use Rattle.integers.proofs.Order.{natAbs-neg, near-of-eq, near-mono}
 
 -- the quotient and the remainder of a natural number

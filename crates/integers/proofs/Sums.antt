@@ -12,7 +12,7 @@ use native.Mathlib.Omega.{arith}
 use lib.IntN.{ℤ, pos, negsuc, natAbs, _+ℤ_, _-ℤ_, _*ℤ_, +ℤ-idl, +ℤ-idr, *ℤ-zero, zero-*ℤ}
 use Rattle.integers.specs.Whole.{_⩽_, Near}
 use Rattle.integers.specs.Sums.{sum, sumℕ, maxℕ, allBelow, dot, dotℕ, times, transposed}
-use Rattle.integers.proofs.Parts.{v, #, _⊕_, _⊖_, _⊗_, le!, eq!, le?, eq?}
+use Rattle.integers.proofs.SignedParts.{v, #, _⊕_, _⊖_, _⊗_, le!, eq!, le?, eq?}
 use Rattle.integers.proofs.Order.{⩽-refl, ⩽-add, near-add, near-of-eq, near-times, addℤ-swap, mulℤ-add, mulℤ-left-comm}
 
 wider : {i n : ℕ} → i < n → i < suc n

@@ -10,7 +10,7 @@ use lib.Dec.{ltb}
 use lib.ListN.{length, length-append}
 use lib.IntN.{ℤ, pos, negsuc, natAbs}
 use lib.Signed.{ltZ}
-use Rattle.integers.proofs.Parts.{v, #, _⊕_, le?}
+use Rattle.integers.proofs.SignedParts.{v, #, _⊕_, le?}
 use Rattle.integers.proofs.Order.{lt-of-ltZ, le-of-ltZ-false}
 use Rattle.listing.specs.Text.{word, digit, decimalFor, decimal, signedDecimal}
 

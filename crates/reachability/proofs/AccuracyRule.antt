@@ -12,7 +12,7 @@ use lib.IntN.{ℤ, pos, natAbs, _+ℤ_, _-ℤ_, _*ℤ_}
 use lib.Signed.{leZ}
 use Rattle.integers.specs.Whole.{_⩽_, Near, ceilDiv, ceilDivℕ, fraction}
 use Rattle.integers.specs.Sums.{vector, sum, sumℕ, dot, dotℕ, tabulate}
-use Rattle.integers.proofs.Parts.{v, #, _⊕_, _⊖_, _⊗_, le!, eq!, le?, eq?, near!, near?}
+use Rattle.integers.proofs.SignedParts.{v, #, _⊕_, _⊖_, _⊗_, le!, eq!, le?, eq?, near!, near?}
 use Rattle.integers.proofs.Order.{⩽-of-eq, ⩽-trans, ⩽-scale, ⩽-unscale, ⩽-of-leZ, lt-of-leZ-false}
 use Rattle.integers.proofs.Sums.{sum-cong, sum-scale, sum-add, pos-sumℕ}
 use Rattle.integers.proofs.Rounding.{ceilDiv-le, ceilDiv-near, ceilDivℕ-le}

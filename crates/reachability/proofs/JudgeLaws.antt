@@ -11,7 +11,7 @@ use lib.Signed.{leZ, ltZ, nonNeg}
 use mir.Syntax.{w64}
 use mir.Val.{Fits, SFits}
 use Rattle.integers.specs.Whole.{_⩽_}
-use Rattle.integers.proofs.Parts.{pp, nn, v, #, _⊖_, _⊕_, le!, le?, eq?}
+use Rattle.integers.proofs.SignedParts.{pp, nn, v, #, _⊖_, _⊕_, le!, le?, eq?}
 use Rattle.integers.proofs.Order.{⩽-of-leZ, lt-of-leZ-false, lt-of-ltZ}
 use Rattle.reachability.specs.Recurrence.{firstPlace}
 

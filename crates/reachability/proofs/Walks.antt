@@ -12,7 +12,7 @@ use lib.Dec.{ltb}
 use lib.IntN.{ℤ, pos, natAbs, _+ℤ_, _-ℤ_, _*ℤ_}
 use Rattle.integers.specs.Whole.{_⩽_, Near}
 use Rattle.integers.specs.Sums.{sum, sumℕ, dot, dotℕ, times, transposed}
-use Rattle.integers.proofs.Parts.{v, #, _⊕_, _⊗_, le!, eq!, le?, eq?, near!, near?}
+use Rattle.integers.proofs.SignedParts.{v, #, _⊕_, _⊗_, le!, eq!, le?, eq?, near!, near?}
 use Rattle.integers.proofs.Order.{⩽-refl, ⩽-of-eq, ⩽-trans, ⩽-add, ⩽-scale, near-add, near-scale, near-mono}
 use Rattle.integers.proofs.Sums.{sum-cong, sum-zero, sum-first, sumℕ-zero, sumℕ-first, sumℕ-cong, sumℕ-scale, dot-times, dot-add, dot-scale, dot-cong, near-dot}
 use Rattle.stepping.specs.Limits.{matrixUnit}

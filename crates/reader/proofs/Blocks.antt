@@ -14,7 +14,7 @@ use lib.IntN.{ℤ, pos, negℤ, natAbs}
 use lib.Signed.{leZ}
 use Rattle.integers.specs.Whole.{_⩽_}
 use Rattle.integers.specs.Sums.{vector, matrix, allBelow}
-use Rattle.integers.proofs.Parts.{v, #, neg, le!, le?, abs?, _⊕_}
+use Rattle.integers.proofs.SignedParts.{v, #, neg, le!, le?, abs?, _⊕_}
 use Rattle.integers.proofs.Order.{lt-of-leZ-false}
 use Rattle.integers.proofs.Sums.{allBelow-intro}
 use Rattle.arrays.specs.Tests.{between, allBetween, zeroUnless, zeroOutside}

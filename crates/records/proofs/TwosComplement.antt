@@ -12,7 +12,7 @@ use lib.IntN.{ℤ, pos, negsuc, _-ℤ_}
 use mir.Syntax.{Width, w8, w16, w32, w64, w128}
 use mir.Val.{SFits, bytes, hbits, toZ}
 use mir.Facts.{toZ-pos}
-use Rattle.integers.proofs.Parts.{v, #, _⊖_, eq! }
+use Rattle.integers.proofs.SignedParts.{v, #, _⊖_, eq! }
 use Rattle.records.specs.Numbers.{littleEndian, twosComplement, signedAt}
 use Rattle.records.proofs.LittleEndian.{AllBytes, littleEndian-lt, littleEndian-part}
 

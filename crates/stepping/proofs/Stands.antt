@@ -8,7 +8,7 @@ use lib.Dec.{lit<}
 use lib.IntN.{ℤ, pos, natAbs, _*ℤ_}
 use Rattle.integers.specs.Whole.{Near, floorDiv, ceilDivℕ, fraction}
 use Rattle.integers.specs.Sums.{sum, sumℕ, transposed}
-use Rattle.integers.proofs.Parts.{v, #, _⊗_, eq! }
+use Rattle.integers.proofs.SignedParts.{v, #, _⊗_, eq! }
 use Rattle.integers.proofs.Order.{near-of-eq, near-mono, near-trans, near-scale, near-times}
 use Rattle.integers.proofs.Rounding.{near-floorDiv, ceilDivℕ-le}
 use Rattle.integers.proofs.Sums.{sum-cong, sum-scale, sumℕ-cong, sumℕ-scale, near-sum}

@@ -10,7 +10,7 @@ use lib.Signed.{ltZ, nonNeg}
 use mir.Syntax.{w64}
 use mir.Val.{Fits, SFits, toZ, ofZ}
 use mir.Facts.{toZ-ofZ}
-use Rattle.integers.proofs.Parts.{v, #, _⊖_, eq! }
+use Rattle.integers.proofs.SignedParts.{v, #, _⊖_, eq! }
 use Rattle.integers.proofs.Order.{negative-is, natural-is}
 use Rattle.arrays.proofs.magnitude.Statement.{statement}
 use Rattle.arrays.proofs.magnitude.Tie as tie

@@ -6,7 +6,7 @@ use Prim.Native.Nat.{_/_, _%_}
 use borrow.Author.Tests.{eq-eqb}
 use lib.Signed.{shrZ}
 use Rattle.integers.specs.Whole.{isMultiple, fraction}
-use Rattle.integers.proofs.Parts.{v, #, _⊗_, eq! }
+use Rattle.integers.proofs.SignedParts.{v, #, _⊗_, eq! }
 use Rattle.integers.proofs.Order.{natAbs-mul}
 use Rattle.integers.proofs.Rounding.{floorDiv-of-multiple}
 use Rattle.stepping.proofs.Shifts.{read-shifted}

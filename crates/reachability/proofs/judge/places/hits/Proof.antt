@@ -5,7 +5,7 @@ use Rattle.integers.proofs.Basics.{_≡_, sym, ap, ap₂, subst, _∙_, true, �
 use lib.Dec.{leb}
 use lib.Signed.{leZ, ltZ}
 use Rattle.integers.specs.Whole.{_⩽_}
-use Rattle.integers.proofs.Parts.{v, #, _⊕_, le!, le?}
+use Rattle.integers.proofs.SignedParts.{v, #, _⊕_, le!, le?}
 use Rattle.integers.proofs.Order.{le-of-ltZ-false, lt-of-ltZ}
 use Rattle.reachability.proofs.JudgeLaws.{hit-below, hit-raised, hit-above, hit-gap}
 use Rattle.reachability.proofs.judge.places.hits.Statement.{statement}
