@@ -20,8 +20,7 @@ use Rattle.reachability.specs.declared.judge.Judged.{Judged}
 use Rattle.reachability.specs.declared.judge.Judged.the-variants as J
 use Rattle.arrays.proofs.Laws.{and-true}
 use Rattle.reachability.specs.Limits.{accepted}
-use Rattle.reachability.proofs.AccuracyRule.{model-facts}
-use Rattle.reachability.proofs.Turns.{steps≤256}
+use Rattle.reachability.proofs.model.Facts.{model-facts}
 use Rattle.reachability.proofs.JudgeAnswers.{judges}
 use Rattle.listing.specs.Text.{word, line, each}
 use Rattle.listing.specs.Listing.{rowText, sweptText, sweepOf, directionText, judgedText, judgeOf, guardText}
@@ -80,9 +79,7 @@ guard-text m g case step e f = ap₂ (guardLine g) e f ∙ guard-line g (judgeOf
 -- ---- the limits that the rooms rest on
 
 pub directions-range : (m : Model) → accepted m ≡ true → (1 ≤ m .directions) × (m .directions ≤ 16)
-directions-range m ok =
-    let range = and-true (leb 1 (m .directions)) (leb (m .directions) 16) (and-true (leb 1 (m .directions) && leb (m .directions) 16) _ (model-facts m ok .directions) .0) in
-    (leb-true 1 (m .directions) (range .0), leb-true (m .directions) 16 (range .1))
+directions-range m ok = (model-facts m ok .directions-least, model-facts m ok .directions-most)
 
 pub steps-most : (m : Model) → accepted m ≡ true → m .steps ≤ 256
-steps-most m ok = steps≤256 m (model-facts m ok) 0 (directions-range m ok .0)
+steps-most m ok = model-facts m ok .steps-most

@@ -28,7 +28,7 @@ use Rattle.reachability.specs.Answers.{sweepAnswer, judgeAnswer, lengthsOk}
 use Rattle.reachability.specs.declared.model.Model.{Model}
 use Rattle.reachability.specs.declared.sweep.Swept.the-variants as S
 use Rattle.reachability.specs.declared.judge.Judged.the-variants as J
-use Rattle.reachability.proofs.AccuracyRule.{model-facts}
+use Rattle.reachability.proofs.model.Facts.{model-facts}
 use Rattle.reader.specs.declared.Status.the-variants.{Refused}
 use Rattle.reader.specs.declared.Reading.{Reading}
 use Rattle.reader.specs.Reading.{readModel}
@@ -50,10 +50,7 @@ offset-small file number offset e =
 -- ---- a sweep and a judge: a step is at most K, and K at most 256
 
 steps-most : (m : Model) → accepted m ≡ true → m .steps ≤ 256
-steps-most m ok =
-    let frame = model-facts m ok .frame in
-    let steps = and-true (stepsOk (m .steps)) (matrixOk (m .n) (m .matrix)) (and-true (dimensionOk (m .n)) _ frame .1) .0 in
-    leb-true (m .steps) 256 (and-true (leb 1 (m .steps)) (leb (m .steps) 256) steps .1)
+steps-most m ok = model-facts m ok .steps-most
 
 greatest-most : (k : ℕ) (p : ℕ → Bool) → greatest k p ≤ k
 unfolding greatest

@@ -32,7 +32,7 @@ use Rattle.reachability.specs.declared.model.Model.{Model}
 use Rattle.reachability.specs.declared.judge.Judged.{Judged}
 use Rattle.reachability.specs.declared.judge.Judged.the-variants.{Hit, Unknown, Clear}
 use Rattle.reachability.proofs.SetLaws.{SetLaws}
-use Rattle.reachability.proofs.SetTests.{SetFacts, set-facts}
+use Rattle.reachability.proofs.model.Facts.{ModelFacts}
 use Rattle.reachability.proofs.FirstPlace.{firstPlace-passes, firstPlace-before}
 use Rattle.reachability.proofs.Walks.{top, value-le-top, Attains, attains, near-sums}
 
@@ -67,30 +67,7 @@ rounded raw s e h =
     within b c f p q =
         le! (# 1048576 ⊗ (v b ⊖ # (c + f))) (v s ⊖ # e) (omega (arith, le? (# 1048576 ⊗ v b) (v raw ⊕ # (1048576 * f)) p, eq? (v raw) (v s ⊕ # e) h))
 
--- ---- an accepted model
-
-pub record ModelFacts (m : Model) : Type 0 where
-  pub frame : frameOk (m .n) (m .steps) (m .matrix) ≡ true
-  pub initial : SetFacts (m .n) (m .initial .shape) (m .initial .count) (m .initial .points)
-  pub input : SetFacts (m .n) (m .input .shape) (m .input .count) (m .input .points)
-  pub directions : directionsOk (m .n) (m .directions) (m .entries) ≡ true
-  pub guards : guardsOk (m .directions) (m .guards) (m .watched) (m .levels) ≡ true
-
-pub model-facts : (m : Model) → accepted m ≡ true → ModelFacts m
-model-facts m t =
-    let guards = guardsOk (m .directions) (m .guards) (m .watched) (m .levels) in
-    let directions = directionsOk (m .n) (m .directions) (m .entries) in
-    let a = and-true (frameOk (m .n) (m .steps) (m .matrix)) (setAccepted (m .n) (m .initial) && (setAccepted (m .n) (m .input) && (directions && guards))) t in
-    let b = and-true (setAccepted (m .n) (m .initial)) (setAccepted (m .n) (m .input) && (directions && guards)) (a .1) in
-    let c = and-true (setAccepted (m .n) (m .input)) (directions && guards) (b .1) in
-    let e = and-true directions guards (c .1) in
-    record {
-      frame = a .0;
-      initial = set-facts (m .n) (m .initial .shape) (m .initial .count) (m .initial .points) (b .0);
-      input = set-facts (m .n) (m .input .shape) (m .input .count) (m .input .points) (c .0);
-      directions = e .0;
-      guards = e .1;
-    }
+-- ---- the rule of an accepted model
 
 module _ (m : Model) (facts : ModelFacts m) (d : ℕ) where
   lawsI : SetLaws (m .n) (Member (m .n) (m .initial .shape) (m .initial .count) (points (m .initial .points))) (supportOf (m .n) (m .initial .shape) (m .initial .count) (points (m .initial .points))) (reachOf (m .initial .shape) (m .initial .count) (points (m .initial .points)))

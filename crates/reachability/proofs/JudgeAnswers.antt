@@ -25,7 +25,8 @@ use Rattle.reachability.specs.declared.sweep.Swept.the-variants as S
 use Rattle.reachability.specs.declared.judge.Judged.{Judged}
 use Rattle.reachability.specs.declared.judge.Judged.the-variants as J
 use Rattle.reachability.proofs.JudgeLaws.{iff, firstPlace-cong}
-use Rattle.reachability.proofs.AccuracyRule.{ModelFacts, model-facts, verdict-holds}
+use Rattle.reachability.proofs.model.Facts.{ModelFacts, model-facts}
+use Rattle.reachability.proofs.AccuracyRule.{verdict-holds}
 
 -- ---- the first-step rules, from the two first places below n
 
@@ -96,9 +97,6 @@ verdict-number m d level = cases (leb (firstPlace (suc (m .steps)) (hitAt m d le
 
 -- ---- what a judge makes of a sweep's answer
 
-pub guards-most : (m : Model) → accepted m ≡ true → m .guards ≤ 16
-guards-most m ok = leb-true (m .guards) 16 (and-true (leb (m .guards) 16) _ (model-facts m ok .guards) .0)
-
 module _ (m : Model) (g : ℕ) where
   abbrev d : ℕ
   d = getD (m .watched) g 0
@@ -137,14 +135,11 @@ module _ (m : Model) (g : ℕ) where
 
   module _ (ok : accepted m ≡ true) (inside : g < m .guards) where
     pub guard-below : g < 16
-    guard-below = native.Mathlib.Nat.lt-of-lt-of-le inside (guards-most m ok)
+    guard-below = native.Mathlib.Nat.lt-of-lt-of-le inside (model-facts m ok .guards-most)
 
     -- the guard watches a direction
     pub watches : d < m .directions
-    watches =
-        let tests = and-true (leb (m .guards) 16) (allBelow 16 (λ i. guardOk (m .directions) (m .guards) i (getD (m .watched) i 0) (vector (m .levels) i))) (model-facts m ok .guards) in
-        let one = allBelow-at 16 (λ i. guardOk (m .directions) (m .guards) i (getD (m .watched) i 0) (vector (m .levels) i)) (tests .1) g guard-below in
-        ltb-true d (m .directions) (sym (ap (λ (t : Bool). cond t (ltb d (m .directions)) (eqb d 0 && eqb (natAbs level) 0)) (lt-ltb g (m .guards) inside)) ∙ one)
+    watches = model-facts m ok .watches g inside
 
     carried-answer : (lb ls : ℕ) → carried (sweepAnswer m d lb ls) (verdict m d level) ≡ judgeAnswer m g lb ls
     carried-answer lb ls =

@@ -32,7 +32,8 @@ use Rattle.reachability.specs.declared.sweep.Swept.the-variants.{Spare, 
 use Rattle.reachability.specs.declared.sweep.Filled.{Filled}
 use Rattle.reachability.specs.declared.sweep.Filled.the-variants.{Largest, Grown}
 use Rattle.reachability.proofs.FirstPlace.{firstPlace-before}
-use Rattle.reachability.proofs.AccuracyRule.{ModelFacts, accurate}
+use Rattle.reachability.proofs.model.Facts.{ModelFacts}
+use Rattle.reachability.proofs.AccuracyRule.{accurate}
 
 module _ (m : Model) (d lb ls : ℕ) where
   abbrev finished : Swept
@@ -105,14 +106,7 @@ module _ (m : Model) (facts : ModelFacts m) (d : ℕ) (inside : d < m .direction
 
   -- some entry isn't zero
   some-entry : (i : ℕ) × (i < 6) × (eqb (natAbs (direction m d i)) 0 ≡ false)
-  some-entry =
-      let some = and-true (zeroOutside (m .directions) (m .n) (m .entries)) _ (and-true (leb 1 (m .directions) && leb (m .directions) 16) _ (facts .directions) .1) .1 in
-      let nonzero = and-true (allBetween (lib.IntN.negℤ (pos directionLimit)) (pos directionLimit) (m .entries)) (someNonzero (m .directions) (m .entries)) some .1 in
-      allBelow-some 6 (λ i. eqb (natAbs (direction m d i)) 0) (not-not (allZero (m .entries) d) (allBelow-at (m .directions) (λ k. not (allZero (m .entries) k)) nonzero d inside))
-    where
-      not-not : (b : Bool) → not b ≡ true → b ≡ false
-      not-not true e = sym e
-      not-not false e = refl
+  some-entry = facts .direction-nonzero d inside
 
   largest-unit : directionUnit ≤ maxℕ (suc (m .steps)) (sumAt m d)
   largest-unit = le-trans first-sum (le-maxℕ (suc (m .steps)) (sumAt m d) 0 (native.Mathlib.Nat.zero-lt-suc (m .steps)))
@@ -129,11 +123,8 @@ module _ (m : Model) (facts : ModelFacts m) (d : ℕ) (inside : d < m .direction
       below-n : i < m .n
       below-n = elim (native.Mathlib.Decide.decLt i (m .n)) [ yes l ↦ l | no f ↦ absurd (vanish (omega (arith, f))) ]
         where
-          outside : zeroOutside (m .directions) (m .n) (m .entries) ≡ true
-          outside = and-true (zeroOutside (m .directions) (m .n) (m .entries)) _ (and-true (leb 1 (m .directions) && leb (m .directions) 16) _ (facts .directions) .1) .0
-
           vanish : m .n ≤ i → ⊥
-          vanish l = omega (arith, positive, ap natAbs (zeroOutside-column (m .directions) (m .n) (m .entries) outside d i (some-entry .1) l))
+          vanish l = omega (arith, positive, ap natAbs (facts .direction-beyond d i l (some-entry .1)))
 
       walk-start : walk (m .n) (moves m) 0 (first (direction m d)) 0 ≡ first (direction m d)
       walk-start = start

@@ -37,8 +37,8 @@ use Rattle.reachability.specs.declared.model.Model.{Model}
 use Rattle.reachability.specs.declared.sweep.Filled.{Filled}
 use Rattle.reachability.specs.declared.sweep.Filled.the-variants.{Largest, Grown}
 use Rattle.reachability.proofs.SetBounds.{supportOf-six, supportOf-same}
-use Rattle.reachability.proofs.SetTests.{SetFacts, n-range}
-use Rattle.reachability.proofs.AccuracyRule.{ModelFacts}
+use Rattle.reachability.proofs.SetTests.{SetFacts}
+use Rattle.reachability.proofs.model.Facts.{ModelFacts}
 use Rattle.reachability.proofs.FirstPlace.{firstPlace-is, firstPlace-none}
 
 -- ---- the walk with one matrix
@@ -208,21 +208,6 @@ module _ (m : Model) (facts : ModelFacts m) (d : ℕ) (d-inside : d < m .directi
   abbrev n : ℕ
   n = m .n
 
-  frame : (dimensionOk (m .n) ≡ true) × (stepsOk (m .steps) ≡ true) × (matrixOk (m .n) (m .matrix) ≡ true)
-  frame =
-      let a = and-true (dimensionOk (m .n)) (stepsOk (m .steps) && matrixOk (m .n) (m .matrix)) (facts .frame) in
-      let b = and-true (stepsOk (m .steps)) (matrixOk (m .n) (m .matrix)) (a .1) in
-      (a .0, b .0, b .1)
-
-  pub n≤6 : m .n ≤ 6
-  n≤6 = n-range (m .n) (frame .0) .1
-
-  pub steps≤256 : m .steps ≤ 256
-  steps≤256 = leb-true (m .steps) 256 (and-true (leb 1 (m .steps)) (leb (m .steps) 256) (frame .1) .1)
-
-  matrix-outside : zeroOutside (m .n) (m .n) (m .matrix) ≡ true
-  matrix-outside = and-true (allBetween (negℤ (pos entryLimit)) (pos entryLimit) (m .matrix)) (zeroOutside (m .n) (m .n) (m .matrix)) (frame .2) .1
-
   abbrev at : ℕ → Working
   at = workingAt m d
 
@@ -237,21 +222,15 @@ module _ (m : Model) (facts : ModelFacts m) (d : ℕ) (d-inside : d < m .directi
 
   -- ---- its start
 
-  direction-beyond : (i : ℕ) → m .n ≤ i → i < 6 → direction m d i ≡ pos 0
-  direction-beyond i l h = zeroOutside-column (m .directions) (m .n) (m .entries) outside d i h l
-    where
-      outside : zeroOutside (m .directions) (m .n) (m .entries) ≡ true
-      outside = and-true (zeroOutside (m .directions) (m .n) (m .entries)) _ (and-true (leb 1 (m .directions) && leb (m .directions) 16) _ (facts .directions) .1) .0
-
   pub stored-first : (r e : List ℤ) → r ≡ tabulate 6 (firstR (direction m d)) → e ≡ tabulate 6 (λ i. pos (firstE i)) → Stored (m .n) (at 0) r e
   stored-first r e p q =
       subst (λ (w : Working). Stored (m .n) w r e) (sym (walk-start (m .n) (moves m) (first (direction m d))))
-      (record { r-is = p; e-is = q; r-zero = λ i l h. ap (λ (z : ℤ). pos directionUnit *ℤ z) (direction-beyond i l h) ∙ *ℤ-zero (pos directionUnit); e-zero = λ i l h. refl })
+      (record { r-is = p; e-is = q; r-zero = λ i l h. ap (λ (z : ℤ). pos directionUnit *ℤ z) (facts .direction-beyond d i l h) ∙ *ℤ-zero (pos directionUnit); e-zero = λ i l h. refl })
 
   pub growth-is : (k : ℕ) (r e : List ℤ) (a : Stepped) → Stored (m .n) (at k) r e → a ≡ growthAnswer (m .n) r e → sumOf a ≡ sumAt m d k
   growth-is k r e a stored h =
-      ap sumOf (h ∙ ap (λ (t : Bool). cond t (Sum (growthSum (m .n) (vector r) (magnitudes e))) Refused) (working-passes (m .n) n≤6 (at k) r e stored (frame .0)))
-      ∙ sum-stored (m .n) n≤6 (at k) r e stored
+      ap sumOf (h ∙ ap (λ (t : Bool). cond t (Sum (growthSum (m .n) (vector r) (magnitudes e))) Refused) (working-passes (m .n) (facts .n-most) (at k) r e stored (facts .dimension)))
+      ∙ sum-stored (m .n) (facts .n-most) (at k) r e stored
 
   pub starts : (b₀ s₀ r e : List ℤ) (sm : ℕ) → Stored (m .n) (at 0) r e → sm ≡ sumAt m d 0 → So m d b₀ s₀ r e b₀ s₀ sm 0 (pos 0) 0 0
   starts b₀ s₀ r e sm stored h =
@@ -282,31 +261,31 @@ module _ (m : Model) (facts : ModelFacts m) (d : ℕ) (d-inside : d < m .directi
     reachesU = tabulate 6 (λ i. pos (reachOf (m .input .shape) (m .input .count) (points (m .input .points)) i))
 
     supportI : termSupport (m .initial .shape) (m .initial .count) (m .initial .points) r ≡ supportAt (m .n) (m .initial) (at k)
-    supportI = support-stored (m .n) n≤6 (at k) r e (so .stored) calm-here (m .initial) (facts .initial)
+    supportI = support-stored (m .n) (facts .n-most) (at k) r e (so .stored) calm-here (m .initial) (facts .initial)
 
     supportU : termSupport (m .input .shape) (m .input .count) (m .input .points) r ≡ supportAt (m .n) (m .input) (at k)
-    supportU = support-stored (m .n) n≤6 (at k) r e (so .stored) calm-here (m .input) (facts .input)
+    supportU = support-stored (m .n) (facts .n-most) (at k) r e (so .stored) calm-here (m .input) (facts .input)
 
     errorsI : termErrors e reachesI ≡ errorAt (m .n) (m .initial) (at k)
-    errorsI = errors-stored (m .n) n≤6 (at k) r e (so .stored) calm-here (m .initial) (facts .initial)
+    errorsI = errors-stored (m .n) (facts .n-most) (at k) r e (so .stored) calm-here (m .initial) (facts .initial)
 
     errorsU : termErrors e reachesU ≡ errorAt (m .n) (m .input) (at k)
-    errorsU = errors-stored (m .n) n≤6 (at k) r e (so .stored) calm-here (m .input) (facts .input)
+    errorsU = errors-stored (m .n) (facts .n-most) (at k) r e (so .stored) calm-here (m .input) (facts .input)
 
     few : k ≤ 256
-    few = le-trans k-inside steps≤256
+    few = le-trans k-inside (facts .steps-most)
 
     pub line-asks : LineAsks (m .initial .shape) (m .initial .count) (m .initial .points) reachesI (m .input .shape) (m .input .count) (m .input .points) reachesU r e inputs errors
     line-asks =
         record {
           counted = facts .initial .counted;
-          tested = tested-stored (m .n) n≤6 (at k) r e (so .stored) calm-here (m .initial) (facts .initial);
-          row = row-stored (m .n) n≤6 (at k) r e (so .stored) calm-here (m .initial) (facts .initial);
-          support-small = subst (λ (z : ℤ). natAbs z ≤ termLimit) (sym supportI) (support-small (m .n) n≤6 (at k) r e (so .stored) calm-here (m .initial) (facts .initial));
+          tested = tested-stored (m .n) (facts .n-most) (at k) r e (so .stored) calm-here (m .initial) (facts .initial);
+          row = row-stored (m .n) (facts .n-most) (at k) r e (so .stored) calm-here (m .initial) (facts .initial);
+          support-small = subst (λ (z : ℤ). natAbs z ≤ termLimit) (sym supportI) (support-small (m .n) (facts .n-most) (at k) r e (so .stored) calm-here (m .initial) (facts .initial));
           counted-input = facts .input .counted;
-          tested-input = tested-stored (m .n) n≤6 (at k) r e (so .stored) calm-here (m .input) (facts .input);
-          row-input = row-stored (m .n) n≤6 (at k) r e (so .stored) calm-here (m .input) (facts .input);
-          support-small-input = subst (λ (z : ℤ). natAbs z ≤ termLimit) (sym supportU) (support-small (m .n) n≤6 (at k) r e (so .stored) calm-here (m .input) (facts .input));
+          tested-input = tested-stored (m .n) (facts .n-most) (at k) r e (so .stored) calm-here (m .input) (facts .input);
+          row-input = row-stored (m .n) (facts .n-most) (at k) r e (so .stored) calm-here (m .input) (facts .input);
+          support-small-input = subst (λ (z : ℤ). natAbs z ≤ termLimit) (sym supportU) (support-small (m .n) (facts .n-most) (at k) r e (so .stored) calm-here (m .input) (facts .input));
           inputs-small = enough (so .inputs-small) few;
           errors-small = enough-errors (so .errors-little) few;
         }
@@ -347,10 +326,10 @@ module _ (m : Model) (facts : ModelFacts m) (d : ℕ) (d-inside : d < m .directi
           line .errors-are ∙ ap₂ _+_ (so .errors-are) errorsU ∙ sym (ap (λ (j : ℕ). sumℕ j (λ i. errorAt (m .n) (m .input) (at i))) (native.Mathlib.Numerals.add-one k) ∙ sumℕ-suc k (λ i. errorAt (m .n) (m .input) (at i)))
 
       errorU-small : errorAt (m .n) (m .input) (at k) ≤ termLimit
-      errorU-small = errors-small (m .n) n≤6 (at k) r e (so .stored) calm-here (m .input) (facts .input)
+      errorU-small = errors-small (m .n) (facts .n-most) (at k) r e (so .stored) calm-here (m .input) (facts .input)
 
       inputs-little : natAbs inputs′ ≤ (k + 1) * (2 * termLimit)
-      inputs-little = subst (λ (z : ℤ). natAbs z ≤ (k + 1) * (2 * termLimit)) (sym (line .inputs-are ∙ ap (λ (z : ℤ). z +ℤ inputs) (ap₂ (λ (z : ℤ) (j : ℕ). z +ℤ pos j) supportU errorsU))) (grown (supportAt (m .n) (m .input) (at k)) (errorAt (m .n) (m .input) (at k)) (support-small (m .n) n≤6 (at k) r e (so .stored) calm-here (m .input) (facts .input)) errorU-small)
+      inputs-little = subst (λ (z : ℤ). natAbs z ≤ (k + 1) * (2 * termLimit)) (sym (line .inputs-are ∙ ap (λ (z : ℤ). z +ℤ inputs) (ap₂ (λ (z : ℤ) (j : ℕ). z +ℤ pos j) supportU errorsU))) (grown (supportAt (m .n) (m .input) (at k)) (errorAt (m .n) (m .input) (at k)) (support-small (m .n) (facts .n-most) (at k) r e (so .stored) calm-here (m .input) (facts .input)) errorU-small)
         where
           grown : (z : ℤ) (j : ℕ) → natAbs z ≤ termLimit → j ≤ termLimit → natAbs ((z +ℤ pos j) +ℤ inputs) ≤ (k + 1) * (2 * termLimit)
           grown z j h l = omega (arith, natAbs-add (z +ℤ pos j) inputs, natAbs-add z (pos j), so .inputs-small)
@@ -364,7 +343,7 @@ module _ (m : Model) (facts : ModelFacts m) (d : ℕ) (d-inside : d < m .directi
       -- the step
       pub step-passes : stepOk (m .n) (m .matrix) r e ≡ true
       step-passes =
-          ap₂ _&&_ (working-passes (m .n) n≤6 (at k) r e (so .stored) (frame .0)) (ap₂ _&&_ (le-leb _ growthLimit (subst (λ (x : ℕ). x ≤ growthLimit) (sym (sum-stored (m .n) n≤6 (at k) r e (so .stored))) calm-here)) (frame .2))
+          ap₂ _&&_ (working-passes (m .n) (facts .n-most) (at k) r e (so .stored) (facts .dimension)) (ap₂ _&&_ (le-leb _ growthLimit (subst (λ (x : ℕ). x ≤ growthLimit) (sym (sum-stored (m .n) (facts .n-most) (at k) r e (so .stored))) calm-here)) (facts .matrix-passes))
 
       stored-next : {a : Stepped} {r′ e′ : List ℤ} → Steps (m .n) (m .matrix) r e a r′ e′ → Stored (m .n) (at (suc k)) r′ e′
       stored-next {a} {r′} {e′} st =
@@ -372,23 +351,23 @@ module _ (m : Model) (facts : ModelFacts m) (d : ℕ) (d-inside : d < m .directi
           (record {
             r-is = st .direction ∙ ap (λ (t : Bool). cond t (steppedR (m .n) (m .matrix) r) r) step-passes ∙ tabulate-cong 6 (λ i h. ap (λ (z : ℤ). Rattle.integers.specs.Whole.floorDiv z matrixUnit) (column i));
             e-is = st .errors ∙ ap (λ (t : Bool). cond t (steppedE (m .n) (m .matrix) r e) e) step-passes ∙ tabulate-cong 6 (λ i h. ap₂ (λ (j : ℕ) (z : ℤ). pos (ceilDivℕ j matrixUnit + fraction z matrixUnit)) (error-column i) (column i));
-            r-zero = λ i l h. ap (λ (z : ℤ). Rattle.integers.specs.Whole.floorDiv z matrixUnit) (nextR-beyond (m .n) n≤6 (m .matrix) matrix-outside (at k .r) i l h);
-            e-zero = λ i l h. nextE-beyond (m .n) n≤6 (m .matrix) matrix-outside (at k .r) (at k .e) i l h;
+            r-zero = λ i l h. ap (λ (z : ℤ). Rattle.integers.specs.Whole.floorDiv z matrixUnit) (nextR-beyond (m .n) (facts .n-most) (m .matrix) (facts .matrix-outside) (at k .r) i l h);
+            e-zero = λ i l h. nextE-beyond (m .n) (facts .n-most) (m .matrix) (facts .matrix-outside) (at k .r) (at k .e) i l h;
           })
         where
           below : {p : ℕ} → p < m .n → p < 6
-          below h = lt-of-lt-of-le h n≤6
+          below h = lt-of-lt-of-le h (facts .n-most)
 
           column : (i : ℕ) → Rattle.integers.specs.Sums.transposed (m .n) (matrix (m .matrix)) (vector r) i ≡ Rattle.integers.specs.Sums.transposed (m .n) (matrix (m .matrix)) (at k .r) i
-          column i = sum-cong (m .n) (λ p h. ap (λ (z : ℤ). matrix (m .matrix) p i *ℤ z) (r-at (m .n) n≤6 (at k) r e (so .stored) p (below h)))
+          column i = sum-cong (m .n) (λ p h. ap (λ (z : ℤ). matrix (m .matrix) p i *ℤ z) (r-at (m .n) (facts .n-most) (at k) r e (so .stored) p (below h)))
 
           error-column : (i : ℕ) → errorSum (m .n) (matrix (m .matrix)) (magnitudes e) i ≡ errorSum (m .n) (matrix (m .matrix)) (at k .e) i
-          error-column i = sumℕ-cong (m .n) (λ p h. ap (λ (j : ℕ). natAbs (matrix (m .matrix) p i) * j) (e-at (m .n) n≤6 (at k) r e (so .stored) p (below h)))
+          error-column i = sumℕ-cong (m .n) (λ p h. ap (λ (j : ℕ). natAbs (matrix (m .matrix) p i) * j) (e-at (m .n) (facts .n-most) (at k) r e (so .stored) p (below h)))
 
       sum-next : {a : Stepped} {r′ e′ : List ℤ} → Steps (m .n) (m .matrix) r e a r′ e′ → sumOf a ≡ sumAt m d (k + 1)
       sum-next {a} {r′} {e′} st =
           ap sumOf (st .answer ∙ ap (λ (t : Bool). cond t (Sum (growthSum (m .n) (vector r′) (magnitudes e′))) Refused) step-passes)
-          ∙ sum-stored (m .n) n≤6 (at (suc k)) r′ e′ (stored-next st)
+          ∙ sum-stored (m .n) (facts .n-most) (at (suc k)) r′ e′ (stored-next st)
           ∙ ap (sumAt m d) (sym (native.Mathlib.Numerals.add-one k))
 
       pub turn : 257 ≡ length b₀ → 257 ≡ length s₀ → {a : Stepped} {r′ e′ : List ℤ} → Steps 6 (m .matrix) r e a r′ e′ → So m d b₀ s₀ r′ e′ (lib.ListN.set b k bv) (lib.ListN.set s k sv) (sumOf a) (max most sm) inputs′ errors′ (k + 1)

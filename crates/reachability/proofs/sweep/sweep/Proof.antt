@@ -13,8 +13,7 @@ use Rattle.reachability.specs.Answers.{sweepAnswer}
 use Rattle.reachability.specs.declared.model.Model.{Model}
 use Rattle.reachability.specs.declared.sweep.Swept.{Swept}
 use Rattle.reachability.specs.declared.sweep.Swept.the-variants.{Spare, Invalid, NoDirection, WrongLength, Growth}
-use Rattle.reachability.proofs.AccuracyRule.{ModelFacts, model-facts}
-use Rattle.reachability.proofs.Turns.{steps≤256}
+use Rattle.reachability.proofs.model.Facts.{ModelFacts, model-facts}
 use Rattle.reachability.proofs.SweepAnswers.{answer-invalid, answer-no-direction, answer-wrong-bounds, answer-wrong-slacks, answer-finished, refuses, grown-only, largest-only, largest-most, largest-least, sweeps}
 use Rattle.reachability.proofs.sweep.sweep.Statement.{statement}
 use Rattle.reachability.proofs.sweep.sweep.Tie as tie
@@ -56,7 +55,7 @@ add-size : tie.Need-add-size
 add-size c =
     let at-direction = c .before in
     let b = at-direction .before .before in
-    omega (arith, steps≤256 (m b) (facts b) (d b) (at-direction .if2 .left))
+    omega (arith, facts b .steps-most)
 
 returns-3 : tie.Need-returns-3
 returns-3 c =
@@ -106,7 +105,7 @@ enum-known-sum c = search needs
 
 -- a list is at most as long as a row
 short : (c : tie.Else4) → m (at c) .steps + 1 ≤ 257
-short c = omega (arith, steps≤256 (m (at c)) (facts (at c)) (d (at c)) (inside c))
+short c = omega (arith, facts (at c) .steps-most)
 
 copy-requires : tie.Need-copy-requires
 copy-requires c κs =

@@ -11,7 +11,7 @@ use Rattle.arrays.proofs.Laws.{and-true}
 use Rattle.reachability.specs.Limits.{someNonzero}
 use Rattle.stepping.specs.Recurrence.{firstR}
 use Rattle.reachability.specs.declared.model.Model.{Model}
-use Rattle.reachability.proofs.AccuracyRule.{ModelFacts, model-facts}
+use Rattle.reachability.proofs.model.Facts.{ModelFacts, model-facts}
 use Rattle.reachability.proofs.sweep.rows.fill.Statement.{statement}
 use Rattle.reachability.proofs.sweep.rows.fill.Tie as tie
 
@@ -29,16 +29,10 @@ reaches-of-requires-2 c κs =
     (f .input .counted, f .input .reach-small)
 
 -- the rest of the test of the directions
-abbrev directionsRest : Model → Bool
-directionsRest m = zeroOutside (m .directions) (m .n) (m .entries) && (allBetween (negsuc 999) (pos 1000) (m .entries) && someNonzero (m .directions) (m .entries))
-
-few : (m : Model) → ModelFacts m → m .directions ≤ 16
-few m f = leb-true (m .directions) 16 (and-true (leb 1 (m .directions)) (leb (m .directions) 16) (and-true (leb 1 (m .directions) && leb (m .directions) 16) (directionsRest m) (f .directions) .0) .1)
-
 row-requires : tie.Need-row-requires
 row-requires c κs =
     let start = c .before .before .before .before .before .before .before .before .before .before .before in
-    native.Mathlib.Nat.lt-of-lt-of-le (start .pre .inside) (few (start .args .model) (facts start))
+    native.Mathlib.Nat.lt-of-lt-of-le (start .pre .inside) (facts start .directions-most)
 
 first-requires : tie.Need-first-requires
 first-requires c κs = search needs

@@ -9,8 +9,8 @@ use Rattle.stepping.specs.declared.Stepped.{Stepped}
 use Rattle.reachability.specs.Filling.{LineAsks, LineGives, Prepared, Askable, sumOf}
 use Rattle.reachability.specs.declared.sets.Shape.{Shape}
 use Rattle.reachability.specs.declared.model.Model.{Model}
-use Rattle.reachability.proofs.AccuracyRule.{ModelFacts, model-facts}
-use Rattle.reachability.proofs.Turns.{So, Stored, workingAt, starts, stored-first, growth-is, line-asks, turn, grown-fills, whole-fills, steps≤256, prepared-own}
+use Rattle.reachability.proofs.model.Facts.{ModelFacts, model-facts}
+use Rattle.reachability.proofs.Turns.{So, Stored, workingAt, starts, stored-first, growth-is, line-asks, turn, grown-fills, whole-fills, prepared-own}
 use Rattle.reachability.proofs.sweep.rows.fill_rows.Statement.{statement}
 use Rattle.reachability.proofs.sweep.rows.fill_rows.Tie as tie
 
@@ -71,7 +71,7 @@ few : (c : tie.Then1 Inv-loop μ-loop) → c .before .before .loop .k ≤ 256
 few c =
     let at-loop = c .before .before in
     let start = at-loop .before .before .before .before .before in
-    native.Mathlib.Nat.le-trans (c .if1 .taken) (steps≤256 (m start) (facts start) (d start) (d-inside start))
+    native.Mathlib.Nat.le-trans (c .if1 .taken) (facts start .steps-most)
 
 mul-bound : tie.Need-mul-bound Inv-loop μ-loop
 mul-bound c = omega (arith, few (c .before .before .before .before .before))

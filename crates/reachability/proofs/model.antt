@@ -1,0 +1,2 @@
+-- Laws of models.
+pub mod Facts
