@@ -12,7 +12,7 @@ from tryedits import Edit, Result
 
 WHERE = "/tmp/edits-x/target/must-fail/c/n"
 
-DIFFERS = f"""{WHERE}/proofs/sets/fraction/Proof.antt:41:10: error: `returns-4`: as printed, the types
+DIFFERS = f"""{WHERE}/proofs/sets/fraction/Proof.antt:41:10: error: `returns-4`: the two types
   first differ where one has `fraction (c .x)` (expected), and the other has `cond` (found)
   as far as they go, the two types differ only where one has `0` (expected) and the other has `1`
   (found)
