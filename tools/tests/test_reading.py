@@ -7,7 +7,6 @@ of tests alone: elsewhere they are code or what a program prints. So are plain w
 """
 
 import re
-import tempfile
 import unittest
 from dataclasses import dataclass
 from pathlib import Path
@@ -149,13 +148,11 @@ FILES = {
 }
 
 
-class Missing(unittest.TestCase):
+class Missing(helpers.TreeTest):
     def test_what_is_not_there_is_told(self):
-        with tempfile.TemporaryDirectory() as name:
-            for path, text in FILES.items():
-                (Path(name) / path).parent.mkdir(parents=True, exist_ok=True)
-                (Path(name) / path).write_text(text, encoding="utf-8")
-            told = [one.rpartition(": ")[2].strip("`") for one in missing(Path(name), TEXT)]
+        for name, text in FILES.items():
+            self.write(name, text)
+        told = [one.rpartition(": ")[2].strip("`") for one in missing(self.root, TEXT)]
         expected = ["Gone.antt", "gone-law", ".gone", "proofs/gone", "no_sum", "test_two"]
         self.assertEqual(told, expected + ["gone", "gone-le", "gone_edit", "case 5"])
 

@@ -1,10 +1,8 @@
 """Edits fit their files, and what the prover said of one is read as it should be."""
 
-import tempfile
 import unittest
-from pathlib import Path
 
-import helpers  # noqa: F401
+import helpers
 
 import files
 import tryedits
@@ -70,19 +68,12 @@ class Reasons(unittest.TestCase):
         self.assertLess(len(self.why(log)[1]), 250)
 
 
-class Trees(unittest.TestCase):
+class Trees(helpers.TreeTest):
     def setUp(self):
-        folder = tempfile.TemporaryDirectory()
-        self.addCleanup(folder.cleanup)
-        self.root = Path(folder.name)
+        super().setUp()
         self.write("crates.txt", "# from the bottom up\nb: # first\na: b\n")
         self.write("crates/a/src/lib.rt", "one two\ntwo three\n")
         self.write("crates/a/must-fail/gate.edit", "file: src/lib.rt\nold: one two\nnew: two two\n")
-
-    def write(self, name, text):
-        path = self.root / name
-        path.parent.mkdir(parents=True, exist_ok=True)
-        path.write_text(text, encoding="utf-8")
 
     def edit(self, text):
         self.write("edits/a/e.edit", text)

@@ -1,8 +1,6 @@
 """Unused imports and names that nothing cites are told, and nothing that is used."""
 
-import tempfile
 import unittest
-from pathlib import Path
 
 import helpers
 
@@ -78,20 +76,13 @@ fn f(word: u8) -> Stepped
 """
 
 
-class Trees(unittest.TestCase):
+class Trees(helpers.TreeTest):
     def setUp(self):
-        folder = tempfile.TemporaryDirectory()
-        self.addCleanup(folder.cleanup)
-        self.root = Path(folder.name)
+        super().setUp()
         self.write("crates/c/specs/Numbers.antt", SPECS)
         self.write("crates/c/proofs/Laws.antt", LAWS)
         self.write("crates/c/proofs/f/Proof.antt", PROOF)
         self.write("crates/c/src/lib.rt", CODE)
-
-    def write(self, name, text):
-        path = self.root / name
-        path.parent.mkdir(parents=True, exist_ok=True)
-        path.write_text(text, encoding="utf-8")
 
     def found(self, name):
         """What is told of a file: (row, words)."""
