@@ -24,18 +24,19 @@ def single(entry, initial, input_, direction, steps, guards=()):
     return Model(1, steps, ((entry,),), box(initial), box(input_), ((direction,),), levels)
 
 
-class TreeTest(unittest.TestCase):
-    """Tests in a folder of their own, `root`."""
+class FolderTest(unittest.TestCase):
+    """Tests in a folder of their own."""
 
     def setUp(self):
         folder = tempfile.TemporaryDirectory()
         self.addCleanup(folder.cleanup)
-        self.root = Path(folder.name)
+        self.folder = Path(folder.name)
 
     def write(self, name, text):
-        path = self.root / name
+        path = self.folder / name
         path.parent.mkdir(parents=True, exist_ok=True)
         path.write_text(text, encoding="utf-8")
+        return path
 
 
 def run_tool(name, *arguments, stdin=b"", cwd=None):

@@ -56,7 +56,7 @@ class Things:
     """What there is in a repository that may be cited."""
 
     def __init__(self, root):
-        self.root = root
+        self.folder = root
         self.crates = tryedits.crates(root)
         self.edits = {(one.crate, one.name) for one in tryedits.edits_of(root, gate=True)}
         antt = [path.read_text(encoding="utf-8") for path in root.glob("crates/*/*/**/*.antt")]
@@ -91,7 +91,7 @@ class Things:
         """A path from the top, from crates/ or from a crate; a file alone anywhere in a crate."""
         places = (text, f"crates/{text}", f"crates/*/{text}", f"tools/tests/{text}")
         alone = () if "/" in text else (f"crates/*/specs/**/{text}", f"crates/*/proofs/**/{text}")
-        return any(any(self.root.glob(place.rstrip("/"))) for place in (*places, *alone))
+        return any(any(self.folder.glob(place.rstrip("/"))) for place in (*places, *alone))
 
     def has_name(self, text):
         """A name, or names with a field or member behind them: `Accurate .bounds`, `a::b`."""
@@ -148,11 +148,11 @@ FILES = {
 }
 
 
-class Missing(helpers.TreeTest):
+class Missing(helpers.FolderTest):
     def test_what_is_not_there_is_told(self):
         for name, text in FILES.items():
             self.write(name, text)
-        told = [one.rpartition(": ")[2].strip("`") for one in missing(self.root, TEXT)]
+        told = [one.rpartition(": ")[2].strip("`") for one in missing(self.folder, TEXT)]
         expected = ["Gone.antt", "gone-law", ".gone", "proofs/gone", "no_sum", "test_two"]
         self.assertEqual(told, expected + ["gone", "gone-le", "gone_edit", "case 5"])
 

@@ -68,7 +68,7 @@ class Reasons(unittest.TestCase):
         self.assertLess(len(self.why(log)[1]), 250)
 
 
-class Trees(helpers.TreeTest):
+class Trees(helpers.FolderTest):
     def setUp(self):
         super().setUp()
         self.write("crates.txt", "# from the bottom up\nb: # first\na: b\n")
@@ -77,10 +77,10 @@ class Trees(helpers.TreeTest):
 
     def edit(self, text):
         self.write("edits/a/e.edit", text)
-        return Edit("a", "e", self.root / "edits/a/e.edit")
+        return Edit("a", "e", self.folder / "edits/a/e.edit")
 
     def names(self, gate=False, words=()):
-        edits = tryedits.edits_of(self.root, gate)
+        edits = tryedits.edits_of(self.folder, gate)
         return [str(edit) for edit in tryedits.chosen(edits, list(words))]
 
     def test_which_edits(self):
@@ -106,9 +106,9 @@ class Trees(helpers.TreeTest):
 
     def test_fits(self):
         fit = "# why\nfile: src/lib.rt\nold: one\nnew: two\n"
-        self.assertIsNone(tryedits.misfit(self.root, self.edit(fit)))
+        self.assertIsNone(tryedits.misfit(self.folder, self.edit(fit)))
         both = fit + "old: three\nnew:\n"
-        self.assertIsNone(tryedits.misfit(self.root, self.edit(both)))
+        self.assertIsNone(tryedits.misfit(self.folder, self.edit(both)))
 
     def test_misfits(self):
         twice, none = (f"its `old:` stands {count} times in src/lib.rt" for count in (2, 0))
@@ -122,13 +122,13 @@ class Trees(helpers.TreeTest):
             "file: src/lib.rt\nold: one\nnew: four\nold: one\nnew: a\n": none,
         }
         for text, reason in wrong.items():
-            self.assertEqual(tryedits.misfit(self.root, self.edit(text)), reason, text)
+            self.assertEqual(tryedits.misfit(self.folder, self.edit(text)), reason, text)
 
     def test_results(self):
         names = ("good", "shape", "kept", "bad", "lost")
-        edits = [Edit("a", name, self.root / name) for name in names]
+        edits = [Edit("a", name, self.folder / name) for name in names]
         for name, log in (("good", LAW), ("shape", NO_NEED)):
-            self.write(f"target/must-fail/a/{name}/.log", log.replace(WHERE, str(self.root)))
+            self.write(f"target/must-fail/a/{name}/.log", log.replace(WHERE, str(self.folder)))
         rows = [
             "rt: b proved (unchanged since it was last proved)",
             "rt: must-fail a/good: refused, as it must be (first at proofs/Laws.antt:53:72; 7 s)",
@@ -136,8 +136,8 @@ class Trees(helpers.TreeTest):
             "rt: must-fail a/kept: NOT REFUSED: the crate is still proved with this edit (9 s)",
             "rt: must-fail a/bad: BAD EDIT: an 'old:' text is not in src/lib.rt",
         ]
-        logs = self.root / "logs"
-        found = list(tryedits.results(rows, edits, self.root, logs))
+        logs = self.folder / "logs"
+        found = list(tryedits.results(rows, edits, self.folder, logs))
         verdicts = [(one.edit.name, one.verdict, one.seconds) for one in found]
         expected = [
             ("good", "refused", "7"),
@@ -152,11 +152,11 @@ class Trees(helpers.TreeTest):
 
     def test_a_crate_that_is_not_proved(self):
         rows = ["rt: a NOT PROVED (3 s)\n"]
-        found = list(tryedits.results(rows, [Edit("a", "e", self.root)], self.root, self.root))
+        found = list(tryedits.results(rows, [Edit("a", "e", self.folder)], self.folder, self.folder))
         self.assertEqual([one.why for one in found], ["a NOT PROVED (3 s)"])
 
     def test_a_row_of_the_table(self):
-        result = Result(Edit("a", "e", self.root), "refused", "7", "why")
+        result = Result(Edit("a", "e", self.folder), "refused", "7", "why")
         self.assertEqual(tryedits.told(result).split(), ["a", "e", "refused", "7", "why"])
 
 

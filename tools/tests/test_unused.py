@@ -76,7 +76,7 @@ fn f(word: u8) -> Stepped
 """
 
 
-class Trees(helpers.TreeTest):
+class Trees(helpers.FolderTest):
     def setUp(self):
         super().setUp()
         self.write("crates/c/specs/Numbers.antt", SPECS)
@@ -86,13 +86,13 @@ class Trees(helpers.TreeTest):
 
     def found(self, name):
         """What is told of a file: (row, words)."""
-        return [(one.row, one.what) for one in unused.findings(self.root) if one.path == name]
+        return [(one.row, one.what) for one in unused.findings(self.folder) if one.path == name]
 
     def imports_of(self, name):
         return [what.split()[-1] for row, what in self.found(name) if "import" in what]
 
     def uncited(self):
-        told = [one.what for one in unused.findings(self.root)]
+        told = [one.what for one in unused.findings(self.folder)]
         return {what.split()[-1] for what in told if "nothing cites" in what}
 
     def test_imports_of_specs(self):
@@ -142,7 +142,7 @@ class Trees(helpers.TreeTest):
     def test_listed_without_reason(self):
         self.write("tools/unused.txt", "alone\n")
         with self.assertRaisesRegex(files.Failure, "tools/unused.txt:1: expected NAME: REASON"):
-            unused.findings(self.root)
+            unused.findings(self.folder)
 
     def test_by_whole_path_and_passed_on(self):
         """A law counts as cited by its path, and through a module that passes it on."""
@@ -153,28 +153,28 @@ class Trees(helpers.TreeTest):
         self.assertEqual(self.uncited(), {"more-of"})
 
     def test_fix(self):
-        self.assertEqual(unused.fix(self.root), 10)
-        self.assertEqual([one for one in unused.findings(self.root) if "import" in one.what], [])
-        code = (self.root / "crates/c/src/lib.rt").read_text(encoding="utf-8")
+        self.assertEqual(unused.fix(self.folder), 10)
+        self.assertEqual([one for one in unused.findings(self.folder) if "import" in one.what], [])
+        code = (self.folder / "crates/c/src/lib.rt").read_text(encoding="utf-8")
         start = "use crate::text::{word};\npub use crate::text::end;\n"
         start += "ghost use Rattle.c.specs.Numbers.{Pair};\n\n// put"
         self.assertTrue(code.startswith(start), code)
-        laws = (self.root / "crates/c/proofs/Laws.antt").read_text(encoding="utf-8")
+        laws = (self.folder / "crates/c/proofs/Laws.antt").read_text(encoding="utf-8")
         start = "use mathlib.Core.Path.{_≡_, refl, ap as again}\nuse Prim.Native.Nat.{ℕ}\n"
         start += "use Rattle.c.specs.Numbers.{double}\n"
         start += "use Rattle.c.proofs.f.Tie as tie\n\npub double-one"
         self.assertTrue(laws.startswith(start), laws)
         self.assertEqual(laws.partition("\n\n")[2], LAWS.partition("\n\n")[2])
-        self.assertEqual(unused.fix(self.root), 0)
+        self.assertEqual(unused.fix(self.folder), 0)
 
     def test_status(self):
-        out, _, status = helpers.run_tool("unused.py", "--root", self.root)
+        out, _, status = helpers.run_tool("unused.py", "--root", self.folder)
         self.assertEqual(status, 1)
         self.assertIn("crates/c/src/lib.rt:1: unused import put\n", out.decode())
         self.write("tools/unused.txt", "more-of: meant for users\n")
         for name in ("proofs/Laws.antt", "proofs/f/Proof.antt"):
-            (self.root / "crates/c" / name).unlink()
-        out, _, status = helpers.run_tool("unused.py", "--fix", "--root", self.root)
+            (self.folder / "crates/c" / name).unlink()
+        out, _, status = helpers.run_tool("unused.py", "--fix", "--root", self.folder)
         self.assertEqual((out.decode().splitlines()[-1], status), ("nothing is unused", 0))
 
 
