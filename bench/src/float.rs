@@ -1,29 +1,27 @@
 //! The recurrence of document 01 in f64 and without error terms: what a program gives that only estimates. Its bounds are not safe.
+//! It takes boxes and vertex lists.
 
-use crate::models::{Model, Set};
+use support::document::{Form, Model, Set};
 
 fn support(set: &Set, r: &[f64; 6]) -> f64 {
-    match set {
-        Set::Box { lower, upper } => {
-            let mut sum = 0.0;
-            for i in 0..6 {
-                let corner = if r[i] > 0.0 { upper[i] } else { lower[i] };
-                sum += r[i] * f64::from(corner);
-            }
-            sum
+    if set.form == Form::Box {
+        let (lower, upper) = (&set.points[0], &set.points[1]);
+        let mut sum = 0.0;
+        for i in 0..6 {
+            let corner = if r[i] > 0.0 { upper[i] } else { lower[i] };
+            sum += r[i] * f64::from(corner);
         }
-        Set::Vertices(vertices) => {
-            let mut largest = f64::NEG_INFINITY;
-            for vertex in vertices {
-                let mut sum = 0.0;
-                for i in 0..6 {
-                    sum += r[i] * f64::from(vertex[i]);
-                }
-                largest = largest.max(sum);
-            }
-            largest
-        }
+        return sum;
     }
+    let mut largest = f64::NEG_INFINITY;
+    for vertex in &set.points {
+        let mut sum = 0.0;
+        for i in 0..6 {
+            sum += r[i] * f64::from(vertex[i]);
+        }
+        largest = largest.max(sum);
+    }
+    largest
 }
 
 /// Estimates of a direction's largest value for steps 0 to K.

@@ -12,11 +12,13 @@ mod plain;
 mod tuned;
 
 use clock::{measure, Contender, Times};
-use models::{calm, file, Model, Sets};
-use pepperscarp::{judge, list_length, Refusal, Verdict, LISTING_ROOM};
-use std::fmt::Write;
+use models::{calm, wordy, Sets};
+use pepperscarp::{Refusal, LISTING_ROOM};
 use std::hint::black_box;
 use std::process::exit;
+use support::document::Model;
+use support::records::{file, of_model};
+use support::{calls, listing};
 
 const SEED: u64 = 20_260_701;
 const ROUNDS: usize = 600;
@@ -32,7 +34,7 @@ struct Subject {
 impl Subject {
     fn new(n: usize, steps: usize, sets: Sets, directions: usize) -> Subject {
         let model = calm(SEED, n, steps, sets, directions);
-        let bytes = file(&model, &[]);
+        let bytes = file(&of_model(&model));
         Subject { model, bytes, bounds: vec![0; steps + 1], slacks: vec![0; steps + 1] }
     }
 
@@ -46,12 +48,12 @@ impl Subject {
         pepperscarp::sweep(black_box(&self.bytes), black_box(direction), &mut self.bounds[1..], &mut self.slacks)
     }
 
-    fn plain(&mut self, direction: usize) -> Result<u32, plain::Refusal> {
+    fn plain(&mut self, direction: usize) -> Result<u32, Refusal> {
         plain::sweep(black_box(&self.model), black_box(direction), &mut self.bounds, &mut self.slacks)
     }
 
     /// Laying out the model is a part of it.
-    fn tuned(&mut self, direction: usize) -> Result<u32, plain::Refusal> {
+    fn tuned(&mut self, direction: usize) -> Result<u32, Refusal> {
         let laid = tuned::lay(black_box(&self.model));
         tuned::sweep(&laid, black_box(direction), &mut self.bounds, &mut self.slacks)
     }
@@ -76,7 +78,7 @@ fn main() {
         ["count", who, sets, times] => count(who, sets, times),
         ["file", path] => std::fs::write(path, largest()).unwrap_or_else(|error| fail(&format!("{path}: {error}"))),
         ["listing", path] => match std::fs::read(path) {
-            Ok(bytes) => print!("{}", listing(&bytes)),
+            Ok(bytes) => print!("{}", listing::text(calls::listing(&bytes))),
             Err(error) => fail(&format!("{path}: {error}")),
         },
         _ => fail("usage: bench [count WHO SETS TIMES | file PATH | listing PATH]"),
@@ -281,7 +283,7 @@ fn growth_with_directions() {
 fn listing_times() {
     let bytes = largest();
     let mut out = vec![0; LISTING_ROOM];
-    let text = listing(&bytes);
+    let text = listing::text(calls::listing(&bytes));
     if pepperscarp::listing(&bytes, &mut out) != Some(text.as_bytes()) {
         fail("the listing isn't what the calls give");
     }
@@ -292,7 +294,11 @@ fn listing_times() {
             units: 1,
             turn: Box::new(move || spend(pepperscarp::listing(black_box(&bytes), &mut out).map(<[u8]>::len))),
         },
-        Contender { name: "Rust that calls and formats", units: 1, turn: Box::new(move || spend(listing(black_box(&copy)))) },
+        Contender {
+            name: "Rust that calls and formats",
+            units: 1,
+            turn: Box::new(move || spend(listing::text(calls::listing(black_box(&copy))))),
+        },
     ];
     println!("## The largest listing, {} bytes, in one process\n", text.len());
     println!("| | µs, median | quartiles |\n|---|---|---|");
@@ -331,48 +337,7 @@ fn count(who: &str, sets: &str, times: &str) {
 
 // The largest listing.
 
-/// The file of the model with the largest listing, with 16 guards.
+/// The file of the model with the largest listing.
 fn largest() -> Vec<u8> {
-    let guards: Vec<(u8, i64)> = (0..16).map(|k| (k, -100_000_000_000 * i64::from(k))).collect();
-    file(&models::wordy(SEED), &guards)
-}
-
-/// The listing of a file, as document 01 shows it, from the calls alone.
-fn listing(bytes: &[u8]) -> String {
-    let length = list_length(bytes).unwrap_or(0);
-    let (mut bounds, mut slacks) = (vec![0; length], vec![0; length]);
-    let mut text = String::new();
-    let mut put = |row: String| writeln!(text, "{row}").expect("a string takes it");
-    for direction in 0.. {
-        match pepperscarp::sweep(bytes, direction, &mut bounds, &mut slacks) {
-            Err(Refusal::File { number, offset }) => {
-                put(format!("refused {number} at {offset}"));
-                return text;
-            }
-            Err(Refusal::NoSuchNumber) => break,
-            answer => {
-                if direction == 0 {
-                    put(format!("model {} {}", bytes[1], length - 1));
-                }
-                match answer {
-                    Ok(spare) => {
-                        put(format!("dir {direction} spare {spare}"));
-                        (0..length).for_each(|k| put(format!("{k} {} {}", bounds[k], slacks[k])));
-                    }
-                    Err(Refusal::Growth(step)) => put(format!("dir {direction} growth {step}")),
-                    Err(refusal) => fail(&refusal.to_string()),
-                }
-            }
-        }
-    }
-    for guard in 0.. {
-        match judge(bytes, guard, &mut bounds, &mut slacks) {
-            Ok(Verdict::Hit(step)) => put(format!("guard {guard} HIT {step}")),
-            Ok(Verdict::Unknown(step)) => put(format!("guard {guard} UNKNOWN {step}")),
-            Ok(Verdict::Clear) => put(format!("guard {guard} CLEAR")),
-            Err(Refusal::Growth(step)) => put(format!("guard {guard} GROWTH {step}")),
-            Err(_) => break,
-        }
-    }
-    text
+    file(&of_model(&wordy(SEED)))
 }

@@ -1,22 +1,6 @@
-//! The models that are measured, as a value and as the bytes of a file.
+//! The models that are measured.
 
-/// A set of document 01. The measured models have boxes and vertex lists.
-#[derive(Clone, Debug)]
-pub enum Set {
-    Box { lower: [i32; 6], upper: [i32; 6] },
-    Vertices(Vec<[i32; 6]>),
-}
-
-/// A model of document 01, without guards. What lies beyond n is zero.
-#[derive(Clone, Debug)]
-pub struct Model {
-    pub n: usize,
-    pub steps: usize,
-    pub matrix: [[i32; 6]; 6],
-    pub initial: Set,
-    pub input: Set,
-    pub directions: Vec<[i32; 6]>,
-}
+use support::document::{Form, Model, Set, Six};
 
 /// Which sets a measured model has.
 #[derive(Clone, Copy, PartialEq, Eq, Debug)]
@@ -55,7 +39,7 @@ impl Random {
         (i64::from(low) + ((self.next() >> 16) % width) as i64) as i32
     }
 
-    fn point(&mut self, n: usize, low: i32, high: i32) -> [i32; 6] {
+    fn point(&mut self, n: usize, low: i32, high: i32) -> Six {
         let mut point = [0; 6];
         for coordinate in point.iter_mut().take(n) {
             *coordinate = self.between(low, high);
@@ -63,10 +47,14 @@ impl Random {
         point
     }
 
+    fn vertices(&mut self, n: usize, low: i32, high: i32) -> Set {
+        Set { form: Form::Vertices, points: (0..16).map(|_| self.point(n, low, high)).collect() }
+    }
+
     fn set(&mut self, n: usize, sets: Sets, size: i32) -> Set {
         match sets {
-            Sets::Boxes => Set::Box { lower: self.point(n, -size, 0), upper: self.point(n, 1, size) },
-            Sets::Vertices => Set::Vertices((0..16).map(|_| self.point(n, -size, size)).collect()),
+            Sets::Boxes => Set { form: Form::Box, points: vec![self.point(n, -size, 0), self.point(n, 1, size)] },
+            Sets::Vertices => self.vertices(n, -size, size),
         }
     }
 }
@@ -90,10 +78,10 @@ pub fn calm(seed: u64, n: usize, steps: usize, sets: Sets, directions: usize) ->
             direction
         })
         .collect();
-    Model { n, steps, matrix, initial, input, directions }
+    Model { n, steps, matrix, initial, input, directions, guards: Vec::new() }
 }
 
-/// A model with about the largest listing there is: 16 directions, 256 steps, long negative bounds and long slacks.
+/// A model with about the largest listing there is: 16 directions and guards, 256 steps, long negative bounds and long slacks.
 pub fn wordy(seed: u64) -> Model {
     let mut random = Random::new(seed);
     let mut matrix = [[0; 6]; 6];
@@ -102,53 +90,9 @@ pub fn wordy(seed: u64) -> Model {
             *entry = if column == row { random.between(65_480, 65_500) } else { random.between(0, 5) };
         }
     }
-    let mut far = || Set::Vertices((0..16).map(|_| random.point(6, -1_048_576, -1_040_000)).collect());
+    let mut far = || random.vertices(6, -1_048_576, -1_040_000);
     let (initial, input) = (far(), far());
     let directions = (0..16).map(|_| random.point(6, 900, 1_000)).collect();
-    Model { n: 6, steps: 256, matrix, initial, input, directions }
-}
-
-fn six(bytes: &mut Vec<u8>, numbers: &[i32; 6]) {
-    for number in numbers {
-        bytes.extend_from_slice(&number.to_le_bytes());
-    }
-}
-
-fn points(bytes: &mut Vec<u8>, family: u8, set: &Set) {
-    match set {
-        Set::Box { lower, upper } => {
-            bytes.push(family);
-            six(bytes, lower);
-            bytes.push(family + 1);
-            six(bytes, upper);
-        }
-        Set::Vertices(vertices) => {
-            for vertex in vertices {
-                bytes.push(family + 4);
-                six(bytes, vertex);
-            }
-        }
-    }
-}
-
-/// The bytes of the model's file, as document 01, "The file", says. `guards` are pairs of a direction's number and a level.
-pub fn file(model: &Model, guards: &[(u8, i64)]) -> Vec<u8> {
-    let mut bytes = vec![0x01, model.n as u8];
-    bytes.extend_from_slice(&(model.steps as u16).to_le_bytes());
-    for (number, row) in model.matrix.iter().enumerate().take(model.n) {
-        bytes.extend_from_slice(&[0x02, number as u8]);
-        six(&mut bytes, row);
-    }
-    points(&mut bytes, 0x10, &model.initial);
-    points(&mut bytes, 0x20, &model.input);
-    for direction in &model.directions {
-        bytes.push(0x30);
-        six(&mut bytes, direction);
-    }
-    for (direction, level) in guards {
-        bytes.extend_from_slice(&[0x40, *direction]);
-        bytes.extend_from_slice(&level.to_le_bytes());
-    }
-    bytes.push(0xFF);
-    bytes
+    let guards = (0..16).map(|k| (k, -100_000_000_000 * k as i64)).collect();
+    Model { n: 6, steps: 256, matrix, initial, input, directions, guards }
 }

@@ -1,8 +1,9 @@
 //! Tuned Rust of the recurrence of document 01, for speed alone: flat arrays by reference, every loop to the constant 6, magnitudes
-//! and reaches taken once for a sweep, no test inside a step but that of growth. It is made for a model that has been tested.
+//! and reaches taken once for a sweep, no test inside a step but that of growth. It is made for a model that has been
+//! tested, with boxes or vertex lists.
 
-use crate::models::{Model, Set};
-use crate::plain::Refusal;
+use pepperscarp::Refusal;
+use support::document::{Form, Model, Set};
 
 const GROWTH_LIMIT: u64 = 1_073_741_824;
 
@@ -25,22 +26,13 @@ struct Points {
 }
 
 fn lay_set(set: &Set) -> Points {
-    let mut laid = Points { is_box: false, count: 0, points: [0; 96], reach: [0; 6] };
-    let mut put = |point: &[i32; 6]| {
+    let mut laid = Points { is_box: set.form == Form::Box, count: set.points.len(), points: [0; 96], reach: [0; 6] };
+    for (k, point) in set.points.iter().enumerate() {
         for i in 0..6 {
-            laid.points[6 * laid.count + i] = point[i];
+            laid.points[6 * k + i] = point[i];
             laid.reach[i] = laid.reach[i].max(u64::from(point[i].unsigned_abs()));
         }
-        laid.count += 1;
-    };
-    match set {
-        Set::Box { lower, upper } => {
-            put(lower);
-            put(upper);
-        }
-        Set::Vertices(vertices) => vertices.iter().for_each(&mut put),
     }
-    laid.is_box = matches!(set, Set::Box { .. });
     laid
 }
 
@@ -122,7 +114,7 @@ fn step(laid: &Laid, r: &mut [i64; 6], e: &mut [u64; 6]) {
 /// Bounds and slacks of a direction for steps 0 to K, and the spare figure. On a refusal both lists keep every element.
 pub fn sweep(laid: &Laid, direction: usize, bounds: &mut [i64], slacks: &mut [i64]) -> Result<u32, Refusal> {
     if direction >= laid.count {
-        return Err(Refusal::NoDirection);
+        return Err(Refusal::NoSuchNumber);
     }
     let size = laid.steps + 1;
     if bounds.len() != size || slacks.len() != size {

@@ -1,8 +1,11 @@
-"""What the tests share: the way to the tools, small models and running a tool."""
+"""What the tests share: the way to the tools, small models, small trees and running a tool."""
 
 import os
 import subprocess
 import sys
+import tempfile
+import unittest
+from pathlib import Path
 
 TOOLS = os.path.dirname(os.path.dirname(os.path.abspath(__file__)))
 sys.path.insert(0, TOOLS)
@@ -19,6 +22,21 @@ def single(entry, initial, input_, direction, steps, guards=()):
     """A model of one coordinate, as document 01 writes its cases."""
     levels = tuple((0, level) for level in guards)
     return Model(1, steps, ((entry,),), box(initial), box(input_), ((direction,),), levels)
+
+
+class FolderTest(unittest.TestCase):
+    """Tests in a folder of their own."""
+
+    def setUp(self):
+        folder = tempfile.TemporaryDirectory()
+        self.addCleanup(folder.cleanup)
+        self.folder = Path(folder.name)
+
+    def write(self, name, text):
+        path = self.folder / name
+        path.parent.mkdir(parents=True, exist_ok=True)
+        path.write_text(text, encoding="utf-8")
+        return path
 
 
 def run_tool(name, *arguments, stdin=b"", cwd=None):

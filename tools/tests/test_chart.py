@@ -1,11 +1,9 @@
 """Charts: well-formed pictures with everything inside, and clear refusals."""
 
-import tempfile
 import unittest
 import xml.etree.ElementTree as ElementTree
-from pathlib import Path
 
-from helpers import run_tool
+from helpers import FolderTest, run_tool
 
 import chart
 import exact
@@ -116,18 +114,11 @@ class Chart(unittest.TestCase):
         self.assertEqual(chart.expression((-1, 0, 3), names), "-a + 3 c")
 
 
-class Command(unittest.TestCase):
+class Command(FolderTest):
     def setUp(self):
-        folder = tempfile.TemporaryDirectory()
-        self.addCleanup(folder.cleanup)
-        self.folder = Path(folder.name)
+        super().setUp()
         self.write("good.model", TEXT)
         self.write("good.listing", exact.listing(pack.parse(TEXT).data))
-
-    def write(self, name, text):
-        path = self.folder / name
-        path.write_text(text)
-        return path
 
     def test_chart(self):
         out = self.folder / "out.svg"

@@ -3,22 +3,15 @@
 import os
 import stat
 import sys
-import tempfile
 import unittest
-from pathlib import Path
 
-from helpers import TOOLS, run_tool
+from helpers import TOOLS, FolderTest, run_tool
 
 import exact
 import models
 
 
-class Compare(unittest.TestCase):
-    def setUp(self):
-        folder = tempfile.TemporaryDirectory()
-        self.addCleanup(folder.cleanup)
-        self.folder = Path(folder.name)
-
+class Compare(FolderTest):
     def program(self, body):
         """A program of this Python text, with the listing of its input at hand as `text`."""
         path = self.folder / "program"

@@ -1,8 +1,6 @@
 """Texts and packed files: the same bytes again, limits in words, and messages with their place."""
 
-import tempfile
 import unittest
-from pathlib import Path
 
 import helpers
 from helpers import box, run_tool
@@ -154,13 +152,10 @@ class Messages(unittest.TestCase):
         self.assertEqual(len(pack.parse(text).data), 4 + 2 * 26 + 3 * 400 + 160 + 1)
 
 
-class Command(unittest.TestCase):
+class Command(helpers.FolderTest):
     def setUp(self):
-        folder = tempfile.TemporaryDirectory()
-        self.addCleanup(folder.cleanup)
-        self.folder = Path(folder.name)
-        self.text = self.folder / "good.model"
-        self.text.write_text(GOOD)
+        super().setUp()
+        self.text = self.write("good.model", GOOD)
 
     def test_pack_and_unpack(self):
         packed, again = self.folder / "good.bin", self.folder / "again.model"

@@ -1,11 +1,10 @@
 //! The figures of document 01, "Figures to test against", that the interface can show, and the listings in examples/.
 
-use crate::document;
-use crate::makers::{end, file, guard, head, numbers, row, Record};
 use crate::sweeps::compare_sweep;
 use pepperscarp::{judge, list_length, step, sweep, Refusal, Verdict, LISTING_ROOM};
-use std::fmt::Write;
 use std::path::Path;
+use support::records::{end, file, guard, head, numbers, row, Record};
+use support::{calls, document, listing};
 
 /// A model of one coordinate with boxes.
 fn line(steps: u16, entry: i32, initial: [i32; 2], input: [i32; 2], direction: i32, levels: &[i64]) -> Vec<u8> {
@@ -135,41 +134,6 @@ fn errors_are_rounded_up_and_the_slack_is_doubled() {
     assert_eq!((bounds, slacks), (vec![600_000, 28, 1], vec![0, 1, 3]));
 }
 
-/// The listing of an accepted file, from the calls alone.
-fn listing(bytes: &[u8]) -> String {
-    let length = list_length(bytes).expect("a head");
-    let (mut bounds, mut slacks) = (vec![0; length], vec![0; length]);
-    let mut text = format!("model {} {}\n", bytes[1], length - 1);
-    for direction in 0.. {
-        match sweep(bytes, direction, &mut bounds, &mut slacks) {
-            Ok(spare) => {
-                writeln!(text, "dir {direction} spare {spare}").unwrap();
-                for k in 0..length {
-                    writeln!(text, "{k} {} {}", bounds[k], slacks[k]).unwrap();
-                }
-            }
-            Err(Refusal::Growth(step)) => writeln!(text, "dir {direction} growth {step}").unwrap(),
-            Err(refusal) => {
-                assert_eq!(refusal, Refusal::NoSuchNumber);
-                break;
-            }
-        }
-    }
-    for number in 0.. {
-        match judge(bytes, number, &mut bounds, &mut slacks) {
-            Ok(Verdict::Hit(step)) => writeln!(text, "guard {number} HIT {step}").unwrap(),
-            Ok(Verdict::Unknown(step)) => writeln!(text, "guard {number} UNKNOWN {step}").unwrap(),
-            Ok(Verdict::Clear) => writeln!(text, "guard {number} CLEAR").unwrap(),
-            Err(Refusal::Growth(step)) => writeln!(text, "guard {number} GROWTH {step}").unwrap(),
-            Err(refusal) => {
-                assert_eq!(refusal, Refusal::NoSuchNumber);
-                break;
-            }
-        }
-    }
-    text
-}
-
 #[test]
 fn the_calls_and_the_listing_give_the_text_of_every_example() {
     let folder = Path::new(env!("CARGO_MANIFEST_DIR")).join("../examples");
@@ -179,7 +143,7 @@ fn the_calls_and_the_listing_give_the_text_of_every_example() {
         if path.extension().is_some_and(|extension| extension == "bin") {
             let bytes = std::fs::read(&path).expect("the packed model");
             let expected = std::fs::read_to_string(path.with_extension("listing")).expect("its listing");
-            assert_eq!(listing(&bytes), expected, "{}", path.display());
+            assert_eq!(listing::text(calls::listing(&bytes)), expected, "{}", path.display());
             let mut out = vec![0; LISTING_ROOM];
             assert_eq!(pepperscarp::listing(&bytes, &mut out), Some(expected.as_bytes()), "{}", path.display());
             let model = document::read(&bytes).expect("a model");

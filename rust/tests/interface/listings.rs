@@ -1,8 +1,9 @@
 //! Listings: the text is document 01's, whole, and no byte beside it changes.
 
-use crate::document;
-use crate::makers::{damage_bytes, damage_records, end, file, guard, head, model, numbers, row, Random};
+use crate::makers::{damage_bytes, damage_records, model, Random};
 use pepperscarp::{listing, LISTING_ROOM};
+use support::listing::{of_file, text};
+use support::records::{end, file, guard, head, numbers, row};
 
 /// A different byte at nearly each place, none of which a listing has.
 fn sentinel(place: usize) -> u8 {
@@ -16,7 +17,7 @@ fn room(length: usize) -> Vec<u8> {
 
 /// The listing of a file is the document's. `out` is room with sentinels, before and after.
 fn compare(bytes: &[u8], out: &mut [u8]) {
-    let expected = document::listing(bytes);
+    let expected = text(of_file::<i128>(bytes));
     let length = out.len();
     assert_eq!(listing(bytes, out), Some(expected.as_bytes()), "file {bytes:02X?}");
     assert!((expected.len()..length).all(|place| out[place] == sentinel(place)), "bytes behind the text");

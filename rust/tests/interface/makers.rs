@@ -1,5 +1,7 @@
 //! Random models as records, and ways to damage them. The generator is fixed, so every run makes the same files.
 
+use support::records::{end, guard, head, numbers, row, Record};
+
 /// A small generator (splitmix64).
 pub struct Random(u64);
 
@@ -33,51 +35,6 @@ impl Random {
     pub fn one_in(&mut self, count: usize) -> bool {
         self.below(count) == 0
     }
-}
-
-/// One record: its kind and its body.
-#[derive(Clone, Debug)]
-pub struct Record {
-    pub kind: u8,
-    pub body: Vec<u8>,
-}
-
-/// The bytes of a file of these records.
-pub fn file(records: &[Record]) -> Vec<u8> {
-    let mut bytes = Vec::new();
-    for record in records {
-        bytes.push(record.kind);
-        bytes.extend_from_slice(&record.body);
-    }
-    bytes
-}
-
-pub fn head(n: u8, steps: u16) -> Record {
-    let [low, high] = steps.to_le_bytes();
-    Record { kind: 0x01, body: vec![n, low, high] }
-}
-
-fn six(numbers: &[i32]) -> Vec<u8> {
-    let mut all = [0; 6];
-    all[..numbers.len()].copy_from_slice(numbers);
-    all.map(i32::to_le_bytes).concat()
-}
-
-pub fn row(number: u8, entries: &[i32]) -> Record {
-    Record { kind: 0x02, body: [vec![number], six(entries)].concat() }
-}
-
-/// A point of a set or a direction.
-pub fn numbers(kind: u8, entries: &[i32]) -> Record {
-    Record { kind, body: six(entries) }
-}
-
-pub fn guard(direction: u8, level: i64) -> Record {
-    Record { kind: 0x40, body: [vec![direction], level.to_le_bytes().to_vec()].concat() }
-}
-
-pub fn end() -> Record {
-    Record { kind: 0xFF, body: Vec::new() }
 }
 
 /// The last six numbers of a body with n of them kept; the others, which a reader ignores, are sometimes filled.

@@ -1,14 +1,15 @@
 //! Refusals: the number, offset or step is document 01's, and no lent element changes.
 
-use crate::document::{self, Refused};
 use crate::lent::Lent;
-use crate::makers::{damage_bytes, damage_records, end, file, head, model, numbers, open_model, row, Random, Record};
+use crate::makers::{damage_bytes, damage_records, model, open_model, Random};
 use crate::sweeps::{compare_judge, compare_sweep};
 use pepperscarp::{judge, sweep, Refusal};
+use support::document;
+use support::records::{body_length, end, file, guard, head, numbers, row, Record};
+use support::recurrence;
 
 /// Both calls refuse the file by this number at this offset, for any direction, guard and lengths, and touch nothing.
-fn assert_refused(bytes: &[u8], Refused { number, offset }: Refused, asked: usize, lengths: (usize, usize)) {
-    let expected = Refusal::File { number, offset };
+fn assert_refused(bytes: &[u8], expected: Refusal, asked: usize, lengths: (usize, usize)) {
     for call in [sweep_as_unit, judge_as_unit] {
         let (mut bounds, mut slacks) = (Lent::new(lengths.0), Lent::new(lengths.1));
         assert_eq!(call(bytes, asked, bounds.part(), slacks.part()), Err(expected), "file {bytes:02X?}");
@@ -27,11 +28,11 @@ fn judge_as_unit(bytes: &[u8], guard: usize, bounds: &mut [i64], slacks: &mut [i
 /// The file's reply, whatever it is, is document 01's. The number by which it is refused, or 0.
 fn compare_file(random: &mut Random, bytes: &[u8]) -> u8 {
     match document::read(bytes) {
-        Err(refused) => {
+        Err(refusal) => {
             let length = random.pick(&[0, 1, 2, 4, 61, 257]);
             let asked = random.pick(&[0, 0, 1, 15, 16, usize::MAX]);
-            assert_refused(bytes, refused, asked, (length, random.pick(&[length, 61])));
-            refused.number
+            assert_refused(bytes, refusal, asked, (length, random.pick(&[length, 61])));
+            refusal.number()
         }
         Ok(model) => {
             compare_sweep(bytes, &model, random.below(model.directions.len()));
@@ -76,14 +77,7 @@ fn files_with_damaged_records_and_values_get_the_reply_of_document_01() {
 
 /// The record's body is as long as its kind says, so that a second damage finds its place.
 fn has_its_body(record: &Record) -> bool {
-    let length = match record.kind {
-        0x01 => 3,
-        0x02 => 25,
-        0x10..=0x14 | 0x20..=0x24 | 0x30 => 24,
-        0x40 => 9,
-        _ => 0,
-    };
-    record.body.len() == length
+    Some(record.body.len()) == body_length(record.kind)
 }
 
 #[test]
@@ -138,7 +132,7 @@ fn small_model() -> Vec<Record> {
         numbers(0x24, &[0]),
         numbers(0x24, &[1]),
         numbers(0x30, &[1]),
-        crate::makers::guard(0, 2),
+        guard(0, 2),
         end(),
     ]
 }
@@ -170,7 +164,7 @@ fn a_list_of_any_other_length_is_refused_by_13_before_growth_is_tested() {
         let bytes = file(&model(&mut random));
         let model = document::read(&bytes).expect("a model");
         let right = model.steps + 1;
-        let grows = document::sweep(&model, &model.directions[0]).is_err();
+        let grows = recurrence::sweep::<i128>(&model, &model.directions[0]).is_err();
         growing += usize::from(grows);
         for wrong in [0, 1, right - 1, right + 1, 2 * right, 1_000] {
             if wrong == right {
@@ -198,7 +192,7 @@ fn growth_at_the_last_step_leaves_the_lists_untouched() {
             records.push(numbers(kind, &[0]));
         }
         records.push(numbers(0x30, &[1]));
-        records.push(crate::makers::guard(0, 0));
+        records.push(guard(0, 0));
         records.push(end());
         file(&records)
     };
@@ -228,7 +222,7 @@ fn one_more_of_anything_that_is_counted_is_refused_by_9_and_the_most_is_accepted
                 }
             }
             records.extend((0..if kind == 0x30 { count } else { 1 }).map(|_| numbers(0x30, &[1, 1])));
-            records.extend((0..if kind == 0x40 { count } else { 0 }).map(|_| crate::makers::guard(0, 5)));
+            records.extend((0..if kind == 0x40 { count } else { 0 }).map(|_| guard(0, 5)));
             records.push(end());
             let number = compare_file(&mut random, &file(&records));
             assert_eq!(number, if count > most { 9 } else { 0 }, "kind {kind:02X}, {count} of them");
@@ -243,7 +237,7 @@ fn the_longest_file_is_accepted_and_a_byte_more_is_refused_by_10() {
     records.extend((0..16).map(|k| numbers(0x14, &[k, -k, k, -k, k, -k])));
     records.extend((0..16).map(|k| numbers(0x24, &[k, k, k, k, k, k])));
     records.extend((0..16).map(|k| numbers(0x30, &[k + 1, 2, 3, 4, 5, 6])));
-    records.extend((0..16).map(|k| crate::makers::guard(k, 1_000)));
+    records.extend((0..16).map(|k| guard(k, 1_000)));
     records.push(end());
     let mut bytes = file(&records);
     assert_eq!(bytes.len(), 1_521);
@@ -253,7 +247,7 @@ fn the_longest_file_is_accepted_and_a_byte_more_is_refused_by_10() {
         compare_judge(&bytes, &model, number).expect("calm");
     }
     bytes.push(0xFF);
-    assert_refused(&bytes, Refused { number: 10, offset: 1_521 }, 0, (257, 257));
+    assert_refused(&bytes, Refusal::File { number: 10, offset: 1_521 }, 0, (257, 257));
 }
 
 #[test]
@@ -261,6 +255,6 @@ fn open_models_without_an_end_are_refused_by_1_at_their_length() {
     let mut random = Random::new(19);
     for _ in 0..200 {
         let bytes = file(&open_model(&mut random));
-        assert_refused(&bytes, Refused { number: 1, offset: bytes.len() }, 0, (2, 2));
+        assert_refused(&bytes, Refusal::File { number: 1, offset: bytes.len() }, 0, (2, 2));
     }
 }

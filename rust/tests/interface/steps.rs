@@ -1,9 +1,9 @@
 //! One step: what is left and answered is document 01's, and on 11 r and e are as they were.
 
-use crate::document;
 use crate::lent::Lent;
 use crate::makers::Random;
 use pepperscarp::{step, Refusal};
+use support::recurrence;
 
 const GROWTH_LIMIT: i64 = 1_073_741_824;
 
@@ -16,7 +16,7 @@ fn compare(n: usize, matrix: &[i32; 36], r: &[i64; 6], e: &[i64; 6]) -> bool {
         step(n, matrix, r, e)
     };
     assert!(r_lent.is_untouched_beside() && e_lent.is_untouched_beside());
-    match document::step(n, matrix, r, e) {
+    match recurrence::step(n, matrix, r, e) {
         None => {
             assert_eq!(answer, Err(Refusal::Invalid), "n {n}, matrix {matrix:?}, r {r:?}, e {e:?}");
             assert_eq!((r_lent.now(), e_lent.now()), (&r[..], &e[..]));
@@ -25,7 +25,11 @@ fn compare(n: usize, matrix: &[i32; 36], r: &[i64; 6], e: &[i64; 6]) -> bool {
         Some((left, sum)) => {
             let wide = |lent: &Lent| -> Vec<i128> { lent.now().iter().map(|value| i128::from(*value)).collect() };
             assert_eq!(answer.map(i128::from), Ok(sum), "n {n}, matrix {matrix:?}, r {r:?}, e {e:?}");
-            assert_eq!((wide(&r_lent), wide(&e_lent)), (left.r, left.e), "n {n}, matrix {matrix:?}, r {r:?}, e {e:?}");
+            assert_eq!(
+                (wide(&r_lent), wide(&e_lent)),
+                (left.r.to_vec(), left.e.to_vec()),
+                "n {n}, matrix {matrix:?}, r {r:?}, e {e:?}"
+            );
             true
         }
     }

@@ -1,9 +1,14 @@
 //! Accepted models: every sweep and every verdict is document 01's.
 
-use crate::document::{self, Envelope, Model};
 use crate::lent::Lent;
-use crate::makers::{end, file, guard, open_model, Random};
+use crate::makers::{open_model, Random};
 use pepperscarp::{judge, list_length, sweep, Refusal, Verdict};
+use support::document::{self, Model};
+use support::records::{end, file, guard};
+use support::recurrence;
+
+/// What the document gives, in numbers that can't wrap.
+type Envelope = recurrence::Envelope<i128>;
 
 /// The sweep of one direction through the interface is the document's; the envelope, where there is one.
 pub fn compare_sweep(bytes: &[u8], model: &Model, direction: usize) -> Option<Envelope> {
@@ -19,14 +24,14 @@ pub fn compare_judge(bytes: &[u8], model: &Model, number: usize) -> Result<Verdi
     let answer = judge(bytes, number, bounds.part(), slacks.part());
     let (direction, level) = model.guards[number];
     if let Some(envelope) = compare_lists(model, direction, answer.map(|_| ()), &bounds, &slacks) {
-        assert_eq!(answer, Ok(document::verdict(&envelope, level)), "level {level} of {model:?}");
+        assert_eq!(answer, Ok(recurrence::verdict(&envelope, level)), "level {level} of {model:?}");
     }
     answer
 }
 
 /// The lists are the document's sweep of the direction, or it grows, the answer says so and the lists are untouched.
 fn compare_lists(model: &Model, direction: usize, answer: Result<(), Refusal>, bounds: &Lent, slacks: &Lent) -> Option<Envelope> {
-    match document::sweep(model, &model.directions[direction]) {
+    match recurrence::sweep(model, &model.directions[direction]) {
         Err(step) => {
             assert_eq!(answer, Err(Refusal::Growth(step)), "direction {direction} of {model:?}");
             assert!(bounds.is_untouched() && slacks.is_untouched());
@@ -81,7 +86,7 @@ fn every_sweep_and_every_verdict_of_random_models_is_that_of_document_01() {
         forms[model.initial.form as usize] += 1;
         forms[model.input.form as usize] += 1;
         let envelopes: Vec<Option<Envelope>> =
-            model.directions.iter().map(|direction| document::sweep(&model, direction).ok()).collect();
+            model.directions.iter().map(|direction| recurrence::sweep(&model, direction).ok()).collect();
         let guards = random.pick(&[0, 1, 3, 16]);
         for _ in 0..guards {
             let direction = random.below(model.directions.len());

@@ -1,0 +1,216 @@
+//! Models of document 01, and its reader: "The file" and "Refusals by place", slow and plain.
+
+use crate::records::body_length;
+use crate::recurrence::reach;
+use pepperscarp::Refusal;
+
+pub const ENTRY_LIMIT: i32 = 131_072;
+const REACH_LIMIT: i64 = 1_048_576;
+const DIRECTION_LIMIT: i32 = 1_000;
+
+/// Numbers of six coordinates. What lies beyond n is zero.
+pub type Six = [i32; 6];
+
+#[derive(Clone, Copy, PartialEq, Eq, Debug)]
+pub enum Form {
+    Box,
+    Zonotope,
+    Vertices,
+}
+
+/// A set: lower and upper corner, centre and generators, or vertices. Without points it has not been read yet.
+#[derive(Clone, Debug)]
+pub struct Set {
+    pub form: Form,
+    pub points: Vec<Six>,
+}
+
+impl Set {
+    fn unread() -> Set {
+        Set { form: Form::Box, points: Vec::new() }
+    }
+
+    fn is_complete(&self) -> bool {
+        match self.form {
+            Form::Box => self.points.len() == 2,
+            Form::Zonotope => self.points.len() >= 2,
+            Form::Vertices => !self.points.is_empty(),
+        }
+    }
+}
+
+/// A model.
+#[derive(Clone, Debug)]
+pub struct Model {
+    pub n: usize,
+    pub steps: usize,
+    pub matrix: [Six; 6],
+    pub initial: Set,
+    pub input: Set,
+    pub directions: Vec<Six>,
+    pub guards: Vec<(usize, i64)>,
+}
+
+/// What has been read so far: n is 0 before the head, and `rows` counts those of the matrix.
+struct SoFar {
+    model: Model,
+    rows: usize,
+}
+
+fn nothing_read() -> SoFar {
+    let model = Model {
+        n: 0,
+        steps: 0,
+        matrix: [[0; 6]; 6],
+        initial: Set::unread(),
+        input: Set::unread(),
+        directions: Vec::new(),
+        guards: Vec::new(),
+    };
+    SoFar { model, rows: 0 }
+}
+
+/// Whether a record of this kind may come next, told by what has been read.
+fn may_come(SoFar { model, rows }: &SoFar, kind: u8) -> bool {
+    let head = model.n > 0;
+    let rows = head && *rows == model.n;
+    // A point of a set whose part is open: the part before it is complete and nothing of a later part has come.
+    let point = |set: &Set, open: bool| {
+        let count = set.points.len();
+        open && match kind & 0x0F {
+            0 | 2 => count == 0,
+            1 => count == 1 && set.form == Form::Box,
+            3 => count >= 1 && set.form == Form::Zonotope,
+            _ => count == 0 || set.form == Form::Vertices,
+        }
+    };
+    match kind {
+        0x01 => !head,
+        0x02 => head && !rows,
+        0x10..=0x14 => point(&model.initial, rows && model.input.points.is_empty()),
+        0x20..=0x24 => point(&model.input, model.initial.is_complete() && model.directions.is_empty()),
+        0x30 => model.input.is_complete() && model.guards.is_empty(),
+        _ => !model.directions.is_empty(),
+    }
+}
+
+/// "a 9th generator, 17th vertex, direction or guard".
+fn one_too_many(model: &Model, kind: u8) -> bool {
+    match kind {
+        0x13 => model.initial.points.len() == 9,
+        0x23 => model.input.points.len() == 9,
+        0x14 => model.initial.points.len() == 16,
+        0x24 => model.input.points.len() == 16,
+        0x30 => model.directions.len() == 16,
+        0x40 => model.guards.len() == 16,
+        _ => false,
+    }
+}
+
+/// The first n of the six numbers of four bytes. "Entries beyond n are ignored and stored as zero."
+fn six(n: usize, bytes: &[u8]) -> Six {
+    let mut all = [0; 6];
+    for (number, four) in all.iter_mut().zip(bytes.chunks_exact(4)).take(n) {
+        *number = i32::from_le_bytes(four.try_into().expect("four bytes"));
+    }
+    all
+}
+
+fn within(numbers: &Six, limit: i32) -> bool {
+    numbers.iter().all(|number| (-limit..=limit).contains(number))
+}
+
+fn take_point(set: &mut Set, n: usize, kind: u8, body: &[u8]) -> bool {
+    set.form = match kind & 0x0F {
+        0 | 1 => Form::Box,
+        2 | 3 => Form::Zonotope,
+        _ => Form::Vertices,
+    };
+    set.points.push(six(n, body));
+    let in_reach = (0..n).all(|i| reach::<i64>(set, i) <= REACH_LIMIT);
+    let in_order = kind & 0x0F != 1 || (0..n).all(|i| set.points[0][i] <= set.points[1][i]);
+    in_reach && in_order
+}
+
+/// Stores a record; the number of the value test that it fails, or 0.
+fn take(SoFar { model, rows }: &mut SoFar, kind: u8, body: &[u8]) -> u8 {
+    match kind {
+        0x01 => {
+            let n = usize::from(body[0]);
+            let steps = usize::from(u16::from_le_bytes([body[1], body[2]]));
+            if !(1..=6).contains(&n) || steps > 256 {
+                return 4;
+            }
+            model.n = n;
+            model.steps = if steps == 0 { 60 } else { steps };
+        }
+        0x02 => {
+            let row = six(model.n, &body[1..]);
+            if usize::from(body[0]) != *rows || !within(&row, ENTRY_LIMIT) {
+                return 5;
+            }
+            model.matrix[*rows] = row;
+            *rows += 1;
+        }
+        0x10..=0x14 => {
+            if !take_point(&mut model.initial, model.n, kind, body) {
+                return 6;
+            }
+        }
+        0x20..=0x24 => {
+            if !take_point(&mut model.input, model.n, kind, body) {
+                return 6;
+            }
+        }
+        0x30 => {
+            let direction = six(model.n, body);
+            if !within(&direction, DIRECTION_LIMIT) || direction == [0; 6] {
+                return 7;
+            }
+            model.directions.push(direction);
+        }
+        _ => {
+            let direction = usize::from(body[0]);
+            if direction >= model.directions.len() {
+                return 8;
+            }
+            model.guards.push((direction, i64::from_le_bytes(body[1..].try_into().expect("eight bytes"))));
+        }
+    }
+    0
+}
+
+/// The model of a file, or its number and offset.
+pub fn read(file: &[u8]) -> Result<Model, Refusal> {
+    let mut so_far = nothing_read();
+    let mut offset = 0;
+    loop {
+        let refuse = |number| Err(Refusal::File { number, offset });
+        let Some(&kind) = file.get(offset) else {
+            return refuse(1);
+        };
+        let Some(length) = body_length(kind) else {
+            return refuse(2);
+        };
+        if !may_come(&so_far, kind) {
+            return refuse(3);
+        }
+        if one_too_many(&so_far.model, kind) {
+            return refuse(9);
+        }
+        let Some(body) = file.get(offset + 1..offset + 1 + length) else {
+            return refuse(1);
+        };
+        if kind == 0xFF {
+            if offset + 1 < file.len() {
+                return Err(Refusal::File { number: 10, offset: offset + 1 });
+            }
+            return Ok(so_far.model);
+        }
+        let number = take(&mut so_far, kind, body);
+        if number != 0 {
+            return refuse(number);
+        }
+        offset += 1 + length;
+    }
+}
