@@ -3,19 +3,13 @@
 use mathlib.Core.Path.{_≡_}
 use mathlib.Core.Bool.{Bool, cond, _||_}
 use mathlib.Core.List.{List}
-use Prim.Native.Nat.{ℕ, _*_, _≤_, _<_}
+use Prim.Native.Nat.{ℕ, _≤_, _<_}
 use lib.Dec.{T, ltb, eqb}
 use lib.IntN.{ℤ, pos, natAbs}
 use lib.Signed.{nonNeg}
 use Rattle.integers.specs.Sums.{vector, magnitudes, matrix, allBelow, tabulate}
 use Rattle.stepping.specs.Limits.{entryLimit, errorLimit}
 use Rattle.stepping.specs.Recurrence.{nextR, nextE}
-
--- A product of a tested entry and a value within its limit can be added to a sum of at most five such.
-pub record TimesAdd (limit : ℕ) (sum a b : ℤ) : Type 0 where
-  pub sum-small : natAbs sum ≤ 5 * (entryLimit * limit)
-  pub entry-small : natAbs a ≤ entryLimit
-  pub value-small : natAbs b ≤ limit
 
 -- Entries and values within their limits.
 pub record Bounded (limit : ℕ) (m xs : List ℤ) : Type 0 where

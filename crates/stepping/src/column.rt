@@ -1,37 +1,12 @@
 // One coordinate of a step, and all six.
 ghost use mathlib.Core.Path.{_≡_};
-ghost use Prim.Native.Nat.{_+_, _*_, _≤_, _<_};
-ghost use lib.Dec.{T};
-ghost use lib.IntN.{natAbs, pos, _+ℤ_, _*ℤ_};
-ghost use lib.Signed.{nonNeg};
+ghost use Prim.Native.Nat.{_+_, _<_};
+ghost use lib.IntN.{pos};
 ghost use Rattle.integers.specs.Whole.{ceilDivℕ, fraction};
 ghost use Rattle.integers.specs.Sums.{vector, magnitudes, transposed, matrix as matrixOf};
-ghost use Rattle.stepping.specs.Limits.{directionUnit, matrixUnit, entryLimit, growthLimit, errorLimit};
+ghost use Rattle.stepping.specs.Limits.{matrixUnit, growthLimit};
 ghost use Rattle.stepping.specs.Recurrence.{errorSum};
-ghost use Rattle.stepping.specs.Inner.{TimesAdd, Bounded, BoundedErrors, Advanced};
-
-// 1,048,576 times d.
-pub(crate) fn scaled(d: i32) -> i64
-    ensures { λ r. ⌜ r ≡ pos directionUnit *ℤ d ⌝ }
-{
-    1048576 * (d as i64)
-}
-
-// sum + a × b.
-pub(crate) fn times_add(sum: i64, a: i32, b: i64) -> i64
-    requires { ⌜ TimesAdd growthLimit sum a b ⌝ }
-    ensures { λ s. ⌜ s ≡ sum +ℤ a *ℤ b ⌝ }
-{
-    sum + (a as i64) * b
-}
-
-// sum + |a| × b, for b from 0 on.
-pub(crate) fn magnitude_times_add(sum: u64, a: i32, b: i64) -> u64
-    requires { ⌜ TimesAdd errorLimit (pos sum) a b × T (nonNeg b) ⌝ }
-    ensures { λ s. ⌜ s ≡ sum + natAbs a * natAbs b ⌝ }
-{
-    sum + arrays::magnitude(a as i64) * (b as u64)
-}
+ghost use Rattle.stepping.specs.Inner.{Bounded, BoundedErrors, Advanced};
 
 // N of column i: the sum over p of M[row p, column i] × r[p].
 pub(crate) fn product_sum(matrix: &[i32; 36], r: &[i64; 6], i: usize) -> i64
@@ -41,7 +16,7 @@ pub(crate) fn product_sum(matrix: &[i32; 36], r: &[i64; 6], i: usize) -> i64
     let mut sum: i64 = 0;
     let mut p: usize = 0;
     while p < 6 {
-        sum = times_add(sum, matrix[6 * p + i], r[p]);
+        sum += (matrix[6 * p + i] as i64) * r[p];
         p += 1;
     }
     sum
@@ -55,7 +30,7 @@ pub(crate) fn error_sum(matrix: &[i32; 36], e: &[i64; 6], i: usize) -> u64
     let mut sum: u64 = 0;
     let mut p: usize = 0;
     while p < 6 {
-        sum = magnitude_times_add(sum, matrix[6 * p + i], e[p]);
+        sum += arrays::magnitude(matrix[6 * p + i] as i64) * (e[p] as u64);
         p += 1;
     }
     sum

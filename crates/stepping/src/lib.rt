@@ -33,7 +33,7 @@ pub fn first(direction: &[i32; 6], r: &mut [i64; 6], e: &mut [i64; 6])
     let mut scaled = [0i64; 6];
     let mut i: usize = 0;
     while i < 6 {
-        scaled[i] = column::scaled(direction[i]);
+        scaled[i] = 1048576 * (direction[i] as i64);
         i += 1;
     }
     *r = scaled;

@@ -1,12 +1,12 @@
 -- `stepping::column::error_sum` meets its contract: `sum` is the running sum of the products. The measure is what is left of six.
 -- Assumes nothing.
-use Rattle.integers.proofs.Basics.{_≡_, sym, ap, ap₂, subst, _∙_, ℕ, _+_, _*_, _-_, _≤_, arith, ℤ, pos, natAbs, w32, w64, toZ, ofZ}
+use Rattle.integers.proofs.Basics.{_≡_, sym, ap, ap₂, subst, _∙_, ℕ, _+_, _*_, _-_, _≤_, arith, needs, ℤ, pos, natAbs, w32, w64, Fits, SFits, toZ, ofZ}
 use mathlib.Core.List.{List}
 use native.Mathlib.Nat.{mul-le-mul}
 use lib.Dec.{T}
 use lib.Signed.{nonNeg}
 use Rattle.integers.specs.Sums.{vector, magnitudes, matrix as matrixOf}
-use Rattle.integers.proofs.Machine.{read-given}
+use Rattle.integers.proofs.Machine.{read-given, read-wide, fits-wide}
 use Rattle.integers.proofs.RunningSum.{RunningSum, running-start, running-more, running-doneℕ}
 use Rattle.stepping.specs.Limits.{entryLimit, errorLimit}
 use Rattle.stepping.proofs.column.error_sum.Statement.{statement}
@@ -24,59 +24,73 @@ abbrev μ-loop : tie.MeasureT-loop
 loop-holds : tie.Need-loop-holds Inv-loop μ-loop
 loop-holds c = running-start 6 (λ q. pos (product (c .args .matrix .now) (c .args .e .now) (c .args .i) q)) (entryLimit * errorLimit)
 
-mul-magnitude-times-add : tie.Need-mul-magnitude-times-add Inv-loop μ-loop
-mul-magnitude-times-add c = omega arith
+mul-magnitude : tie.Need-mul-magnitude Inv-loop μ-loop
+mul-magnitude c = omega arith
 
-add-magnitude-times-add : tie.Need-add-magnitude-times-add Inv-loop μ-loop
-add-magnitude-times-add c = omega (arith, c .before .before .pre .0)
+add-magnitude : tie.Need-add-magnitude Inv-loop μ-loop
+add-magnitude c = omega (arith, c .before .before .pre .0)
 
-mul-magnitude-times-add-2 : tie.Need-mul-magnitude-times-add-2 Inv-loop μ-loop
-mul-magnitude-times-add-2 c = omega (arith, c .before .before .pre .0)
+mul-magnitude-2 : tie.Need-mul-magnitude-2 Inv-loop μ-loop
+mul-magnitude-2 c = omega (arith, c .before .before .pre .0)
 
-element-copy-out-magnitude-times-add : tie.Need-element-copy-out-magnitude-times-add Inv-loop μ-loop
-element-copy-out-magnitude-times-add c = omega (arith, c .before .before .pre .0)
+element-copy-out-magnitude : tie.Need-element-copy-out-magnitude Inv-loop μ-loop
+element-copy-out-magnitude c = omega (arith, c .before .before .pre .0)
 
-mul-magnitude-times-add-3 : tie.Need-mul-magnitude-times-add-3 Inv-loop μ-loop
-mul-magnitude-times-add-3 c = omega arith
-
-element-copy-out-magnitude-times-add-2 : tie.Need-element-copy-out-magnitude-times-add-2 Inv-loop μ-loop
-element-copy-out-magnitude-times-add-2 c = omega arith
-
--- the entry and the value of a turn, read
-module _ (c : tie.After-magnitude-times-add-arg2 Inv-loop μ-loop) where
-  abbrev start : tie.Start Inv-loop μ-loop
-  start = c .before .before .before .before
+-- the entry of a turn
+module _ (c : tie.After-magnitude-arg Inv-loop μ-loop) where
+  abbrev at-loop : tie.At-loop Inv-loop μ-loop
+  at-loop = c .before .before
 
   abbrev p : ℕ
-  p = c .before .before .before .loop .p
+  p = at-loop .loop .p
 
   abbrev entry : ℤ
-  entry = matrixOf (start .args .matrix .now) p (start .args .i)
+  entry = matrixOf (at-loop .before .args .matrix .now) p (at-loop .before .args .i)
+
+  entry-fits : SFits w32 entry
+  entry-fits = record { sfits = c .magnitude-arg .given }
+
+cast-magnitude : tie.Need-cast-magnitude Inv-loop μ-loop
+cast-magnitude c = fits-wide w32 w64 tt (entry-fits c)
+
+magnitude-requires : tie.Need-magnitude-requires Inv-loop μ-loop
+magnitude-requires c κs = search needs
+
+mul-sum : tie.Need-mul-sum Inv-loop μ-loop
+mul-sum c = omega arith
+
+element-copy-out-sum : tie.Need-element-copy-out-sum Inv-loop μ-loop
+element-copy-out-sum c = omega arith
+
+-- its product with the value of the turn
+module _ (c : tie.After-sum Inv-loop μ-loop) where
+  abbrev b : tie.After-magnitude-arg Inv-loop μ-loop
+  b = c .before .before
 
   abbrev value : ℤ
-  value = vector (start .args .e .now) p
-
-  read-entry : toZ w32 (ofZ w32 entry) ≡ entry
-  read-entry = read-given w32 entry (c .before .magnitude-times-add-arg .given)
-
-  read-value : toZ w64 (ofZ w64 value) ≡ value
-  read-value = read-given w64 value (c .magnitude-times-add-arg2 .given)
-
-  entry-small : natAbs entry ≤ entryLimit
-  entry-small = start .pre .1 .bounded .entries (6 * p + start .args .i)
+  value = vector (at-loop b .before .args .e .now) (p b)
 
   value-small : natAbs value ≤ errorLimit
-  value-small = start .pre .1 .bounded .values p (omega arith)
+  value-small = at-loop b .before .pre .1 .bounded .values (p b) (omega arith)
 
-magnitude-times-add-requires : tie.Need-magnitude-times-add-requires Inv-loop μ-loop
-magnitude-times-add-requires c κs = (
-  record {
-    sum-small = omega (arith, c .before .before .before .loop .inv .small, c .before .before .loop-test .taken);
-    entry-small = subst (λ (z : ℤ). natAbs z ≤ entryLimit) (sym (read-entry c)) (entry-small c);
-    value-small = subst (λ (z : ℤ). natAbs z ≤ errorLimit) (sym (read-value c)) (value-small c);
-  },
-  subst (λ (z : ℤ). T (nonNeg z)) (sym (read-value c)) (start c .pre .1 .natural (p c) (omega arith)),
-)
+  read-value : toZ w64 (ofZ w64 value) ≡ value
+  read-value = read-given w64 value (c .sum .given)
+
+  product-is : c .before .magnitude .result * natAbs (toZ w64 (ofZ w64 value)) ≡ natAbs (entry b) * natAbs value
+  product-is = ap₂ _*_ (c .before .magnitude .ensures ∙ ap natAbs (read-wide w32 w64 tt (entry-fits b))) (ap natAbs read-value)
+
+  small : natAbs (entry b) * natAbs value ≤ entryLimit * errorLimit
+  small = mul-le-mul (at-loop b .before .pre .1 .bounded .entries (6 * p b + at-loop b .before .args .i)) value-small
+
+cast-sum : tie.Need-cast-sum Inv-loop μ-loop
+cast-sum c =
+    subst (λ (z : ℤ). T (nonNeg z) × Fits w64 (natAbs z)) (sym (read-value c)) (at-loop (b c) .before .pre .1 .natural (p (b c)) (omega arith), record { fits = omega (arith, value-small c) })
+
+mul-sum-2 : tie.Need-mul-sum-2 Inv-loop μ-loop
+mul-sum-2 c = omega (arith, product-is c, small c)
+
+add-sum : tie.Need-add-sum Inv-loop μ-loop
+add-sum c = omega (arith, product-is c, small c, at-loop (b c) .loop .inv .small)
 
 add-p : tie.Need-add-p Inv-loop μ-loop
 add-p c = omega arith
@@ -86,10 +100,7 @@ loop-less c = omega arith
 
 loop-again : tie.Need-loop-again Inv-loop μ-loop
 loop-again c =
-    let b = c .before in
-    let at-loop = b .before .before .before in
-    running-more (at-loop .loop .inv) (b .before .before .loop-test .taken) (mul-le-mul (entry-small b) (value-small b))
-    (ap pos (c .magnitude-times-add .ensures ∙ ap₂ (λ (x y : ℤ). at-loop .loop .sum + natAbs x * natAbs y) (read-entry b) (read-value b)))
+    running-more (at-loop (b c) .loop .inv) (b c .before .loop-test .taken) (small c) (ap (λ (k : ℕ). pos (at-loop (b c) .loop .sum + k)) (product-is c))
 
 returns : tie.Need-returns Inv-loop μ-loop
 returns c = running-doneℕ (c .before .loop .inv) (omega arith)
@@ -101,13 +112,17 @@ error-sum-spec =
     Inv-loop
     μ-loop
     loop-holds
-    mul-magnitude-times-add
-    add-magnitude-times-add
-    mul-magnitude-times-add-2
-    element-copy-out-magnitude-times-add
-    mul-magnitude-times-add-3
-    element-copy-out-magnitude-times-add-2
-    magnitude-times-add-requires
+    mul-magnitude
+    add-magnitude
+    mul-magnitude-2
+    element-copy-out-magnitude
+    cast-magnitude
+    magnitude-requires
+    mul-sum
+    element-copy-out-sum
+    cast-sum
+    mul-sum-2
+    add-sum
     add-p
     loop-less
     loop-again

@@ -1,9 +1,10 @@
 -- `stepping::column::product_sum` meets its contract: `sum` is the running sum of the products. The measure is what is left of six.
 -- Assumes nothing.
-use Rattle.integers.proofs.Basics.{_≡_, sym, ap₂, subst, _∙_, ℕ, _+_, _*_, _-_, _≤_, arith, ℤ, natAbs, _+ℤ_, _*ℤ_, w32, w64, toZ, ofZ}
+use Rattle.integers.proofs.Basics.{_≡_, refl, ℕ, _+_, _*_, _-_, _≤_, arith, ℤ, natAbs, _+ℤ_, _*ℤ_, w32, w64, SFits, toZ}
 use mathlib.Core.List.{List}
+use lib.Dec.{lit<}
 use Rattle.integers.specs.Sums.{vector, matrix as matrixOf}
-use Rattle.integers.proofs.Machine.{read-given}
+use Rattle.integers.proofs.Machine.{sfits-of-natAbs, fits-wide, ProductAdded, product-added}
 use Rattle.integers.proofs.Order.{natAbs-mul-le}
 use Rattle.integers.proofs.RunningSum.{RunningSum, running-start, running-more, running-done}
 use Rattle.stepping.specs.Limits.{entryLimit, growthLimit}
@@ -22,57 +23,70 @@ abbrev μ-loop : tie.MeasureT-loop
 loop-holds : tie.Need-loop-holds Inv-loop μ-loop
 loop-holds c = running-start 6 (product (c .args .matrix .now) (c .args .r .now) (c .args .i)) (entryLimit * growthLimit)
 
-mul-times-add : tie.Need-mul-times-add Inv-loop μ-loop
-mul-times-add c = omega arith
+mul-sum : tie.Need-mul-sum Inv-loop μ-loop
+mul-sum c = omega arith
 
-add-times-add : tie.Need-add-times-add Inv-loop μ-loop
-add-times-add c = omega (arith, c .before .before .pre .0)
+add-sum : tie.Need-add-sum Inv-loop μ-loop
+add-sum c = omega (arith, c .before .before .pre .0)
 
-mul-times-add-2 : tie.Need-mul-times-add-2 Inv-loop μ-loop
-mul-times-add-2 c = omega (arith, c .before .before .pre .0)
+mul-sum-2 : tie.Need-mul-sum-2 Inv-loop μ-loop
+mul-sum-2 c = omega (arith, c .before .before .pre .0)
 
-element-copy-out-times-add : tie.Need-element-copy-out-times-add Inv-loop μ-loop
-element-copy-out-times-add c = omega (arith, c .before .before .pre .0)
+element-copy-out-sum : tie.Need-element-copy-out-sum Inv-loop μ-loop
+element-copy-out-sum c = omega (arith, c .before .before .pre .0)
 
-mul-times-add-3 : tie.Need-mul-times-add-3 Inv-loop μ-loop
-mul-times-add-3 c = omega arith
-
-element-copy-out-times-add-2 : tie.Need-element-copy-out-times-add-2 Inv-loop μ-loop
-element-copy-out-times-add-2 c = omega arith
-
--- the entry and the value of a turn, read
-module _ (c : tie.After-times-add-arg2 Inv-loop μ-loop) where
-  abbrev start : tie.Start Inv-loop μ-loop
-  start = c .before .before .before .before
+-- the entry of a turn
+module _ (c : tie.After-sum Inv-loop μ-loop) where
+  abbrev at-loop : tie.At-loop Inv-loop μ-loop
+  at-loop = c .before .before
 
   abbrev p : ℕ
-  p = c .before .before .before .loop .p
+  p = at-loop .loop .p
 
   abbrev entry : ℤ
-  entry = matrixOf (start .args .matrix .now) p (start .args .i)
+  entry = matrixOf (at-loop .before .args .matrix .now) p (at-loop .before .args .i)
+
+  entry-fits : SFits w32 entry
+  entry-fits = record { sfits = c .sum .given }
+
+cast-sum : tie.Need-cast-sum Inv-loop μ-loop
+cast-sum c = fits-wide w32 w64 tt (entry-fits c)
+
+mul-sum-3 : tie.Need-mul-sum-3 Inv-loop μ-loop
+mul-sum-3 c = omega arith
+
+element-copy-out-sum-2 : tie.Need-element-copy-out-sum-2 Inv-loop μ-loop
+element-copy-out-sum-2 c = omega arith
+
+-- its product with the value of the turn is small, and that product is added
+module _ (c : tie.After-sum2 Inv-loop μ-loop) where
+  abbrev b : tie.After-sum Inv-loop μ-loop
+  b = c .before
+
+  abbrev sum : ℤ
+  sum = toZ w64 (at-loop b .loop .sum)
 
   abbrev value : ℤ
-  value = vector (start .args .r .now) p
+  value = vector (at-loop b .before .args .r .now) (p b)
 
-  read-entry : toZ w32 (ofZ w32 entry) ≡ entry
-  read-entry = read-given w32 entry (c .before .times-add-arg .given)
+  small : natAbs (entry b *ℤ value) ≤ entryLimit * growthLimit
+  small =
+      let bounded = at-loop b .before .pre .1 in
+      natAbs-mul-le (entry b) value (bounded .entries (6 * p b + at-loop b .before .args .i)) (bounded .values (p b) (b .before .loop-test .taken))
 
-  read-value : toZ w64 (ofZ w64 value) ≡ value
-  read-value = read-given w64 value (c .times-add-arg2 .given)
+  more : {s : ℤ} → s ≡ sum +ℤ entry b *ℤ value → RunningSum 6 (product (at-loop b .before .args .matrix .now) (at-loop b .before .args .r .now) (at-loop b .before .args .i)) (entryLimit * growthLimit) (p b + 1) s
+  more = running-more (at-loop b .loop .inv) (b .before .loop-test .taken) small
 
-  entry-small : natAbs entry ≤ entryLimit
-  entry-small = start .pre .1 .entries (6 * p + start .args .i)
+  added : ProductAdded sum (entry b) value
+  added =
+      product-added sum (entry-fits b) (record { sfits = c .sum2 .given }) (sfits-of-natAbs w64 small (lit< tt))
+      (sfits-of-natAbs w64 {b = 6 * (entryLimit * growthLimit)} (omega (arith, more refl .small, b .before .loop-test .taken)) (lit< tt))
 
-  value-small : natAbs value ≤ growthLimit
-  value-small = start .pre .1 .values p (omega arith)
+mul-sum-4 : tie.Need-mul-sum-4 Inv-loop μ-loop
+mul-sum-4 c = added c .product-fits
 
-times-add-requires : tie.Need-times-add-requires Inv-loop μ-loop
-times-add-requires c κs =
-    record {
-      sum-small = omega (arith, c .before .before .before .loop .inv .small, c .before .before .loop-test .taken);
-      entry-small = subst (λ (z : ℤ). natAbs z ≤ entryLimit) (sym (read-entry c)) (entry-small c);
-      value-small = subst (λ (z : ℤ). natAbs z ≤ growthLimit) (sym (read-value c)) (value-small c);
-    }
+add-sum-2 : tie.Need-add-sum-2 Inv-loop μ-loop
+add-sum-2 c = added c .sum-fits
 
 add-p : tie.Need-add-p Inv-loop μ-loop
 add-p c = omega arith
@@ -81,11 +95,7 @@ loop-less : tie.Need-loop-less Inv-loop μ-loop
 loop-less c = omega arith
 
 loop-again : tie.Need-loop-again Inv-loop μ-loop
-loop-again c =
-    let b = c .before in
-    let at-loop = b .before .before .before in
-    running-more (at-loop .loop .inv) (b .before .before .loop-test .taken) (natAbs-mul-le (entry b) (value b) (entry-small b) (value-small b))
-    (read-given w64 (c .times-add .result) (c .times-add .ok) ∙ c .times-add .ensures ∙ ap₂ (λ (x y : ℤ). toZ w64 (at-loop .loop .sum) +ℤ x *ℤ y) (read-entry b) (read-value b))
+loop-again c = more c (added c .is)
 
 returns : tie.Need-returns Inv-loop μ-loop
 returns c = running-done (c .before .loop .inv) (omega arith)
@@ -97,13 +107,15 @@ product-sum-spec =
     Inv-loop
     μ-loop
     loop-holds
-    mul-times-add
-    add-times-add
-    mul-times-add-2
-    element-copy-out-times-add
-    mul-times-add-3
-    element-copy-out-times-add-2
-    times-add-requires
+    mul-sum
+    add-sum
+    mul-sum-2
+    element-copy-out-sum
+    cast-sum
+    mul-sum-3
+    element-copy-out-sum-2
+    mul-sum-4
+    add-sum-2
     add-p
     loop-less
     loop-again
