@@ -4,7 +4,7 @@ use mathlib.Core.Path.{_≡_, refl, sym, ap, ap₂, subst, _∙_}
 use mathlib.Core.Bool.{Bool, true, false}
 use mathlib.Core.List.{List, [], _∷_, _++_}
 use Prim.Native.Nat.{ℕ, zero, suc, _+_, _^_, _≤_, _<_, suc-le-suc}
-use native.Mathlib.Nat.{not-suc-le-zero, le-of-suc-le-suc, div-le-self}
+use native.Mathlib.Nat.{not-suc-le-zero, le-of-suc-le-suc, lt-of-le-of-lt, div-le-self}
 use native.Mathlib.Numerals.{add-one}
 use native.Mathlib.Omega.{arith}
 use borrow.Author.Tests.{eq-eqb, ne-eqb, eqb-true, eqb-false}
@@ -12,7 +12,7 @@ use lib.Dec.{T, eqb, leb}
 use lib.Pow.{pow-pos}
 use lib.ListN.{length, getD, set, drop, List·getD-append}
 use lib.IntN.{ℤ, pos, negsuc, natAbs, _+ℤ_, _*ℤ_}
-use lib.Signed.{mag, shrZ}
+use lib.Signed.{mag, shrZ, mag-shr}
 use mir.Syntax.{Width, w32, w64}
 use mir.Val.{SFits, hbits, toZ, ofZ}
 use mir.Facts.{toZ-ofZ, toZ-pos, sfits-widen}
@@ -66,6 +66,10 @@ read-wide w w′ t f = ap (λ (x : ℤ). toZ w′ (ofZ w′ x)) (toZ-ofZ f) ∙ 
 -- the cast to the wider width
 pub fits-wide : (w w′ : Width) {z : ℤ} → T (leb (hbits w) (hbits w′)) → SFits w z → SFits w′ (toZ w (ofZ w z))
 fits-wide w w′ t f = subst (SFits w′) (sym (toZ-ofZ f)) (sfits-widen t f)
+
+-- a number read from its bits, shifted right and read again: what is held is the quotient rounded toward minus infinity
+pub read-shifted : (w : Width) (z : ℤ) (m : ℕ) → mag z < 2 ^ hbits w → toZ w (ofZ w (shrZ (toZ w (ofZ w z)) m)) ≡ shrZ z m
+read-shifted w z m h = ap (λ (x : ℤ). toZ w (ofZ w (shrZ x m))) (read-given w z h) ∙ read-given w (shrZ z m) (lt-of-le-of-lt (mag-shr z m) h)
 
 -- ---- sum + (a as i64) * b, for an i64 sum, an i32 a and an i64 b
 

@@ -1,16 +1,16 @@
 -- Laws of ℤ that later proofs cite by name: the ring, the order, tests of order, magnitude, distance.
 -- Each is a line by `le!` and `eq!` of `SignedParts`. Assumes nothing.
-use mathlib.Core.Path.{_≡_, refl, sym, ap, subst, _∙_}
+use mathlib.Core.Path.{_≡_, refl, sym, subst}
 use mathlib.Core.Bool.{Bool, true, false, not}
-use Prim.Native.Nat.{ℕ, zero, suc, _+_, _*_, _≤_, _<_}
-use native.Mathlib.Nat.{mul-le-mul, mul-le-mul-left, mul-le-mul-right, le-refl, le-trans}
+use Prim.Native.Nat.{ℕ, zero, suc, _+_, _*_, _≤_}
+use native.Mathlib.Nat.{mul-le-mul, mul-le-mul-left, le-trans}
 use native.Mathlib.Omega.{arith}
 use borrow.Author.Tests.{ltb-true, ltb-false, lt-leb, le-leb, leb-false}
-use lib.Dec.{T, ltb, leb}
+use lib.Dec.{T}
 use lib.IntN.{ℤ, pos, negsuc, negℤ, natAbs, _+ℤ_, _-ℤ_, _*ℤ_}
 use lib.Signed.{leZ, ltZ, ltZ-no}
 use Rattle.integers.specs.Whole.{_⩽_, Near}
-use Rattle.integers.proofs.SignedParts.{pp, nn, v, #, _⊕_, _⊖_, _⊗_, le!, eq!, le?, eq?, abs!, near!, near?, natAbs-parts, parts-of-le}
+use Rattle.integers.proofs.SignedParts.{v, #, _⊕_, _⊖_, _⊗_, le!, eq!, le?, eq?, abs!, near!, near?, natAbs-parts}
 
 -- ---- the ring
 

@@ -13,7 +13,8 @@ use Rattle.integers.specs.Sums.{vector, magnitudes, matrix, transposed, tabulat
 use Rattle.integers.proofs.Sums.{allBelow-intro, sum-cong, sum-none, sum-beyond, sumℕ-cong, sumℕ-none, sumℕ-beyond, maxℕ-beyond}
 use Rattle.integers.proofs.Machine.{tabulate-cong, getD-tabulate}
 use Rattle.arrays.specs.Tests.{allBetween, zeroOutside}
-use Rattle.arrays.proofs.Laws.{and-true, zeroOutside-row, zeroOutside-column, zeroOutside-wider}
+use Rattle.integers.proofs.Booleans.{and-true}
+use Rattle.arrays.proofs.Tests.{zeroOutside-row, zeroOutside-column, zeroOutside-wider}
 use Rattle.stepping.specs.Limits.{matrixUnit, entryLimit, growthLimit}
 use Rattle.stepping.specs.Recurrence.{nextR, nextE, errorSum, growthSum}
 use Rattle.stepping.specs.Refusals.{nonNegative, matrixOk, workingOk, stepOk, steppedR, steppedE, Steps}

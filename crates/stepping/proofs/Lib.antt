@@ -3,5 +3,4 @@ pub mod Recurrence
 pub mod Working
 pub mod Beyond
 pub mod Stands
-pub mod Shifts
 pub mod Numbers

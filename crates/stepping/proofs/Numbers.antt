@@ -7,7 +7,7 @@ use Prim.Native.Nat.{ℕ}
 use native.Mathlib.Omega.{arith}
 use lib.IntN.{ℤ}
 use Rattle.integers.specs.Sums.{vector, magnitudes}
-use Rattle.arrays.proofs.Laws.{number-cond}
+use Rattle.integers.proofs.Booleans.{number-cond}
 use Rattle.stepping.specs.Recurrence.{growthSum, spare}
 use Rattle.stepping.specs.Refusals.{steppedNumber, spareNumber, workingOk, growthAnswer, Grows, stepOk, steppedR, steppedE, Steps, spareOk, spareAnswer, Spares}
 use Rattle.stepping.specs.declared.Stepped.{Stepped}

@@ -1,9 +1,9 @@
 -- Laws of the recurrence's definitions, which callers cite in place of unfolding them. In order: equal matrices, r and e give
 -- equal next ones and equal growth sums; what the growth limit says of each r and e; the first working direction.
 -- Assumes nothing.
-use mathlib.Core.Path.{_≡_, ap, ap₂, subst, sym}
+use mathlib.Core.Path.{_≡_, ap, ap₂}
 use Prim.Native.Nat.{ℕ, _+_, _*_, _≤_, _<_}
-use native.Mathlib.Nat.{le-trans, mul-le-mul-left}
+use native.Mathlib.Nat.{le-trans}
 use native.Mathlib.Omega.{arith}
 use lib.IntN.{ℤ, pos, natAbs, _*ℤ_}
 use Rattle.integers.specs.Whole.{floorDiv, ceilDivℕ, fraction}
@@ -11,7 +11,7 @@ use Rattle.integers.specs.Sums.{transposed}
 use Rattle.integers.proofs.Order.{natAbs-mul}
 use Rattle.integers.proofs.Sums.{sum-cong, sumℕ-cong, maxℕ-cong, le-maxℕ, maxℕ-le}
 use Rattle.stepping.specs.Limits.{matrixUnit, directionUnit, growthLimit, errorLimit}
-use Rattle.stepping.specs.Recurrence.{firstR, firstE, nextR, nextE, errorSum, growthSum}
+use Rattle.stepping.specs.Recurrence.{firstR, firstE, nextR, nextE, growthSum}
 
 -- ---- equal in the first n coordinates
 

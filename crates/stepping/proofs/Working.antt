@@ -1,17 +1,17 @@
 -- What the tests of a working direction say, coordinate by coordinate, and back. Assumes nothing.
-use mathlib.Core.Path.{_≡_, sym, ap, ap₂, subst, _∙_}
-use mathlib.Core.Bool.{Bool, true, false, _&&_, _||_}
+use mathlib.Core.Path.{_≡_, ap, ap₂, _∙_}
+use mathlib.Core.Bool.{Bool, true, _&&_, _||_}
 use mathlib.Core.List.{List}
 use Prim.Native.Nat.{ℕ, _≤_, _<_}
 use native.Mathlib.Decide.{decLt}
 use native.Mathlib.Omega.{arith}
 use borrow.Author.Tests.{lt-ltb, le-ltb, le-leb, leb-true, eq-eqb, eqb-true}
-use lib.Dec.{T, leb, ltb, eqb}
-use lib.IntN.{ℤ, natAbs}
+use lib.Dec.{leb, ltb, eqb}
+use lib.IntN.{ℤ}
 use lib.Signed.{nonNeg}
 use Rattle.integers.specs.Sums.{vector, magnitudes}
 use Rattle.integers.proofs.Sums.{allBelow-at, allBelow-intro}
-use Rattle.arrays.proofs.Laws.{and-true, or-true, or-false}
+use Rattle.integers.proofs.Booleans.{and-true, or-true, or-false}
 use Rattle.stepping.specs.Limits.{growthLimit}
 use Rattle.stepping.specs.Recurrence.{growthSum}
 use Rattle.stepping.specs.Refusals.{dimensionOk, zeroBeyond, nonNegative, workingOk}

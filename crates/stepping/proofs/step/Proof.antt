@@ -8,10 +8,11 @@ use lib.Dec.{T}
 use lib.IntN.{negℤ}
 use Rattle.integers.specs.Sums.{vector, magnitudes}
 use Rattle.arrays.specs.Tests.{allBetween, zeroOutside}
-use Rattle.arrays.proofs.Laws.{and-true, and-false, allBetween-at}
+use Rattle.integers.proofs.Booleans.{and-true, and-false}
+use Rattle.arrays.proofs.Tests.{allBetween-at}
 use Rattle.stepping.specs.Limits.{entryLimit, growthLimit}
 use Rattle.stepping.specs.Recurrence.{growthSum}
-use Rattle.stepping.specs.Refusals.{stepOk, workingOk, nonNegative, matrixOk, steppedR, steppedE}
+use Rattle.stepping.specs.Refusals.{workingOk, nonNegative, matrixOk, steppedR, steppedE}
 use Rattle.stepping.specs.Inner.{Bounded, BoundedErrors}
 use Rattle.stepping.specs.declared.Stepped.the-variants.{Sum, Refused}
 use Rattle.stepping.proofs.Numbers.{steps, refused-only, sum-only}

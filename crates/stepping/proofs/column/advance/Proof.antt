@@ -5,9 +5,9 @@ use mathlib.Core.List.{List, [], _∷_}
 use lib.Signed.{mag, shrZ}
 use Rattle.integers.specs.Whole.{ceilDivℕ, fraction}
 use Rattle.integers.specs.Sums.{vector, magnitudes, matrix as matrixOf, transposed}
-use Rattle.integers.proofs.Machine.{read-given}
+use Rattle.integers.proofs.Machine.{read-given, read-shifted}
+use Rattle.stepping.specs.Limits.{matrixUnit}
 use Rattle.stepping.specs.Recurrence.{nextR, nextE, errorSum}
-use Rattle.stepping.proofs.Shifts.{read-shifted}
 use Rattle.stepping.proofs.column.advance.Statement.{statement}
 use Rattle.stepping.proofs.column.advance.Tie as tie
 
@@ -52,11 +52,11 @@ module _ (m r e : List ℤ) (i : ℕ) {N : ℤ} (fits : mag N < 9223372036854775
   read : toZ w64 (ofZ w64 N) ≡ transposed 6 (matrixOf m) (vector r) i
   read = read-given w64 N fits ∙ is
 
-  in-r : toZ w64 (ofZ w64 (shrZ (toZ w64 (ofZ w64 N)) 65536)) ≡ nextR 6 (matrixOf m) (vector r) i
-  in-r = read-shifted N fits ∙ ap (λ (z : ℤ). shrZ z 65536) is
+  in-r : toZ w64 (ofZ w64 (shrZ (toZ w64 (ofZ w64 N)) matrixUnit)) ≡ nextR 6 (matrixOf m) (vector r) i
+  in-r = read-shifted w64 N matrixUnit fits ∙ ap (λ (z : ℤ). shrZ z matrixUnit) is
 
-  in-e : {x : ℤ} → mag x < 9223372036854775808 → x ≡ pos (ceilDivℕ (errorSum 6 (matrixOf m) (magnitudes e) i) 65536 + fraction (toZ w64 (ofZ w64 N)) 65536) → toZ w64 (ofZ w64 x) ≡ pos (nextE 6 (matrixOf m) (vector r) (magnitudes e) i)
-  in-e {x} small f = read-given w64 x small ∙ f ∙ ap (λ (z : ℤ). pos (ceilDivℕ (errorSum 6 (matrixOf m) (magnitudes e) i) 65536 + fraction z 65536)) read
+  in-e : {x : ℤ} → mag x < 9223372036854775808 → x ≡ pos (ceilDivℕ (errorSum 6 (matrixOf m) (magnitudes e) i) matrixUnit + fraction (toZ w64 (ofZ w64 N)) matrixUnit) → toZ w64 (ofZ w64 x) ≡ pos (nextE 6 (matrixOf m) (vector r) (magnitudes e) i)
+  in-e {x} small f = read-given w64 x small ∙ f ∙ ap (λ (z : ℤ). pos (ceilDivℕ (errorSum 6 (matrixOf m) (magnitudes e) i) matrixUnit + fraction z matrixUnit)) read
 
 returns : tie.Need-returns
 returns c =

@@ -4,13 +4,11 @@ use Rattle.integers.proofs.Basics.{_≡_, refl, sym, ap, ap₂, subst, _∙_, B
 use mathlib.Core.Bool.{cond}
 use mathlib.Core.List.{List}
 use Prim.Native.Nat.{max}
-use lib.Dec.{lit<}
-use lib.Signed.{nonNeg, ltZ, natAbs-le}
+use lib.Signed.{nonNeg, natAbs-le}
 use Rattle.integers.specs.Sums.{vector, magnitudes, allBelow, maxℕ}
 use Rattle.integers.proofs.Sums.{allBelow-more, allBelow-fails, maxℕ-suc}
 use Rattle.integers.proofs.Order.{negative-is, natural-is}
 use Rattle.integers.proofs.Machine.{read-given}
-use Rattle.stepping.specs.declared.Stepped.{Stepped}
 use Rattle.stepping.specs.declared.Stepped.the-variants.{Sum, Refused}
 use Rattle.stepping.proofs.refusals.largest_sum.Statement.{statement}
 use Rattle.stepping.proofs.refusals.largest_sum.Tie as tie
@@ -21,13 +19,13 @@ naturalAt e i = nonNeg (vector e i)
 abbrev sumAt : List ℤ → List ℤ → ℕ → ℕ
 sumAt r e i = natAbs (vector r i) + magnitudes e i
 
-record So (r e : List ℤ) (most i : ℕ) : Type 0 where
+record LargestSoFar (r e : List ℤ) (most i : ℕ) : Type 0 where
   inside : i ≤ 6
   natural : allBelow i (naturalAt e) ≡ true
   largest : most ≡ maxℕ i (sumAt r e)
 
 abbrev Inv-loop : tie.InvT-loop
-Inv-loop r e most₀ i₀ most i = So r e most i
+Inv-loop r e most₀ i₀ most i = LargestSoFar r e most i
 
 abbrev μ-loop : tie.MeasureT-loop
 μ-loop r e most₀ i₀ most i = 6 - i

@@ -1,6 +1,6 @@
 -- `stepping::refusals::row_zero` meets its contract: the test holds of every place passed. The measure is what is left of six.
 -- Assumes nothing.
-use Rattle.integers.proofs.Basics.{_≡_, sym, ap, ap₂, Bool, true, ℕ, _+_, _*_, _-_, _≤_, _<_, arith, natAbs, ℤ, w32}
+use Rattle.integers.proofs.Basics.{_≡_, sym, ap, ap₂, Bool, true, ℕ, _-_, _≤_, _<_, arith, natAbs, ℤ, w32}
 use mathlib.Core.Bool.{_||_}
 use native.Mathlib.Nat.{le-refl}
 use borrow.Author.Count.{below-more}

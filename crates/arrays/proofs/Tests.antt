@@ -1,7 +1,7 @@
 -- What the tests over an array say of each element, also of a place past its end, where a stored vector is zero.
 -- Assumes nothing.
 use mathlib.Core.Path.{_≡_, refl, sym, ap, ap₂, subst, _∙_}
-use mathlib.Core.Bool.{Bool, true, false, _&&_, _||_, cond}
+use mathlib.Core.Bool.{Bool, true, false, _&&_, _||_}
 use mathlib.Core.List.{List}
 use Prim.Native.Nat.{ℕ, _+_, _*_, _/_, _%_, _≤_, _<_}
 use native.Mathlib.Decide.{decLt}
@@ -12,35 +12,12 @@ use lib.ListN.{length, List·getD-eq-default}
 use lib.IntN.{ℤ, pos, negℤ, natAbs}
 use lib.Signed.{leZ}
 use Rattle.integers.specs.Sums.{vector, matrix}
+use Rattle.integers.proofs.Booleans.{and-true, and-false, or-true, or-false}
 use Rattle.integers.proofs.SignedParts.{v, #, neg, le?, abs! }
 use Rattle.integers.proofs.Order.{⩽-of-leZ}
 use Rattle.integers.proofs.Sums.{allBelow-at, allBelow-intro}
 use Rattle.integers.proofs.Machine.{zero-of-natAbs}
 use Rattle.arrays.specs.Tests.{between, allBetween, zeroUnless, zeroOutside}
-
--- ---- tests joined by && and ||
-
-pub and-true : (a b : Bool) → a && b ≡ true → (a ≡ true) × (b ≡ true)
-and-true true b e = (refl, e)
-and-true false b e = let z : _≡_ {A = ℕ} 0 1 = cc in absurd (omega arith)
-
-pub and-false : (a : Bool) → a && false ≡ false
-and-false true = refl
-and-false false = refl
-
--- a test that holds leaves the other; one that fails, nothing
-pub and-skip : {a : Bool} (b : Bool) → a ≡ true → a && b ≡ b
-and-skip b t = ap (λ (x : Bool). x && b) t
-
-pub and-stop : {a : Bool} (b : Bool) → a ≡ false → a && b ≡ false
-and-stop b f = ap (λ (x : Bool). x && b) f
-
-pub or-true : (a : Bool) → a || true ≡ true
-or-true true = refl
-or-true false = refl
-
-pub or-false : (a b : Bool) → a || b ≡ true → a ≡ false → b ≡ true
-or-false a b t f = sym (ap (λ (x : Bool). x || b) f) ∙ t
 
 -- past the end of a list a vector is zero
 beyond-end : (xs : List ℤ) (k : ℕ) → length xs ≤ k → vector xs k ≡ pos 0
@@ -87,10 +64,3 @@ zeroOutside-wider {n} {n′} xs l t = allBelow-intro (length xs) (λ k. zeroUnle
         let both = and-true (ltb (k / 6) n) (ltb (k % 6) n) e in
         ap (λ (b : Bool). b || eqb (natAbs (vector xs k)) 0) (ap₂ _&&_ (lt-ltb (k / 6) n′ (omega (arith, ltb-true (k / 6) n (both .0)))) (lt-ltb (k % 6) n′ (omega (arith, ltb-true (k % 6) n (both .1)))))
     cases k false e = ap (λ (b : Bool). (ltb (k / 6) n′ && ltb (k % 6) n′) || b) (eq-eqb _ 0 (ap natAbs (zeroOutside-at n n xs t k e))) ∙ or-true (ltb (k / 6) n′ && ltb (k % 6) n′)
-
--- ---- answers
-
--- the number of an answer that is one of two
-pub number-cond : {A : Type 0} (number : A → ℕ) (t : Bool) (x y : A) → number (cond t x y) ≡ cond t (number x) (number y)
-number-cond number true x y = refl
-number-cond number false x y = refl
