@@ -1,5 +1,5 @@
 -- `stepping::growth` meets its contract, test by test; the largest sum of six is that of n. Assumes nothing.
-use Rattle.integers.proofs.Basics.{_≡_, sym, ap, subst, _∙_, true, ℕ, _≤_, _<_, needs, ℤ}
+use Rattle.integers.proofs.Basics.{_≡_, sym, ap, _∙_, true, ℕ, arith, needs, ℤ}
 use mathlib.Core.List.{List}
 use borrow.Author.Tests.{le-leb, lt-leb, not-true, not-false}
 use lib.Dec.{leb}
@@ -96,13 +96,13 @@ passed c =
 returns-6 : tie.Need-returns-6
 returns-6 c =
     let b = c .before .before .before .before .before in
-    let above = lt-leb _ growthLimit (subst (λ (s : ℕ). growthLimit < s) (passed (c .before) .1) (c .if5 .taken)) in
+    let above = lt-leb (growthSum (n b) (vector (r b)) (magnitudes (e b))) growthLimit (omega (arith, passed (c .before) .1, c .if5 .taken)) in
     grows _ _ _ Refused (simp (least (at-n b), most (at-n b), zero-r (at-r b), zero-e b, passed (c .before) .0, above))
 
 returns-7 : tie.Need-returns-7
 returns-7 c =
     let b = c .before .before .before .before .before in
-    let within = le-leb _ growthLimit (subst (λ (s : ℕ). s ≤ growthLimit) (passed (c .before) .1) (c .if5 .left)) in
+    let within = le-leb (growthSum (n b) (vector (r b)) (magnitudes (e b))) growthLimit (omega (arith, passed (c .before) .1, c .if5 .left)) in
     grows (n b) (r b) (e b) _ (simp (least (at-n b), most (at-n b), zero-r (at-r b), zero-e b, passed (c .before) .0, within) (ap Sum (passed (c .before) .1)))
 
 pub growth-spec : {M : Type 1} → statement M
