@@ -49,9 +49,6 @@ cast-result-2 c =
 returns : tie.Need-returns
 returns c = ap (λ (z : ℤ). natAbs z + 1) (read c) ∙ native.Mathlib.Numerals.add-one (form c .0) ∙ ap natAbs (sym (form c .1))
 
-returns-2 : tie.Need-returns-2
-returns-2 c = search needs
-
 pub magnitude-spec : {M : Type 1} → statement M
 magnitude-spec =
-    tie.close (tie.spec sub-result cast-result add-result cast-result-2 returns returns-2)
+    tie.close (tie.spec sub-result cast-result add-result cast-result-2 returns (λ c. search needs))

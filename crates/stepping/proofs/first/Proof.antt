@@ -20,12 +20,6 @@ abbrev μ-loop : tie.MeasureT-loop
 loop-holds : tie.Need-loop-holds Inv-loop μ-loop
 loop-holds c = (omega arith, sym (filled-none (firstR (vector (c .args .direction .now))) _))
 
-mul-scaled : tie.Need-mul-scaled Inv-loop μ-loop
-mul-scaled c = omega arith
-
-element-copy-out-scaled : tie.Need-element-copy-out-scaled Inv-loop μ-loop
-element-copy-out-scaled c = omega arith
-
 -- the entry of a turn, and its product
 module _ (c : tie.After-scaled Inv-loop μ-loop) where
   abbrev entry : ℤ
@@ -47,18 +41,6 @@ cast-scaled c = fits-wide w32 w64 tt (fits c)
 mul-scaled-2 : tie.Need-mul-scaled-2 Inv-loop μ-loop
 mul-scaled-2 c = subst (SFits w64) (sym (product-is c)) (product-fits c)
 
-mul-scaled-3 : tie.Need-mul-scaled-3 Inv-loop μ-loop
-mul-scaled-3 c = omega arith
-
-array-set-from-scaled : tie.Need-array-set-from-scaled Inv-loop μ-loop
-array-set-from-scaled c = omega arith
-
-add-i : tie.Need-add-i Inv-loop μ-loop
-add-i c = omega arith
-
-loop-less : tie.Need-loop-less Inv-loop μ-loop
-loop-less c = omega arith
-
 loop-again : tie.Need-loop-again Inv-loop μ-loop
 loop-again c =
     let at-loop = c .before .before in
@@ -78,13 +60,13 @@ first-spec =
     Inv-loop
     μ-loop
     loop-holds
-    mul-scaled
-    element-copy-out-scaled
+    (λ c. omega arith)
+    (λ c. omega arith)
     cast-scaled
     mul-scaled-2
-    mul-scaled-3
-    array-set-from-scaled
-    add-i
-    loop-less
+    (λ c. omega arith)
+    (λ c. omega arith)
+    (λ c. omega arith)
+    (λ c. omega arith)
     loop-again
     returns)

@@ -20,9 +20,6 @@ returns c = grows _ _ _ Refused (simp (lt-leb _ _ (c .if1 .taken)))
 returns-2 : tie.Need-returns-2
 returns-2 c = grows _ _ _ Refused (simp (le-leb _ _ (c .before .if1 .left), lt-leb _ _ (c .if2 .taken)))
 
-zero-beyond-requires : tie.Need-zero-beyond-requires
-zero-beyond-requires c κs = search needs
-
 -- n from 1 to 6
 module _ (c : tie.Else2) where
   least : leb 1 (c .before .before .args .n) ≡ true
@@ -35,9 +32,6 @@ returns-3 : tie.Need-returns-3
 returns-3 c =
     let at-n = c .before .before in
     grows _ _ _ Refused (simp (least at-n, most at-n, sym (c .before .zero-beyond .ensures) ∙ not-true _ (c .if3 .taken)))
-
-zero-beyond-requires-2 : tie.Need-zero-beyond-requires-2
-zero-beyond-requires-2 c κs = search needs
 
 zero-r : (c : tie.Else3) → zeroBeyond (c .before .before .before .before .args .n) (c .before .before .before .before .args .r .now) ≡ true
 zero-r c = sym (c .before .zero-beyond .ensures) ∙ not-false _ (c .if3 .left)
@@ -71,15 +65,6 @@ module _ (c : tie.Else4) where
   six : growthSum 6 (vector r) (magnitudes e) ≡ growthSum n (vector r) (magnitudes e)
   six = growthSum-six n (at-n .if2 .left) (vector r) (magnitudes e) (zeroBeyond-at n r (zero-r at-r)) (zeroBeyond-at n e zero-e)
 
-largest-sum-requires : tie.Need-largest-sum-requires
-largest-sum-requires c κs = search needs
-
-enum-known-sum : tie.Need-enum-known-sum
-enum-known-sum c = search needs
-
-enum-told : tie.Need-enum-told
-enum-told c = search needs
-
 returns-5 : tie.Need-returns-5
 returns-5 c =
     let b = c .before .before .before in
@@ -111,13 +96,13 @@ growth-spec =
     (tie.spec
     returns
     returns-2
-    zero-beyond-requires
+    (λ c κs. search needs)
     returns-3
-    zero-beyond-requires-2
+    (λ c κs. search needs)
     returns-4
-    largest-sum-requires
-    enum-known-sum
-    enum-told
+    (λ c κs. search needs)
+    (λ c. search needs)
+    (λ c. search needs)
     returns-5
     returns-6
     returns-7)

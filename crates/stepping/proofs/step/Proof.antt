@@ -22,23 +22,11 @@ use Rattle.stepping.proofs.Beyond.{growthSum-six, growthSum-stepped, no
 use Rattle.stepping.proofs.step.Statement.{statement}
 use Rattle.stepping.proofs.step.Tie as tie
 
-growth-requires : tie.Need-growth-requires
-growth-requires c κs = search needs
-
-enum-told : tie.Need-enum-told
-enum-told c = search needs
-
 returns : tie.Need-returns
 returns c =
     let a = c .before .before .before .before .before .args in
     let failed = refused-only (workingOk (a .n) (a .r .now) (a .e .now)) _ (sym (c .enum-told .given .1) ∙ c .before .before .growth .ensures .answer) in
     steps (a .n) (a .matrix .now) (a .r .now) (a .e .now) false (ap (λ (t : Bool). t && matrixOk (a .n) (a .matrix .now)) failed) Refused (a .r .now) (a .e .now) refl refl refl
-
-enum-told-2 : tie.Need-enum-told-2
-enum-told-2 c = search needs
-
-matrix-ok-requires : tie.Need-matrix-ok-requires
-matrix-ok-requires c κs = search needs
 
 -- after `growth` has answered a sum: r and e pass
 module _ (c : tie.After-enum-told2) where
@@ -97,9 +85,6 @@ module _ (c : tie.Else1) where
 advance-requires : tie.Need-advance-requires
 advance-requires c κs = (bounded-r (c .before .before), bounded-e (c .before .before))
 
-largest-sum-requires : tie.Need-largest-sum-requires
-largest-sum-requires c κs = search needs
-
 returns-3 : tie.Need-returns-3
 returns-3 c =
     let b = c .before .before .before .before .before .before in
@@ -118,12 +103,12 @@ pub step-spec : {M : Type 1} → statement M
 step-spec =
     tie.close
     (tie.spec
-    growth-requires
-    enum-told
+    (λ c κs. search needs)
+    (λ c. search needs)
     returns
-    enum-told-2
-    matrix-ok-requires
+    (λ c. search needs)
+    (λ c κs. search needs)
     returns-2
     advance-requires
-    largest-sum-requires
+    (λ c κs. search needs)
     returns-3)

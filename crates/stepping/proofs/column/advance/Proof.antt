@@ -11,36 +11,6 @@ use Rattle.stepping.specs.Recurrence.{nextR, nextE, errorSum}
 use Rattle.stepping.proofs.column.advance.Statement.{statement}
 use Rattle.stepping.proofs.column.advance.Tie as tie
 
-product-sum-requires : tie.Need-product-sum-requires
-product-sum-requires c κs = search needs
-
-column-error-requires : tie.Need-column-error-requires
-column-error-requires c κs = search needs
-
-product-sum-requires-2 : tie.Need-product-sum-requires-2
-product-sum-requires-2 c κs = search needs
-
-column-error-requires-2 : tie.Need-column-error-requires-2
-column-error-requires-2 c κs = search needs
-
-product-sum-requires-3 : tie.Need-product-sum-requires-3
-product-sum-requires-3 c κs = search needs
-
-column-error-requires-3 : tie.Need-column-error-requires-3
-column-error-requires-3 c κs = search needs
-
-product-sum-requires-4 : tie.Need-product-sum-requires-4
-product-sum-requires-4 c κs = search needs
-
-column-error-requires-4 : tie.Need-column-error-requires-4
-column-error-requires-4 c κs = search needs
-
-product-sum-requires-5 : tie.Need-product-sum-requires-5
-product-sum-requires-5 c κs = search needs
-
-column-error-requires-5 : tie.Need-column-error-requires-5
-column-error-requires-5 c κs = search needs
-
 product-sum-requires-6 : tie.Need-product-sum-requires-6
 product-sum-requires-6 c κs = (omega arith, c .before .before .before .before .before .before .before .before .before .before .before .before .before .before .before .before .before .before .before .before .before .pre .0)
 
@@ -85,16 +55,16 @@ pub advance-spec : {M : Type 1} → statement M
 advance-spec =
     tie.close
     (tie.spec
-    product-sum-requires
-    column-error-requires
-    product-sum-requires-2
-    column-error-requires-2
-    product-sum-requires-3
-    column-error-requires-3
-    product-sum-requires-4
-    column-error-requires-4
-    product-sum-requires-5
-    column-error-requires-5
+    (λ c κs. search needs)
+    (λ c κs. search needs)
+    (λ c κs. search needs)
+    (λ c κs. search needs)
+    (λ c κs. search needs)
+    (λ c κs. search needs)
+    (λ c κs. search needs)
+    (λ c κs. search needs)
+    (λ c κs. search needs)
+    (λ c κs. search needs)
     product-sum-requires-6
     column-error-requires-6
     returns)

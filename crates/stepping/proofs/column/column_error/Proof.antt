@@ -10,9 +10,6 @@ use Rattle.stepping.specs.Limits.{matrixUnit, entryLimit, errorLimit}
 use Rattle.stepping.proofs.column.column_error.Statement.{statement}
 use Rattle.stepping.proofs.column.column_error.Tie as tie
 
-error-sum-requires : tie.Need-error-sum-requires
-error-sum-requires c κs = search needs
-
 few : (c : tie.After-error-sum) → c .error-sum .result ≤ 6 * (entryLimit * errorLimit)
 few c =
     let b = c .before .pre .1 .bounded in
@@ -20,9 +17,6 @@ few c =
 
 add-result : tie.Need-add-result
 add-result c = omega (arith, few c)
-
-inexact-requires : tie.Need-inexact-requires
-inexact-requires c κs = search needs
 
 at-most-one : (c : tie.After-inexact) → c .inexact .result ≤ 1
 at-most-one c =
@@ -42,4 +36,4 @@ returns c =
 pub column-error-spec : {M : Type 1} → statement M
 column-error-spec =
     tie.close
-    (tie.spec error-sum-requires add-result inexact-requires add-result-2 cast-result returns)
+    (tie.spec (λ c κs. search needs) add-result (λ c κs. search needs) add-result-2 cast-result returns)

@@ -24,9 +24,6 @@ abbrev μ-loop : tie.MeasureT-loop
 loop-holds : tie.Need-loop-holds Inv-loop μ-loop
 loop-holds c = running-start 6 (λ q. pos (product (c .args .matrix .now) (c .args .e .now) (c .args .i) q)) (entryLimit * errorLimit)
 
-mul-magnitude : tie.Need-mul-magnitude Inv-loop μ-loop
-mul-magnitude c = omega arith
-
 add-magnitude : tie.Need-add-magnitude Inv-loop μ-loop
 add-magnitude c = omega (arith, c .before .before .pre .0)
 
@@ -52,15 +49,6 @@ module _ (c : tie.After-magnitude-arg Inv-loop μ-loop) where
 
 cast-magnitude : tie.Need-cast-magnitude Inv-loop μ-loop
 cast-magnitude c = fits-wide w32 w64 tt (entry-fits c)
-
-magnitude-requires : tie.Need-magnitude-requires Inv-loop μ-loop
-magnitude-requires c κs = search needs
-
-mul-sum : tie.Need-mul-sum Inv-loop μ-loop
-mul-sum c = omega arith
-
-element-copy-out-sum : tie.Need-element-copy-out-sum Inv-loop μ-loop
-element-copy-out-sum c = omega arith
 
 -- its product with the value of the turn
 module _ (c : tie.After-sum Inv-loop μ-loop) where
@@ -92,12 +80,6 @@ mul-sum-2 c = omega (arith, product-is c, small c)
 add-sum : tie.Need-add-sum Inv-loop μ-loop
 add-sum c = omega (arith, product-is c, small c, at-loop (b c) .loop .inv .small)
 
-add-p : tie.Need-add-p Inv-loop μ-loop
-add-p c = omega arith
-
-loop-less : tie.Need-loop-less Inv-loop μ-loop
-loop-less c = omega arith
-
 loop-again : tie.Need-loop-again Inv-loop μ-loop
 loop-again c =
     running-more (at-loop (b c) .loop .inv) (b c .before .loop-test .taken) (small c) (ap (λ (k : ℕ). pos (at-loop (b c) .loop .sum + k)) (product-is c))
@@ -112,18 +94,18 @@ error-sum-spec =
     Inv-loop
     μ-loop
     loop-holds
-    mul-magnitude
+    (λ c. omega arith)
     add-magnitude
     mul-magnitude-2
     element-copy-out-magnitude
     cast-magnitude
-    magnitude-requires
-    mul-sum
-    element-copy-out-sum
+    (λ c κs. search needs)
+    (λ c. omega arith)
+    (λ c. omega arith)
     cast-sum
     mul-sum-2
     add-sum
-    add-p
-    loop-less
+    (λ c. omega arith)
+    (λ c. omega arith)
     loop-again
     returns)

@@ -23,9 +23,6 @@ abbrev μ-loop : tie.MeasureT-loop
 loop-holds : tie.Need-loop-holds Inv-loop μ-loop
 loop-holds c = running-start 6 (product (c .args .matrix .now) (c .args .r .now) (c .args .i)) (entryLimit * growthLimit)
 
-mul-sum : tie.Need-mul-sum Inv-loop μ-loop
-mul-sum c = omega arith
-
 add-sum : tie.Need-add-sum Inv-loop μ-loop
 add-sum c = omega (arith, c .before .before .pre .0)
 
@@ -51,12 +48,6 @@ module _ (c : tie.After-sum Inv-loop μ-loop) where
 
 cast-sum : tie.Need-cast-sum Inv-loop μ-loop
 cast-sum c = fits-wide w32 w64 tt (entry-fits c)
-
-mul-sum-3 : tie.Need-mul-sum-3 Inv-loop μ-loop
-mul-sum-3 c = omega arith
-
-element-copy-out-sum-2 : tie.Need-element-copy-out-sum-2 Inv-loop μ-loop
-element-copy-out-sum-2 c = omega arith
 
 -- its product with the value of the turn is small, and that product is added
 module _ (c : tie.After-sum2 Inv-loop μ-loop) where
@@ -88,12 +79,6 @@ mul-sum-4 c = added c .product-fits
 add-sum-2 : tie.Need-add-sum-2 Inv-loop μ-loop
 add-sum-2 c = added c .sum-fits
 
-add-p : tie.Need-add-p Inv-loop μ-loop
-add-p c = omega arith
-
-loop-less : tie.Need-loop-less Inv-loop μ-loop
-loop-less c = omega arith
-
 loop-again : tie.Need-loop-again Inv-loop μ-loop
 loop-again c = more c (added c .is)
 
@@ -107,16 +92,16 @@ product-sum-spec =
     Inv-loop
     μ-loop
     loop-holds
-    mul-sum
+    (λ c. omega arith)
     add-sum
     mul-sum-2
     element-copy-out-sum
     cast-sum
-    mul-sum-3
-    element-copy-out-sum-2
+    (λ c. omega arith)
+    (λ c. omega arith)
     mul-sum-4
     add-sum-2
-    add-p
-    loop-less
+    (λ c. omega arith)
+    (λ c. omega arith)
     loop-again
     returns)

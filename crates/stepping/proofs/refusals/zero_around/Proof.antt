@@ -23,9 +23,6 @@ abbrev μ-loop : tie.MeasureT-loop
 loop-holds : tie.Need-loop-holds Inv-loop μ-loop
 loop-holds c = below-none (λ q. rowAt (c .args .n) (c .args .matrix .now) q ≡ true)
 
-row-zero-requires : tie.Need-row-zero-requires Inv-loop μ-loop
-row-zero-requires c κs = search needs
-
 -- where the zeros of the row begin, and what the call says of it
 module _ (c : tie.After-row-zero Inv-loop μ-loop) where
   abbrev at-loop : tie.At-loop Inv-loop μ-loop
@@ -48,12 +45,6 @@ returns c =
     let b = c .before in
     sym (allBelow-fails 6 (f b) (p b) (omega arith) (sym (row-is b) ∙ not-true _ (c .if2 .taken)))
 
-add-p : tie.Need-add-p Inv-loop μ-loop
-add-p c = omega arith
-
-loop-less : tie.Need-loop-less Inv-loop μ-loop
-loop-less c = omega arith
-
 loop-again : tie.Need-loop-again Inv-loop μ-loop
 loop-again c =
     let b = c .before in
@@ -71,9 +62,9 @@ zero-around-spec =
     Inv-loop
     μ-loop
     loop-holds
-    row-zero-requires
+    (λ c κs. search needs)
     returns
-    add-p
-    loop-less
+    (λ c. omega arith)
+    (λ c. omega arith)
     loop-again
     returns-2)
