@@ -1,3 +1,4 @@
+pub mod Booleans
 pub mod SignedParts
 pub mod Order
 pub mod Rounding

@@ -1,20 +1,19 @@
 -- Machine integers in proofs. A signed local is its bits: `toZ w` reads them and `ofZ w` writes them.
--- In order: bits that are 0; ranges; lists filled from the front. Assumes nothing.
-use mathlib.Core.Path.{_≡_, refl, sym, ap, subst, _∙_}
-use mathlib.Core.Logic.{_≢_}
+-- In order: bits that are 0; ranges; a product that is added to a sum; lists filled from the front. Assumes nothing.
+use mathlib.Core.Path.{_≡_, refl, sym, ap, ap₂, subst, _∙_}
 use mathlib.Core.Bool.{Bool, true, false}
 use mathlib.Core.List.{List, [], _∷_, _++_}
-use Prim.Native.Nat.{ℕ, zero, suc, _+_, _-_, _^_, _≤_, _<_, suc-le-suc}
-use native.Mathlib.Nat.{not-suc-le-zero, le-of-suc-le-suc, div-le-self}
+use Prim.Native.Nat.{ℕ, zero, suc, _+_, _^_, _≤_, _<_, suc-le-suc}
+use native.Mathlib.Nat.{not-suc-le-zero, le-of-suc-le-suc, lt-of-le-of-lt, div-le-self}
 use native.Mathlib.Numerals.{add-one}
 use native.Mathlib.Omega.{arith}
 use borrow.Author.Tests.{eq-eqb, ne-eqb, eqb-true, eqb-false}
 use lib.Dec.{T, eqb, leb}
 use lib.Pow.{pow-pos}
 use lib.ListN.{length, getD, set, drop, List·getD-append}
-use lib.IntN.{ℤ, pos, negsuc, natAbs}
-use lib.Signed.{mag, shrZ}
-use mir.Syntax.{Width}
+use lib.IntN.{ℤ, pos, negsuc, natAbs, _+ℤ_, _*ℤ_}
+use lib.Signed.{mag, shrZ, mag-shr}
+use mir.Syntax.{Width, w32, w64}
 use mir.Val.{SFits, hbits, toZ, ofZ}
 use mir.Facts.{toZ-ofZ, toZ-pos, sfits-widen}
 use Rattle.integers.specs.Sums.{tabulate}
@@ -63,6 +62,31 @@ read-given w z h = toZ-ofZ (record { sfits = h })
 -- a number read from its bits, cast to a wider signed width and read again: `read-wide w32 w64 tt f`
 pub read-wide : (w w′ : Width) {z : ℤ} → T (leb (hbits w) (hbits w′)) → SFits w z → toZ w′ (ofZ w′ (toZ w (ofZ w z))) ≡ z
 read-wide w w′ t f = ap (λ (x : ℤ). toZ w′ (ofZ w′ x)) (toZ-ofZ f) ∙ toZ-ofZ (sfits-widen t f)
+
+-- the cast to the wider width
+pub fits-wide : (w w′ : Width) {z : ℤ} → T (leb (hbits w) (hbits w′)) → SFits w z → SFits w′ (toZ w (ofZ w z))
+fits-wide w w′ t f = subst (SFits w′) (sym (toZ-ofZ f)) (sfits-widen t f)
+
+-- a number read from its bits, shifted right and read again: what is held is the quotient rounded toward minus infinity
+pub read-shifted : (w : Width) (z : ℤ) (m : ℕ) → mag z < 2 ^ hbits w → toZ w (ofZ w (shrZ (toZ w (ofZ w z)) m)) ≡ shrZ z m
+read-shifted w z m h = ap (λ (x : ℤ). toZ w (ofZ w (shrZ x m))) (read-given w z h) ∙ read-given w (shrZ z m) (lt-of-le-of-lt (mag-shr z m) h)
+
+-- ---- sum + (a as i64) * b, for an i64 sum, an i32 a and an i64 b
+
+pub record ProductAdded (s a b : ℤ) : Type 0 where
+  pub product-fits : SFits w64 (toZ w64 (ofZ w64 (toZ w32 (ofZ w32 a))) *ℤ toZ w64 (ofZ w64 b))
+  pub sum-fits : SFits w64 (s +ℤ toZ w64 (ofZ w64 (toZ w64 (ofZ w64 (toZ w32 (ofZ w32 a))) *ℤ toZ w64 (ofZ w64 b))))
+  pub is : toZ w64 (ofZ w64 (s +ℤ toZ w64 (ofZ w64 (toZ w64 (ofZ w64 (toZ w32 (ofZ w32 a))) *ℤ toZ w64 (ofZ w64 b))))) ≡ s +ℤ a *ℤ b
+
+pub product-added : (s : ℤ) {a b : ℤ} → SFits w32 a → SFits w64 b → SFits w64 (a *ℤ b) → SFits w64 (s +ℤ a *ℤ b) → ProductAdded s a b
+product-added s {a} {b} fits-a fits-b product total =
+    let product-is = ap₂ _*ℤ_ (read-wide w32 w64 tt fits-a) (toZ-ofZ fits-b) in
+    let sum-is = ap (λ (z : ℤ). s +ℤ z) (ap (λ (z : ℤ). toZ w64 (ofZ w64 z)) product-is ∙ toZ-ofZ product) in
+    record {
+      product-fits = subst (SFits w64) (sym product-is) product;
+      sum-fits = subst (SFits w64) (sym sum-is) total;
+      is = ap (λ (z : ℤ). toZ w64 (ofZ w64 z)) sum-is ∙ toZ-ofZ total;
+    }
 
 -- ---- a list filled from the front: the first i elements are f 0 up to f (i - 1), the rest is as it was
 

@@ -1,21 +1,18 @@
 -- Laws of ℤ that later proofs cite by name: the ring, the order, tests of order, magnitude, distance.
 -- Each is a line by `le!` and `eq!` of `SignedParts`. Assumes nothing.
-use mathlib.Core.Path.{_≡_, refl, sym, ap, subst, _∙_}
+use mathlib.Core.Path.{_≡_, refl, sym, subst}
 use mathlib.Core.Bool.{Bool, true, false, not}
-use Prim.Native.Nat.{ℕ, zero, suc, _+_, _*_, _≤_, _<_}
-use native.Mathlib.Nat.{mul-le-mul, mul-le-mul-left, mul-le-mul-right, le-refl, le-trans}
+use Prim.Native.Nat.{ℕ, zero, suc, _+_, _*_, _≤_}
+use native.Mathlib.Nat.{mul-le-mul, mul-le-mul-left, le-trans}
 use native.Mathlib.Omega.{arith}
 use borrow.Author.Tests.{ltb-true, ltb-false, lt-leb, le-leb, leb-false}
-use lib.Dec.{T, ltb, leb}
+use lib.Dec.{T}
 use lib.IntN.{ℤ, pos, negsuc, negℤ, natAbs, _+ℤ_, _-ℤ_, _*ℤ_}
 use lib.Signed.{leZ, ltZ, ltZ-no}
 use Rattle.integers.specs.Whole.{_⩽_, Near}
-use Rattle.integers.proofs.SignedParts.{pp, nn, v, #, _⊕_, _⊖_, _⊗_, le!, eq!, le?, eq?, abs!, near!, near?, natAbs-parts, parts-of-le}
+use Rattle.integers.proofs.SignedParts.{v, #, _⊕_, _⊖_, _⊗_, le!, eq!, le?, eq?, abs!, near!, near?, natAbs-parts}
 
 -- ---- the ring
-
-pub mulℤ-assoc : (a b c : ℤ) → a *ℤ b *ℤ c ≡ a *ℤ (b *ℤ c)
-mulℤ-assoc a b c = eq! (v a ⊗ v b ⊗ v c) (v a ⊗ (v b ⊗ v c)) (omega arith)
 
 pub mulℤ-add : (a b c : ℤ) → a *ℤ (b +ℤ c) ≡ a *ℤ b +ℤ a *ℤ c
 mulℤ-add a b c = eq! (v a ⊗ (v b ⊕ v c)) (v a ⊗ v b ⊕ v a ⊗ v c) (omega arith)
@@ -37,17 +34,8 @@ pub ⩽-of-eq : {a b : ℤ} → a ≡ b → a ⩽ b
 pub ⩽-trans : {a b c : ℤ} → a ⩽ b → b ⩽ c → a ⩽ c
 ⩽-trans {a} {b} {c} h k = le! (v a) (v c) (omega (arith, le? (v a) (v b) h, le? (v b) (v c) k))
 
-pub ⩽-antisymm : {a b : ℤ} → a ⩽ b → b ⩽ a → a ≡ b
-⩽-antisymm {a} {b} h k = eq! (v a) (v b) (omega (arith, le? (v a) (v b) h, le? (v b) (v a) k))
-
 pub ⩽-add : {a b c d : ℤ} → a ⩽ b → c ⩽ d → a +ℤ c ⩽ b +ℤ d
 ⩽-add {a} {b} {c} {d} h k = le! (v a ⊕ v c) (v b ⊕ v d) (omega (arith, le? (v a) (v b) h, le? (v c) (v d) k))
-
-pub pos-⩽ : {m n : ℕ} → m ≤ n → pos m ⩽ pos n
-pos-⩽ {m} {n} h = le! (# m) (# n) (omega arith)
-
-pub ⩽-pos : {m n : ℕ} → pos m ⩽ pos n → m ≤ n
-⩽-pos {m} {n} h = omega (arith, le? (# m) (# n) h)
 
 pub ⩽-scale : (k : ℕ) {a b : ℤ} → a ⩽ b → pos k *ℤ a ⩽ pos k *ℤ b
 ⩽-scale k {a} {b} h = le! (# k ⊗ v a) (# k ⊗ v b) (omega (arith, mul-le-mul-left k (le? (v a) (v b) h)))

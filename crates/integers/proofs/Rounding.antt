@@ -1,15 +1,15 @@
 -- Laws of the two roundings of `Whole`: what a rounded quotient times its divisor is, and by how much it misses.
 -- In order: `floorDiv`; `ceilDiv`; `ceilDivℕ`. Each holds for every divisor above 0. Assumes nothing.
-use mathlib.Core.Path.{_≡_, refl, sym, ap, subst, _∙_}
+use mathlib.Core.Path.{_≡_, refl, sym, ap, _∙_}
 use mathlib.Core.Bool.{Bool, true, false, cond}
-use Prim.Native.Nat.{ℕ, zero, suc, _+_, _*_, _-_, _/_, _%_, _≤_, _<_}
-use native.Mathlib.Nat.{mul-le-mul-left, div-add-mod', mod-lt, lt-of-mul-lt-mul-left}
+use Prim.Native.Nat.{ℕ, suc, _+_, _*_, _-_, _/_, _%_, _≤_, _<_}
+use native.Mathlib.Nat.{div-add-mod', mod-lt, lt-of-mul-lt-mul-left}
 use native.Mathlib.Omega.{arith}
 use borrow.Author.Tests.{eqb-true}
 use lib.Dec.{eqb}
-use lib.IntN.{ℤ, pos, negsuc, negℤ, natAbs, _+ℤ_, _-ℤ_, _*ℤ_}
+use lib.IntN.{ℤ, pos, negsuc, negℤ, _+ℤ_, _*ℤ_}
 use Rattle.integers.specs.Whole.{_⩽_, Near, floorDiv, ceilDiv, ceilDivℕ, isMultiple, fraction}
-use Rattle.integers.proofs.SignedParts.{v, #, neg, _⊕_, _⊖_, _⊗_, le!, eq!, le?, eq?, near!, near?}
+use Rattle.integers.proofs.SignedParts.{v, #, neg, _⊕_, _⊗_, le!, eq!, le?, near!, near?}
 use Rattle.integers.proofs.Order.{natAbs-neg, near-of-eq, near-mono}
 
 -- the quotient and the remainder of a natural number

@@ -1,8 +1,8 @@
 -- A sum that a loop keeps: what it is after k of n terms, none of which is above b in magnitude.
 -- In order: the record; its start; one term more; its end, for terms in ℤ and in ℕ. A sum of natural numbers s is kept as `pos s`.
 -- Assumes nothing.
-use mathlib.Core.Path.{_≡_, refl, sym, ap, subst, _∙_}
-use Prim.Native.Nat.{ℕ, suc, _+_, _*_, _≤_, _<_}
+use mathlib.Core.Path.{_≡_, sym, ap, subst, _∙_}
+use Prim.Native.Nat.{ℕ, _+_, _*_, _≤_, _<_}
 use native.Mathlib.Numerals.{add-one}
 use native.Mathlib.Omega.{arith}
 use lib.IntN.{ℤ, pos, natAbs, _+ℤ_}

@@ -2,17 +2,18 @@
 -- In order: sums in ℤ; sums in ℕ; a count beyond which all is 0; the largest; tests; matrices. Assumes nothing.
 use mathlib.Core.Path.{_≡_, refl, sym, ap, ap₂, subst, _∙_}
 use mathlib.Core.Bool.{Bool, true, false, cond, _&&_}
-use Prim.Native.Nat.{ℕ, zero, suc, _+_, _*_, _-_, _≤_, _<_, max}
+use Prim.Native.Nat.{ℕ, zero, suc, _+_, _*_, _≤_, _<_, max}
 use native.Mathlib.Nat.{le-refl, lt-of-lt-of-le, lt-irrefl}
 use borrow.Author.Tests.{eq-eqb, ne-eqb}
 use lib.Dec.{eqb}
 use native.Mathlib.Numerals.{add-one}
 use native.Mathlib.Decide.{decLt, ℕ-discrete}
 use native.Mathlib.Omega.{arith}
-use lib.IntN.{ℤ, pos, negsuc, natAbs, _+ℤ_, _-ℤ_, _*ℤ_, +ℤ-idl, +ℤ-idr, *ℤ-zero, zero-*ℤ}
+use lib.IntN.{ℤ, pos, natAbs, _+ℤ_, _*ℤ_, +ℤ-idl, +ℤ-idr, *ℤ-zero, zero-*ℤ}
 use Rattle.integers.specs.Whole.{_⩽_, Near}
-use Rattle.integers.specs.Sums.{sum, sumℕ, maxℕ, allBelow, dot, dotℕ, times, transposed}
-use Rattle.integers.proofs.SignedParts.{v, #, _⊕_, _⊖_, _⊗_, le!, eq!, le?, eq?}
+use Rattle.integers.specs.Sums.{sum, sumℕ, maxℕ, allBelow, dot, times, transposed}
+use Rattle.integers.proofs.Booleans.{and-true, and-false, and-stop}
+use Rattle.integers.proofs.SignedParts.{v, #, _⊕_, _⊗_, eq! }
 use Rattle.integers.proofs.Order.{⩽-refl, ⩽-add, near-add, near-of-eq, near-times, addℤ-swap, mulℤ-add, mulℤ-left-comm}
 
 wider : {i n : ℕ} → i < n → i < suc n
@@ -209,17 +210,6 @@ pub allBelow-suc : (n : ℕ) (f : ℕ → Bool) → allBelow (suc n) f ≡ allBe
 unfolding allBelow
 allBelow-suc n f = refl
 
-and-false-left : (a b : Bool) → a ≡ false → a && b ≡ false
-and-false-left a b e = ap (λ (t : Bool). t && b) e
-
-and-false-right : (a b : Bool) → b ≡ false → a && b ≡ false
-and-false-right true b e = e
-and-false-right false b e = refl
-
-and-true : (a b : Bool) → a && b ≡ true → (a ≡ true) × (b ≡ true)
-and-true true b e = (refl, e)
-and-true false b e = (e, let z : _≡_ {A = ℕ} 0 1 = cc in absurd (omega arith))
-
 -- holds so far and here: holds one further
 pub allBelow-more : (n : ℕ) (f : ℕ → Bool) → allBelow n f ≡ true → f n ≡ true → allBelow (n + 1) f ≡ true
 unfolding allBelow
@@ -230,7 +220,7 @@ pub allBelow-fails : (n : ℕ) (f : ℕ → Bool) (i : ℕ) → i < n → f i �
 unfolding allBelow
 allBelow-fails zero f i h e = absurd (omega arith)
 allBelow-fails (suc n) f i h e =
-    elim (decLt i n) [ yes l ↦ and-false-left (allBelow n f) (f n) (allBelow-fails n f i l e) | no g ↦ and-false-right (allBelow n f) (f n) (subst (λ (k : ℕ). f k ≡ false) (omega (arith, g)) e) ]
+    elim (decLt i n) [ yes l ↦ and-stop (f n) (allBelow-fails n f i l e) | no g ↦ ap (λ (t : Bool). allBelow n f && t) (subst (λ (k : ℕ). f k ≡ false) (omega (arith, g)) e) ∙ and-false (allBelow n f) ]
 
 pub allBelow-at : (n : ℕ) (f : ℕ → Bool) → allBelow n f ≡ true → (i : ℕ) → i < n → f i ≡ true
 unfolding allBelow

@@ -4,7 +4,7 @@
 use Prim.Native.Nat.{ℕ, _+_, _-_, _/_, _%_, _≤_}
 use mathlib.Core.Bool.{Bool, cond}
 use lib.Dec.{eqb}
-use lib.IntN.{ℤ, pos, negℤ, natAbs, _-ℤ_}
+use lib.IntN.{ℤ, negℤ, natAbs, _-ℤ_}
 use lib.Signed.{_≤ℤ_, shrZ}
 
 -- The library's order `_≤ℤ_`, which binds tighter than a sum, at the usual precedence.

@@ -1,14 +1,14 @@
 -- Laws of the spare figure: it is the largest h for which 2 to the h times the sum doesn't exceed the limit, and it is the
 -- leading zeros of one less than the sum, as 32 bits, less two. Assumes nothing.
-use mathlib.Core.Path.{_≡_, refl, sym, ap, subst, _∙_}
+use mathlib.Core.Path.{_≡_, sym, ap, subst, _∙_}
 use mathlib.Core.Bool.{Bool, true, false, cond}
 use Prim.Native.Nat.{ℕ, zero, suc, _+_, _*_, _-_, _^_, _≤_, _<_}
-use native.Mathlib.Nat.{mul-le-mul-left, mul-le-mul-right, le-trans, lt-of-lt-of-le, pow-suc}
+use native.Mathlib.Nat.{mul-le-mul-left, mul-le-mul-right, lt-of-lt-of-le, pow-suc}
 use native.Mathlib.Decide.{ℕ-discrete, decLt}
 use native.Mathlib.Omega.{arith}
-use borrow.Author.Tests.{le-leb, lt-leb, leb-true}
+use borrow.Author.Tests.{le-leb, lt-leb}
 use lib.Dec.{leb}
-use lib.Pow.{pow-mono, pow-add, pow-lt, pow-pos}
+use lib.Pow.{pow-mono, pow-add, pow-pos}
 use lib.Count.{leadingZeros, leading-length}
 use Rattle.stepping.specs.Limits.{growthLimit}
 use Rattle.stepping.specs.Recurrence.{greatest, spare}
@@ -46,7 +46,7 @@ spare-of s low high =
     is : (m : ℕ) → leadingZeros 32 (s - 1) + m ≡ 32 → s - 1 < 2 ^ m → 2 ^ m ≤ 2 * (s - 1) + 1 → m ≤ 30 → SpareIs s (30 - m)
     is m e lt le small =
         let p : ℕ = 2 ^ (30 - m) in
-        let whole : 2 ^ (30 - m) * 2 ^ m ≡ 1073741824 = sym (pow-add 2 (30 - m) m) ∙ ap (λ (k : ℕ). 2 ^ k) (full m small) in
+        let whole : 2 ^ (30 - m) * 2 ^ m ≡ growthLimit = sym (pow-add 2 (30 - m) m) ∙ ap (λ (k : ℕ). 2 ^ k) (full m small) in
         record {
           zeros = omega arith;
           holds = omega (arith, mul-le-mul-left (2 ^ (30 - m)) (up lt), whole);
@@ -60,7 +60,7 @@ spare-of s low high =
         up : s - 1 < 2 ^ m → s ≤ 2 ^ m
         up h = omega arith
 
-        beyond : (j : ℕ) → 2 ^ suc (30 - m) ≤ 2 ^ j → 2 ^ (30 - m) * 2 ^ m ≡ 1073741824 → 1073741824 < 2 ^ j * s
+        beyond : (j : ℕ) → 2 ^ suc (30 - m) ≤ 2 ^ j → 2 ^ (30 - m) * 2 ^ m ≡ growthLimit → growthLimit < 2 ^ j * s
         beyond j g w = omega (arith, mul-le-mul-right s g, ap (λ (k : ℕ). k * s) (pow-suc 2 (30 - m)), mul-le-mul-left (2 ^ (30 - m)) twice, pow-pos (30 - m), w)
           where
             twice : 2 ^ m + 1 ≤ 2 * s

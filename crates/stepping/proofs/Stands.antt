@@ -1,18 +1,18 @@
 -- The law of a step: where a working direction with its errors stands for an exact direction, so do the stepped ones, at
 -- 65,536 times the scale. For any matrix, so that a sequence of matrices needs nothing new. Assumes nothing.
-use mathlib.Core.Path.{_≡_, refl, sym, ap, ap₂, subst, _∙_}
+use mathlib.Core.Path.{_≡_, subst, _∙_}
 use Prim.Native.Nat.{ℕ, _+_, _*_, _≤_, _<_}
 use native.Mathlib.Nat.{le-refl, mul-le-mul-left}
 use native.Mathlib.Omega.{arith}
 use lib.Dec.{lit<}
 use lib.IntN.{ℤ, pos, natAbs, _*ℤ_}
-use Rattle.integers.specs.Whole.{Near, floorDiv, ceilDivℕ, fraction}
+use Rattle.integers.specs.Whole.{Near, ceilDivℕ, fraction}
 use Rattle.integers.specs.Sums.{sum, sumℕ, transposed}
 use Rattle.integers.proofs.SignedParts.{v, #, _⊗_, eq! }
 use Rattle.integers.proofs.Order.{near-of-eq, near-mono, near-trans, near-scale, near-times}
 use Rattle.integers.proofs.Rounding.{near-floorDiv, ceilDivℕ-le}
 use Rattle.integers.proofs.Sums.{sum-cong, sum-scale, sumℕ-cong, sumℕ-scale, near-sum}
-use Rattle.stepping.specs.Limits.{matrixUnit, directionUnit}
+use Rattle.stepping.specs.Limits.{matrixUnit}
 use Rattle.stepping.specs.Recurrence.{firstR, firstE, nextR, nextE, errorSum}
 
 -- r, with the errors e, stands for the exact direction x at the scale s: in each coordinate x is s × r, give or take s × e.
@@ -51,7 +51,7 @@ module _ (n s : ℕ) (m : ℕ → ℕ → ℤ) (x r : ℕ → ℤ) (e : ℕ → 
   enough : s * errorSum n m e i + s * (matrixUnit * fraction (transposed n m r i) matrixUnit) ≤ matrixUnit * s * nextE n m r e i
   enough = within (errorSum n m e i) (ceilDivℕ (errorSum n m e i) matrixUnit) (fraction (transposed n m r i) matrixUnit) (ceilDivℕ-le (errorSum n m e i) matrixUnit (lit< tt))
     where
-      within : (a q f : ℕ) → a ≤ 65536 * q → s * a + s * (65536 * f) ≤ 65536 * s * (q + f)
+      within : (a q f : ℕ) → a ≤ matrixUnit * q → s * a + s * (matrixUnit * f) ≤ matrixUnit * s * (q + f)
       within a q f h = omega (arith, mul-le-mul-left s h)
 
   stands-at : Near (transposed n m x i) (pos (matrixUnit * s) *ℤ nextR n m r i) (matrixUnit * s * nextE n m r e i)

@@ -1,7 +1,7 @@
 -- Document 01, "The recurrence", first part: working directions with their errors, growth and the spare figure.
 -- Definitions only. r is a vector of whole numbers, e of natural numbers, n the number of coordinates.
 -- Assumes nothing.
-use Prim.Native.Nat.{ℕ, zero, suc, _+_, _*_, _^_, _≤_}
+use Prim.Native.Nat.{ℕ, zero, suc, _+_, _*_, _^_}
 use mathlib.Core.Bool.{Bool, cond}
 use lib.Dec.{leb, ltb}
 use lib.IntN.{ℤ, pos, natAbs, _*ℤ_}

@@ -3,7 +3,7 @@ use crate::Stepped;
 ghost use mathlib.Core.Path.{_≡_};
 ghost use Prim.Native.Nat.{_<_};
 ghost use Rattle.stepping.specs.Refusals.{zeroBeyond, largestAnswer};
-ghost use Rattle.stepping.specs.Inner.{zerosFrom, rowZero, zeroAround};
+ghost use Rattle.stepping.specs.Inner.{rowZero, zeroAround};
 
 // All from n on is zero.
 pub(crate) fn zero_beyond(n: usize, xs: &[i64; 6]) -> bool
@@ -37,13 +37,6 @@ pub(crate) fn largest_sum(r: &[i64; 6], e: &[i64; 6]) -> Stepped
     Stepped::Sum(most)
 }
 
-// Where the zeros of row p of an n by n matrix begin.
-fn zeros_from(n: usize, p: usize) -> usize
-    ensures { λ i. ⌜ i ≡ zerosFrom n p ⌝ }
-{
-    if p < n { n } else { 0 }
-}
-
 // Row p of the matrix is zero from column `from` on.
 fn row_zero(p: usize, from: usize, matrix: &[i32; 36]) -> bool
     requires { ⌜ p < 6 ⌝ }
@@ -66,7 +59,7 @@ pub(crate) fn zero_around(n: usize, matrix: &[i32; 36]) -> bool
 {
     let mut p: usize = 0;
     while p < 6 {
-        let from = zeros_from(n, p);
+        let from = if p < n { n } else { 0 };
         if !row_zero(p, from, matrix) {
             return false;
         }

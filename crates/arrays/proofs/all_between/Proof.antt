@@ -28,21 +28,6 @@ none f = refl
 loop-holds : tie.Need-loop-holds Inv-loop μ-loop
 loop-holds c = (omega arith, none (betweenAt (ofZ w32 (c .args .low)) (ofZ w32 (c .args .high)) (c .args .xs .now)))
 
-mul-is-between : tie.Need-mul-is-between Inv-loop μ-loop
-mul-is-between c = search needs
-
-shared-slice-copy-out-is-between : tie.Need-shared-slice-copy-out-is-between Inv-loop μ-loop
-shared-slice-copy-out-is-between c = omega arith
-
-is-between-requires : tie.Need-is-between-requires Inv-loop μ-loop
-is-between-requires c κs = search needs
-
-add-k : tie.Need-add-k Inv-loop μ-loop
-add-k c = omega arith
-
-loop-less : tie.Need-loop-less Inv-loop μ-loop
-loop-less c = omega arith
-
 -- what the && leaves, whichever way it went
 joined : {ok b : Bool} (here : Bool) → ok ≡ true → b ≡ here → b ≡ ok && here
 joined here e f = f ∙ sym (ap (λ (t : Bool). t && here) e)
@@ -76,10 +61,10 @@ all-between-spec =
     Inv-loop
     μ-loop
     loop-holds
-    mul-is-between
-    shared-slice-copy-out-is-between
-    is-between-requires
-    add-k
-    loop-less
+    (λ c. search needs)
+    (λ c. omega arith)
+    (λ c κs. search needs)
+    (λ c. omega arith)
+    (λ c. omega arith)
     loop-again
     returns)

@@ -7,9 +7,6 @@ use borrow.Author.Tests.{eq-eqb, ne-eqb}
 use Rattle.arrays.proofs.fraction.Statement.{statement}
 use Rattle.arrays.proofs.fraction.Tie as tie
 
-magnitude-requires : tie.Need-magnitude-requires
-magnitude-requires c κs = search needs
-
 is : (c : tie.After-magnitude) → c .magnitude .result ≡ natAbs (c .before .args .x)
 is c = c .magnitude .ensures ∙ ap natAbs (toZ-ofZ (c .before .fits .x))
 
@@ -27,9 +24,6 @@ returns-2 c =
     let b = c .before .before in
     sym (ap (λ (t : Bool). cond t 0 1) (ne-eqb _ 0 (λ e. c .if2 .left (sym (by-zero _ _ _ (is b) (c .before .if1 .taken)) ∙ e))))
 
-rem-if3 : tie.Need-rem-if3
-rem-if3 c = search needs
-
 returns-3 : tie.Need-returns-3
 returns-3 c =
     let b = c .before .before in
@@ -41,4 +35,4 @@ returns-4 c =
     sym (ap (λ (t : Bool). cond t 0 1) (ne-eqb _ 0 (λ e. c .if3 .left (ap (λ (k : ℕ). k % b .before .args .unit) (is b) ∙ e))))
 
 pub fraction-spec : {M : Type 1} → statement M
-fraction-spec = tie.close (tie.spec magnitude-requires returns returns-2 rem-if3 returns-3 returns-4)
+fraction-spec = tie.close (tie.spec (λ c κs. search needs) returns returns-2 (λ c. search needs) returns-3 returns-4)

@@ -1,9 +1,9 @@
 -- `arrays::is_between` meets its contract, test by test. Assumes nothing.
-use Rattle.integers.proofs.Basics.{_≡_, refl, sym, ap, ap₂, _∙_, Bool, true, false, toZ-ofZ}
+use Rattle.integers.proofs.Basics.{_≡_, sym, ap, ap₂, _∙_, Bool, true, false, toZ-ofZ}
 use mathlib.Core.Bool.{_&&_}
 use lib.Signed.{leZ, ltZ}
 use Rattle.integers.proofs.Order.{leZ-of-ltZ, leZ-of-ltZ-false}
-use Rattle.arrays.proofs.Laws.{and-false}
+use Rattle.integers.proofs.Booleans.{and-false}
 use Rattle.arrays.proofs.is_between.Statement.{statement}
 use Rattle.arrays.proofs.is_between.Tie as tie
 

@@ -23,15 +23,6 @@ abbrev μ-loop : tie.MeasureT-loop
 loop-holds : tie.Need-loop-holds Inv-loop μ-loop
 loop-holds c = below-none (λ j. zeroAt (c .args .rows) (c .args .columns) (c .args .xs .now) j ≡ true)
 
-mul-zero-unless : tie.Need-mul-zero-unless Inv-loop μ-loop
-mul-zero-unless c = search needs
-
-shared-slice-copy-out-zero-unless : tie.Need-shared-slice-copy-out-zero-unless Inv-loop μ-loop
-shared-slice-copy-out-zero-unless c = omega arith
-
-zero-unless-requires : tie.Need-zero-unless-requires Inv-loop μ-loop
-zero-unless-requires c κs = search needs
-
 -- what the call says of the element
 module _ (c : tie.After-zero-unless Inv-loop μ-loop) where
   abbrev k : ℕ
@@ -50,12 +41,6 @@ returns c =
     let b = c .before in
     sym (allBelow-fails (length (b .before .before .before .before .args .xs .now)) (f b) (k b) (omega arith) (sym (element-is b) ∙ not-true _ (c .if1 .taken)))
 
-add-k : tie.Need-add-k Inv-loop μ-loop
-add-k c = omega arith
-
-loop-less : tie.Need-loop-less Inv-loop μ-loop
-loop-less c = omega arith
-
 loop-again : tie.Need-loop-again Inv-loop μ-loop
 loop-again c =
     let b = c .before in
@@ -73,11 +58,11 @@ zero-outside-spec =
     Inv-loop
     μ-loop
     loop-holds
-    mul-zero-unless
-    shared-slice-copy-out-zero-unless
-    zero-unless-requires
+    (λ c. search needs)
+    (λ c. omega arith)
+    (λ c κs. search needs)
     returns
-    add-k
-    loop-less
+    (λ c. omega arith)
+    (λ c. omega arith)
     loop-again
     returns-2)

@@ -1,11 +1,11 @@
 -- `arrays::zero_unless` meets its contract, test by test. Assumes nothing.
-use Rattle.integers.proofs.Basics.{_≡_, refl, sym, ap, ap₂, _∙_, Bool, true, false, natAbs, w32}
+use Rattle.integers.proofs.Basics.{sym, ap, ap₂, _∙_, Bool, natAbs, w32}
 use mathlib.Core.Bool.{_&&_, _||_}
 use Prim.Native.Nat.{_/_, _%_}
 use borrow.Author.Tests.{lt-ltb, le-ltb}
 use lib.Dec.{ltb, eqb}
 use Rattle.integers.proofs.Machine.{eqb-of-bits-zero, eqb-of-bits-nonzero}
-use Rattle.arrays.proofs.Laws.{and-false, or-true}
+use Rattle.integers.proofs.Booleans.{and-false, or-true}
 use Rattle.arrays.proofs.zero_unless.Statement.{statement}
 use Rattle.arrays.proofs.zero_unless.Tie as tie
 

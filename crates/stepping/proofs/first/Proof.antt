@@ -1,9 +1,12 @@
--- `stepping::first` meets its contract: after i turns the first i elements are those of r(0). The measure is what is left of six.
--- Assumes nothing.
-use Rattle.integers.proofs.Basics.{_≡_, refl, sym, ap, ap₂, _∙_, ℕ, _-_, _≤_, arith, needs, set, ℤ, pos, _*ℤ_, w32, w64}
+-- `stepping::first` meets its contract: after i turns the first i elements are those of r(0); 2^20 times an i32 fits an i64. The
+-- measure is what is left of six. Assumes nothing.
+use Rattle.integers.proofs.Basics.{_≡_, refl, sym, ap, ap₂, subst, _∙_, ℕ, _*_, _-_, _≤_, arith, set, ℤ, pos, _*ℤ_, w32, w64, SFits, toZ, ofZ, toZ-ofZ}
 use lib.Dec.{lit<}
+use lib.Signed.{natAbs-le}
 use Rattle.integers.specs.Sums.{vector}
-use Rattle.integers.proofs.Machine.{filled, filled-more, filled-none, filled-all, read-given}
+use Rattle.integers.proofs.Order.{natAbs-mul-le}
+use Rattle.integers.proofs.Machine.{filled, filled-more, filled-none, filled-all, sfits-of-natAbs, fits-wide, read-wide}
+use Rattle.stepping.specs.Limits.{directionUnit}
 use Rattle.stepping.specs.Recurrence.{firstR}
 use Rattle.stepping.proofs.first.Statement.{statement}
 use Rattle.stepping.proofs.first.Tie as tie
@@ -17,34 +20,32 @@ abbrev μ-loop : tie.MeasureT-loop
 loop-holds : tie.Need-loop-holds Inv-loop μ-loop
 loop-holds c = (omega arith, sym (filled-none (firstR (vector (c .args .direction .now))) _))
 
-mul-scaled : tie.Need-mul-scaled Inv-loop μ-loop
-mul-scaled c = omega arith
+-- the entry of a turn, and its product
+module _ (c : tie.After-scaled Inv-loop μ-loop) where
+  abbrev entry : ℤ
+  entry = vector (c .before .before .before .args .direction .now) (c .before .before .loop .i)
 
-element-copy-out-scaled : tie.Need-element-copy-out-scaled Inv-loop μ-loop
-element-copy-out-scaled c = omega arith
+  fits : SFits w32 entry
+  fits = record { sfits = c .scaled .given }
 
-scaled-requires : tie.Need-scaled-requires Inv-loop μ-loop
-scaled-requires c κs = search needs
+  product-fits : SFits w64 (pos directionUnit *ℤ entry)
+  product-fits =
+      sfits-of-natAbs w64 {b = directionUnit * 2147483648} (natAbs-mul-le (pos directionUnit) entry (native.Mathlib.Nat.le-refl directionUnit) (natAbs-le entry (fits .sfits))) (lit< tt)
+
+  product-is : pos directionUnit *ℤ toZ w64 (ofZ w64 (toZ w32 (ofZ w32 entry))) ≡ pos directionUnit *ℤ entry
+  product-is = ap (λ (z : ℤ). pos directionUnit *ℤ z) (read-wide w32 w64 tt fits)
+
+cast-scaled : tie.Need-cast-scaled Inv-loop μ-loop
+cast-scaled c = fits-wide w32 w64 tt (fits c)
 
 mul-scaled-2 : tie.Need-mul-scaled-2 Inv-loop μ-loop
-mul-scaled-2 c = omega arith
-
-array-set-from-scaled : tie.Need-array-set-from-scaled Inv-loop μ-loop
-array-set-from-scaled c = omega arith
-
-add-i : tie.Need-add-i Inv-loop μ-loop
-add-i c = omega arith
-
-loop-less : tie.Need-loop-less Inv-loop μ-loop
-loop-less c = omega arith
+mul-scaled-2 c = subst (SFits w64) (sym (product-is c)) (product-fits c)
 
 loop-again : tie.Need-loop-again Inv-loop μ-loop
 loop-again c =
-    let at-loop = c .before .before .before in
+    let at-loop = c .before .before in
     let i = at-loop .loop .i in
-    let f = firstR (vector (at-loop .before .args .direction .now)) in
-    let value = read-given w64 (c .scaled .result) (c .scaled .ok) ∙ c .scaled .ensures ∙ ap (λ (z : ℤ). pos 1048576 *ℤ z) (read-given w32 (vector (at-loop .before .args .direction .now) i) (c .before .scaled-arg .given)) in
-    (omega arith, ap₂ (λ l (z : ℤ). set l i z) (at-loop .loop .inv .1) value ∙ filled-more f i _ (omega arith))
+    (omega arith, ap₂ (λ l (z : ℤ). set l i z) (at-loop .loop .inv .1) (ap (λ (z : ℤ). toZ w64 (ofZ w64 z)) (product-is c) ∙ toZ-ofZ (product-fits c)) ∙ filled-more (firstR (vector (at-loop .before .args .direction .now))) i _ (omega arith))
 
 returns : tie.Need-returns Inv-loop μ-loop
 returns c =
@@ -59,12 +60,13 @@ first-spec =
     Inv-loop
     μ-loop
     loop-holds
-    mul-scaled
-    element-copy-out-scaled
-    scaled-requires
+    (λ c. omega arith)
+    (λ c. omega arith)
+    cast-scaled
     mul-scaled-2
-    array-set-from-scaled
-    add-i
-    loop-less
+    (λ c. omega arith)
+    (λ c. omega arith)
+    (λ c. omega arith)
+    (λ c. omega arith)
     loop-again
     returns)

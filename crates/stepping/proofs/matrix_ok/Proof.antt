@@ -54,9 +54,6 @@ module _ (n : ℕ) (m : List ℤ) (size : length m ≡ 36) where
 
 -- ---- the needs
 
-all-between-requires : tie.Need-all-between-requires
-all-between-requires c κs = search needs
-
 returns : tie.Need-returns
 returns c = simp (sym (c .before .all-between .ensures) ∙ not-true _ (c .if1 .taken))
 
@@ -68,9 +65,6 @@ returns-2 c =
     let inside = allBelow-intro (length (a .matrix .now)) (λ k. zeroUnless (a .n) (a .n) k (vector (a .matrix .now) k)) (λ k h. ap (λ (t : Bool). t || eqb (natAbs (vector (a .matrix .now) k)) 0) (ap₂ _&&_ (lt-ltb (k / 6) (a .n) (omega (arith, c .if2 .taken, size, h))) (lt-ltb (k % 6) (a .n) (omega (arith, c .if2 .taken))))) in
     sym (ap₂ _&&_ entries inside)
 
-zero-around-requires : tie.Need-zero-around-requires
-zero-around-requires c κs = search needs
-
 returns-3 : tie.Need-returns-3
 returns-3 c =
     let b = c .before .before in
@@ -81,4 +75,4 @@ returns-3 c =
 
 pub matrix-ok-spec : {M : Type 1} → statement M
 matrix-ok-spec =
-    tie.close (tie.spec all-between-requires returns returns-2 zero-around-requires returns-3)
+    tie.close (tie.spec (λ c κs. search needs) returns returns-2 (λ c κs. search needs) returns-3)

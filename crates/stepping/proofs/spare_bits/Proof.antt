@@ -14,9 +14,6 @@ returns c = spares _ NoSpare (simp (lt-leb _ _ (c .if1 .taken)))
 returns-2 : tie.Need-returns-2
 returns-2 c = spares _ NoSpare (simp (le-leb _ _ (c .before .if1 .left), lt-leb _ _ (c .if2 .taken)))
 
-cast-less : tie.Need-cast-less
-cast-less c = search needs
-
 is : (c : tie.Else2) → SpareIs (c .before .before .args .largest) (spare (c .before .before .args .largest))
 is c = spare-is (c .before .before .args .largest) (c .before .if1 .left) (c .if2 .left)
 
@@ -28,4 +25,4 @@ returns-3 c =
     spares (c .before .before .args .largest) _ (simp (le-leb _ _ (c .before .if1 .left), le-leb _ _ (c .if2 .left)) (ap Bits (omega (arith, is c .zeros))))
 
 pub spare-bits-spec : {M : Type 1} → statement M
-spare-bits-spec = tie.close (tie.spec returns returns-2 cast-less sub-t6 returns-3)
+spare-bits-spec = tie.close (tie.spec returns returns-2 (λ c. search needs) sub-t6 returns-3)

@@ -5,41 +5,11 @@ use mathlib.Core.List.{List, [], _∷_}
 use lib.Signed.{mag, shrZ}
 use Rattle.integers.specs.Whole.{ceilDivℕ, fraction}
 use Rattle.integers.specs.Sums.{vector, magnitudes, matrix as matrixOf, transposed}
-use Rattle.integers.proofs.Machine.{read-given}
+use Rattle.integers.proofs.Machine.{read-given, read-shifted}
+use Rattle.stepping.specs.Limits.{matrixUnit}
 use Rattle.stepping.specs.Recurrence.{nextR, nextE, errorSum}
-use Rattle.stepping.proofs.Shifts.{read-shifted}
 use Rattle.stepping.proofs.column.advance.Statement.{statement}
 use Rattle.stepping.proofs.column.advance.Tie as tie
-
-product-sum-requires : tie.Need-product-sum-requires
-product-sum-requires c κs = search needs
-
-column-error-requires : tie.Need-column-error-requires
-column-error-requires c κs = search needs
-
-product-sum-requires-2 : tie.Need-product-sum-requires-2
-product-sum-requires-2 c κs = search needs
-
-column-error-requires-2 : tie.Need-column-error-requires-2
-column-error-requires-2 c κs = search needs
-
-product-sum-requires-3 : tie.Need-product-sum-requires-3
-product-sum-requires-3 c κs = search needs
-
-column-error-requires-3 : tie.Need-column-error-requires-3
-column-error-requires-3 c κs = search needs
-
-product-sum-requires-4 : tie.Need-product-sum-requires-4
-product-sum-requires-4 c κs = search needs
-
-column-error-requires-4 : tie.Need-column-error-requires-4
-column-error-requires-4 c κs = search needs
-
-product-sum-requires-5 : tie.Need-product-sum-requires-5
-product-sum-requires-5 c κs = search needs
-
-column-error-requires-5 : tie.Need-column-error-requires-5
-column-error-requires-5 c κs = search needs
 
 product-sum-requires-6 : tie.Need-product-sum-requires-6
 product-sum-requires-6 c κs = (omega arith, c .before .before .before .before .before .before .before .before .before .before .before .before .before .before .before .before .before .before .before .before .before .pre .0)
@@ -52,11 +22,11 @@ module _ (m r e : List ℤ) (i : ℕ) {N : ℤ} (fits : mag N < 9223372036854775
   read : toZ w64 (ofZ w64 N) ≡ transposed 6 (matrixOf m) (vector r) i
   read = read-given w64 N fits ∙ is
 
-  in-r : toZ w64 (ofZ w64 (shrZ (toZ w64 (ofZ w64 N)) 65536)) ≡ nextR 6 (matrixOf m) (vector r) i
-  in-r = read-shifted N fits ∙ ap (λ (z : ℤ). shrZ z 65536) is
+  in-r : toZ w64 (ofZ w64 (shrZ (toZ w64 (ofZ w64 N)) matrixUnit)) ≡ nextR 6 (matrixOf m) (vector r) i
+  in-r = read-shifted w64 N matrixUnit fits ∙ ap (λ (z : ℤ). shrZ z matrixUnit) is
 
-  in-e : {x : ℤ} → mag x < 9223372036854775808 → x ≡ pos (ceilDivℕ (errorSum 6 (matrixOf m) (magnitudes e) i) 65536 + fraction (toZ w64 (ofZ w64 N)) 65536) → toZ w64 (ofZ w64 x) ≡ pos (nextE 6 (matrixOf m) (vector r) (magnitudes e) i)
-  in-e {x} small f = read-given w64 x small ∙ f ∙ ap (λ (z : ℤ). pos (ceilDivℕ (errorSum 6 (matrixOf m) (magnitudes e) i) 65536 + fraction z 65536)) read
+  in-e : {x : ℤ} → mag x < 9223372036854775808 → x ≡ pos (ceilDivℕ (errorSum 6 (matrixOf m) (magnitudes e) i) matrixUnit + fraction (toZ w64 (ofZ w64 N)) matrixUnit) → toZ w64 (ofZ w64 x) ≡ pos (nextE 6 (matrixOf m) (vector r) (magnitudes e) i)
+  in-e {x} small f = read-given w64 x small ∙ f ∙ ap (λ (z : ℤ). pos (ceilDivℕ (errorSum 6 (matrixOf m) (magnitudes e) i) matrixUnit + fraction z matrixUnit)) read
 
 returns : tie.Need-returns
 returns c =
@@ -85,16 +55,16 @@ pub advance-spec : {M : Type 1} → statement M
 advance-spec =
     tie.close
     (tie.spec
-    product-sum-requires
-    column-error-requires
-    product-sum-requires-2
-    column-error-requires-2
-    product-sum-requires-3
-    column-error-requires-3
-    product-sum-requires-4
-    column-error-requires-4
-    product-sum-requires-5
-    column-error-requires-5
+    (λ c κs. search needs)
+    (λ c κs. search needs)
+    (λ c κs. search needs)
+    (λ c κs. search needs)
+    (λ c κs. search needs)
+    (λ c κs. search needs)
+    (λ c κs. search needs)
+    (λ c κs. search needs)
+    (λ c κs. search needs)
+    (λ c κs. search needs)
     product-sum-requires-6
     column-error-requires-6
     returns)

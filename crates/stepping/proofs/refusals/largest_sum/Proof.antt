@@ -4,13 +4,11 @@ use Rattle.integers.proofs.Basics.{_≡_, refl, sym, ap, ap₂, subst, _∙_, B
 use mathlib.Core.Bool.{cond}
 use mathlib.Core.List.{List}
 use Prim.Native.Nat.{max}
-use lib.Dec.{lit<}
-use lib.Signed.{nonNeg, ltZ, natAbs-le}
+use lib.Signed.{nonNeg, natAbs-le}
 use Rattle.integers.specs.Sums.{vector, magnitudes, allBelow, maxℕ}
 use Rattle.integers.proofs.Sums.{allBelow-more, allBelow-fails, maxℕ-suc}
 use Rattle.integers.proofs.Order.{negative-is, natural-is}
 use Rattle.integers.proofs.Machine.{read-given}
-use Rattle.stepping.specs.declared.Stepped.{Stepped}
 use Rattle.stepping.specs.declared.Stepped.the-variants.{Sum, Refused}
 use Rattle.stepping.proofs.refusals.largest_sum.Statement.{statement}
 use Rattle.stepping.proofs.refusals.largest_sum.Tie as tie
@@ -21,13 +19,13 @@ naturalAt e i = nonNeg (vector e i)
 abbrev sumAt : List ℤ → List ℤ → ℕ → ℕ
 sumAt r e i = natAbs (vector r i) + magnitudes e i
 
-record So (r e : List ℤ) (most i : ℕ) : Type 0 where
+record LargestSoFar (r e : List ℤ) (most i : ℕ) : Type 0 where
   inside : i ≤ 6
   natural : allBelow i (naturalAt e) ≡ true
   largest : most ≡ maxℕ i (sumAt r e)
 
 abbrev Inv-loop : tie.InvT-loop
-Inv-loop r e most₀ i₀ most i = So r e most i
+Inv-loop r e most₀ i₀ most i = LargestSoFar r e most i
 
 abbrev μ-loop : tie.MeasureT-loop
 μ-loop r e most₀ i₀ most i = 6 - i
@@ -43,12 +41,6 @@ no-sum f = refl
 loop-holds : tie.Need-loop-holds Inv-loop μ-loop
 loop-holds c = record { inside = omega arith; natural = none (naturalAt (c .args .e .now)); largest = no-sum (sumAt (c .args .r .now) (c .args .e .now)) }
 
-mul-y : tie.Need-mul-y Inv-loop μ-loop
-mul-y c = omega arith
-
-element-copy-out-y : tie.Need-element-copy-out-y Inv-loop μ-loop
-element-copy-out-y c = omega arith
-
 returns : tie.Need-returns Inv-loop μ-loop
 returns c =
     let at-loop = c .before .before .before in
@@ -56,18 +48,6 @@ returns c =
     let i = at-loop .loop .i in
     let form = negative-is (vector e i) (simp (read-given w64 (vector e i) (c .before .y .given)) at (c .if1 .taken)) in
     sym (ap (λ (t : Bool). cond t (Sum (maxℕ 6 (sumAt (at-loop .before .args .r .now) e))) Refused) (allBelow-fails 6 (naturalAt e) i (omega arith) (ap nonNeg (form .1))))
-
-mul-magnitude : tie.Need-mul-magnitude Inv-loop μ-loop
-mul-magnitude c = omega arith
-
-element-copy-out-magnitude : tie.Need-element-copy-out-magnitude Inv-loop μ-loop
-element-copy-out-magnitude c = omega arith
-
-magnitude-requires : tie.Need-magnitude-requires Inv-loop μ-loop
-magnitude-requires c κs = search needs
-
-magnitude-requires-2 : tie.Need-magnitude-requires-2 Inv-loop μ-loop
-magnitude-requires-2 c κs = search needs
 
 -- the two magnitudes of a turn, and that their sum fits: e is at most 2^63 - 1
 module _ (c : tie.After-magnitude2 Inv-loop μ-loop) where
@@ -101,15 +81,6 @@ module _ (c : tie.After-magnitude2 Inv-loop μ-loop) where
 add-sum : tie.Need-add-sum Inv-loop μ-loop
 add-sum c = omega (arith, of-r c, of-e c, small-e c, natAbs-le (vector (r c) (i c)) (fit-r c .sfits))
 
-larger-requires : tie.Need-larger-requires Inv-loop μ-loop
-larger-requires c κs = search needs
-
-add-i : tie.Need-add-i Inv-loop μ-loop
-add-i c = omega arith
-
-loop-less : tie.Need-loop-less Inv-loop μ-loop
-loop-less c = omega arith
-
 loop-again : tie.Need-loop-again Inv-loop μ-loop
 loop-again c =
     let b = c .before in
@@ -135,16 +106,16 @@ largest-sum-spec =
     Inv-loop
     μ-loop
     loop-holds
-    mul-y
-    element-copy-out-y
+    (λ c. omega arith)
+    (λ c. omega arith)
     returns
-    mul-magnitude
-    element-copy-out-magnitude
-    magnitude-requires
-    magnitude-requires-2
+    (λ c. omega arith)
+    (λ c. omega arith)
+    (λ c κs. search needs)
+    (λ c κs. search needs)
     add-sum
-    larger-requires
-    add-i
-    loop-less
+    (λ c κs. search needs)
+    (λ c. omega arith)
+    (λ c. omega arith)
     loop-again
     returns-2)

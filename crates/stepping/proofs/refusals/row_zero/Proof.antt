@@ -1,6 +1,6 @@
 -- `stepping::refusals::row_zero` meets its contract: the test holds of every place passed. The measure is what is left of six.
 -- Assumes nothing.
-use Rattle.integers.proofs.Basics.{_≡_, sym, ap, ap₂, Bool, true, ℕ, _+_, _*_, _-_, _≤_, _<_, arith, natAbs, ℤ, w32}
+use Rattle.integers.proofs.Basics.{_≡_, sym, ap, ap₂, Bool, true, ℕ, _-_, _≤_, _<_, arith, natAbs, ℤ, w32}
 use mathlib.Core.Bool.{_||_}
 use native.Mathlib.Nat.{le-refl}
 use borrow.Author.Count.{below-more}
@@ -45,12 +45,6 @@ returns c =
     let i = at-loop .loop .i in
     sym (allBelow-fails 6 (zeroAt (a .p) (a .from) (a .matrix .now)) i (omega arith) (ap₂ _||_ (le-ltb i (a .from) (at-loop .loop .inv .0)) (eqb-of-bits-nonzero w32 (matrixOf (a .matrix .now) (a .p) i) (c .if1 .taken))))
 
-add-i : tie.Need-add-i Inv-loop μ-loop
-add-i c = omega arith
-
-loop-less : tie.Need-loop-less Inv-loop μ-loop
-loop-less c = omega arith
-
 loop-again : tie.Need-loop-again Inv-loop μ-loop
 loop-again c =
     let at-loop = c .before .before .before in
@@ -75,7 +69,7 @@ row-zero-spec =
     mul-if1-2
     element-copy-out-if1
     returns
-    add-i
-    loop-less
+    (λ c. omega arith)
+    (λ c. omega arith)
     loop-again
     returns-2)

@@ -1,9 +1,11 @@
 -- `stepping::refusals::zero_around` meets its contract: the test holds of every row passed. The measure is what is left of six.
 -- Assumes nothing.
 use Rattle.integers.proofs.Basics.{_≡_, sym, ap, _∙_, Bool, true, ℕ, _-_, _<_, arith, needs, ℤ}
+use mathlib.Core.Bool.{cond}
 use mathlib.Core.List.{List}
+use mathlib.Core.Logic.{⊎-elim}
 use borrow.Author.Count.{below-none, below-more}
-use borrow.Author.Tests.{not-true, not-false}
+use borrow.Author.Tests.{lt-ltb, le-ltb, not-true, not-false}
 use Rattle.integers.proofs.Sums.{allBelow-intro, allBelow-fails}
 use Rattle.stepping.specs.Inner.{zerosFrom, rowZero}
 use Rattle.stepping.proofs.refusals.zero_around.Statement.{statement}
@@ -21,38 +23,32 @@ abbrev μ-loop : tie.MeasureT-loop
 loop-holds : tie.Need-loop-holds Inv-loop μ-loop
 loop-holds c = below-none (λ q. rowAt (c .args .n) (c .args .matrix .now) q ≡ true)
 
-zeros-from-requires : tie.Need-zeros-from-requires Inv-loop μ-loop
-zeros-from-requires c κs = search needs
-
-row-zero-requires : tie.Need-row-zero-requires Inv-loop μ-loop
-row-zero-requires c κs = search needs
-
--- what the calls say of the row
+-- where the zeros of the row begin, and what the call says of it
 module _ (c : tie.After-row-zero Inv-loop μ-loop) where
+  abbrev at-loop : tie.At-loop Inv-loop μ-loop
+  at-loop = c .before .before .before
+
   abbrev p : ℕ
-  p = c .before .before .before .loop .p
+  p = at-loop .loop .p
 
   abbrev f : ℕ → Bool
-  f = rowAt (c .before .before .before .before .args .n) (c .before .before .before .before .args .matrix .now)
+  f = rowAt (at-loop .before .args .n) (at-loop .before .args .matrix .now)
+
+  from-is : c .before .if1 .from ≡ zerosFrom (at-loop .before .args .n) p
+  from-is = ⊎-elim (λ w. w .1 ∙ sym (ap (λ (t : Bool). cond t (at-loop .before .args .n) 0) (lt-ltb _ _ (w .0 .taken)))) (λ w. w .1 ∙ sym (ap (λ (t : Bool). cond t (at-loop .before .args .n) 0) (le-ltb _ _ (w .0 .left)))) (c .before .if1 .came)
 
   row-is : c .row-zero .result ≡ f p
-  row-is = c .row-zero .ensures ∙ ap (λ (k : ℕ). rowZero p k (c .before .before .before .before .args .matrix .now)) (c .before .zeros-from .ensures)
+  row-is = c .row-zero .ensures ∙ ap (λ (k : ℕ). rowZero p k (at-loop .before .args .matrix .now)) from-is
 
 returns : tie.Need-returns Inv-loop μ-loop
 returns c =
     let b = c .before in
-    sym (allBelow-fails 6 (f b) (p b) (omega arith) (sym (row-is b) ∙ not-true _ (c .if1 .taken)))
-
-add-p : tie.Need-add-p Inv-loop μ-loop
-add-p c = omega arith
-
-loop-less : tie.Need-loop-less Inv-loop μ-loop
-loop-less c = omega arith
+    sym (allBelow-fails 6 (f b) (p b) (omega arith) (sym (row-is b) ∙ not-true _ (c .if2 .taken)))
 
 loop-again : tie.Need-loop-again Inv-loop μ-loop
 loop-again c =
     let b = c .before in
-    below-more (λ q. f b q ≡ true) (p b) (b .before .before .before .loop .inv) (sym (row-is b) ∙ not-false _ (c .if1 .left))
+    below-more (λ q. f b q ≡ true) (p b) (at-loop b .loop .inv) (sym (row-is b) ∙ not-false _ (c .if2 .left))
 
 returns-2 : tie.Need-returns-2 Inv-loop μ-loop
 returns-2 c =
@@ -66,10 +62,9 @@ zero-around-spec =
     Inv-loop
     μ-loop
     loop-holds
-    zeros-from-requires
-    row-zero-requires
+    (λ c κs. search needs)
     returns
-    add-p
-    loop-less
+    (λ c. omega arith)
+    (λ c. omega arith)
     loop-again
     returns-2)
