@@ -5,8 +5,9 @@ use crate::sweeps::list;
 use crate::text::end;
 use crate::text::natural;
 use crate::text::word;
-use reachability::judge::Judged;
+use judge::judge;
 use reachability::model::Model;
+use reachability::verdicts::Judged;
 
 fn at_step(verdict: &[u8], k: usize) {
     word(verdict);
@@ -28,7 +29,7 @@ fn tell(a: Judged) {
 
 // The answer, and both lists as they are left.
 fn lend(model: Model, guard: usize, bounds: &mut [i64], slacks: &mut [i64]) {
-    tell(reachability::judge::judge(model, guard, bounds, slacks));
+    tell(judge(model, guard, bounds, slacks));
     word(b" bounds");
     list(bounds);
     word(b" slacks");

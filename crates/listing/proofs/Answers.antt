@@ -11,17 +11,17 @@ use lib.ListN.{length, getD}
 use Rattle.integers.specs.Sums.{vector}
 use Rattle.integers.proofs.Machine.{length-tabulate, getD-tabulate}
 use Rattle.reachability.specs.Recurrence.{bound, slack}
-use Rattle.reachability.specs.Answers.{sweptNumber, sweepAnswer, judgeAnswer, boundsOf, slacksOf, SweepLeaves}
-use Rattle.reachability.specs.Verdicts.{sweptVerdict}
+use Rattle.reachability.specs.Answers.{sweptNumber, sweepAnswer, boundsOf, slacksOf, SweepLeaves}
+use Rattle.judge.specs.Answers.{judgeAnswer, sweptVerdict}
 use Rattle.reachability.specs.declared.model.Model.{Model}
 use Rattle.reachability.specs.declared.sweep.Swept.{Swept}
 use Rattle.reachability.specs.declared.sweep.Swept.the-variants as S
-use Rattle.reachability.specs.declared.judge.Judged.{Judged}
-use Rattle.reachability.specs.declared.judge.Judged.the-variants as J
+use Rattle.reachability.specs.declared.verdicts.Judged.{Judged}
+use Rattle.reachability.specs.declared.verdicts.Judged.the-variants as J
 use Rattle.arrays.proofs.Laws.{and-true}
 use Rattle.reachability.specs.Limits.{accepted}
 use Rattle.reachability.proofs.model.Facts.{model-facts}
-use Rattle.reachability.proofs.JudgeAnswers.{judges}
+use Rattle.judge.proofs.Answers.{judges}
 use Rattle.listing.specs.Text.{word, line, each}
 use Rattle.listing.specs.Listing.{rowText, sweptText, sweepOf, directionText, judgedText, judgeOf, guardText}
 use Rattle.listing.specs.Inner.{swept, guardLine, caseOf, stepOf, Askable}

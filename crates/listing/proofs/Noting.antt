@@ -11,7 +11,7 @@ use lib.ListN.{length, getD, set, length-set}
 use lib.Seq.{getD-set-same, getD-set-other}
 use Rattle.reachability.specs.Limits.{accepted}
 use Rattle.reachability.specs.declared.model.Model.{Model}
-use Rattle.reachability.specs.declared.judge.Judged.{Judged}
+use Rattle.reachability.specs.declared.verdicts.Judged.{Judged}
 use Rattle.reachability.proofs.model.Facts.{model-facts}
 use Rattle.listing.specs.Listing.{judgeOf}
 use Rattle.listing.specs.Inner.{Notes, Noted, AllNoted}

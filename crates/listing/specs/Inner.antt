@@ -9,12 +9,12 @@ use lib.IntN.{ℤ}
 use lib.ListN.{length, getD, take, drop}
 use Rattle.integers.specs.Sums.{vector}
 use Rattle.reachability.specs.Limits.{accepted}
-use Rattle.reachability.specs.Verdicts.{sweptVerdict}
+use Rattle.judge.specs.Answers.{sweptVerdict}
 use Rattle.reachability.specs.declared.model.Model.{Model}
 use Rattle.reachability.specs.declared.sweep.Swept.{Swept}
 use Rattle.reachability.specs.declared.sweep.Swept.the-variants as S
-use Rattle.reachability.specs.declared.judge.Judged.{Judged}
-use Rattle.reachability.specs.declared.judge.Judged.the-variants as J
+use Rattle.reachability.specs.declared.verdicts.Judged.{Judged}
+use Rattle.reachability.specs.declared.verdicts.Judged.the-variants as J
 use Rattle.listing.specs.Text.{word, decimal, line, each}
 use Rattle.listing.specs.Listing.{rowText, directionText, judgeOf}
 

@@ -8,12 +8,13 @@ use lib.Dec.{leb}
 use lib.IntN.{ℤ, pos}
 use lib.ListN.{length, take, drop}
 use Rattle.reachability.specs.Recurrence.{bound, slack}
-use Rattle.reachability.specs.Answers.{sweepAnswer, judgeAnswer}
+use Rattle.reachability.specs.Answers.{sweepAnswer}
 use Rattle.reachability.specs.declared.model.Model.{Model}
 use Rattle.reachability.specs.declared.sweep.Swept.{Swept}
 use Rattle.reachability.specs.declared.sweep.Swept.the-variants as S
-use Rattle.reachability.specs.declared.judge.Judged.{Judged}
-use Rattle.reachability.specs.declared.judge.Judged.the-variants as J
+use Rattle.reachability.specs.declared.verdicts.Judged.{Judged}
+use Rattle.reachability.specs.declared.verdicts.Judged.the-variants as J
+use Rattle.judge.specs.Answers.{judgeAnswer}
 use Rattle.reader.specs.Reading.{readModel}
 use Rattle.reader.specs.declared.Status.{Status}
 use Rattle.reader.specs.declared.Status.the-variants.{Read, Refused}

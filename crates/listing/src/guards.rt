@@ -3,10 +3,10 @@
 use crate::text::put;
 use crate::text::put_decimal;
 use crate::text::put_line;
-use reachability::judge::Judged;
-use reachability::judge::verdict;
+use judge::verdict;
 use reachability::model::Model;
 use reachability::sweep::Swept;
+use reachability::verdicts::Judged;
 ghost use mathlib.Core.Path.{_≡_};
 ghost use Prim.Native.Nat.{_+_, _*_, _≤_};
 ghost use lib.ListN.{length, getD};

@@ -4,9 +4,9 @@ use mathlib.Core.Path.{_≡_, refl, sym, ap, subst, _∙_}
 use mathlib.Core.Bool.{Bool, true, false, cond, _&&_}
 use mathlib.Core.List.{List}
 use Prim.Native.Nat.{ℕ, zero, suc, _+_, _*_, _≤_, _<_, min}
-use native.Mathlib.Nat.{le-refl, le-trans, add-le-add, mul-le-mul}
+use native.Mathlib.Nat.{le-refl, le-trans, add-le-add, mul-le-mul, le-of-suc-le-suc}
 use native.Mathlib.Omega.{arith}
-use borrow.Author.Tests.{leb-true}
+use borrow.Author.Tests.{leb-true, ltb-true}
 use lib.Dec.{leb, ltb}
 use lib.ListN.{length, take, length-take}
 use lib.IntN.{ℤ, pos, negsuc, natAbs, _*ℤ_}
@@ -24,11 +24,12 @@ use Rattle.stepping.specs.Refusals.{stepOk, workingOk, dimensionOk, zeroBeyond,
 use Rattle.stepping.specs.declared.Stepped.the-variants as P
 use Rattle.reachability.specs.Limits.{accepted, stepsOk}
 use Rattle.reachability.specs.Recurrence.{growthStep, spareFigure}
-use Rattle.reachability.specs.Answers.{sweepAnswer, judgeAnswer, lengthsOk}
+use Rattle.reachability.specs.Answers.{sweepAnswer, lengthsOk}
 use Rattle.reachability.specs.declared.model.Model.{Model}
 use Rattle.reachability.specs.declared.sweep.Swept.the-variants as S
-use Rattle.reachability.specs.declared.judge.Judged.the-variants as J
+use Rattle.reachability.specs.declared.verdicts.Judged.the-variants as J
 use Rattle.reachability.proofs.model.Facts.{model-facts}
+use Rattle.judge.specs.Answers.{judgeAnswer}
 use Rattle.reader.specs.declared.Status.the-variants.{Refused}
 use Rattle.reader.specs.declared.Reading.{Reading}
 use Rattle.reader.specs.Reading.{readModel}
@@ -73,10 +74,10 @@ swept-small m d lb ls ok =
     let most = swept-most (accepted m) (ltb d (m .directions)) (lengthsOk m lb ls) (leb (growthStep m d) (m .steps)) (growthStep m d) (spareFigure m d) (m .steps) refl (greatest-most 30 _) in
     omega (arith, most, steps-most m ok)
 
-judged-most : (a b c t th tu : Bool) (g h u k : ℕ) → leb g k ≡ t → leb h k ≡ th → leb u k ≡ tu → judgedFigure (cond a (cond b (cond c (cond t (J.Growth g) (cond th (J.Hit h) (cond tu (J.Unknown u) J.Clear))) J.WrongLength) J.NoGuard) J.Invalid) ≤ k
+judged-most : (a b c t th tu : Bool) (g h u k : ℕ) → leb g k ≡ t → ltb h (suc k) ≡ th → ltb u (suc k) ≡ tu → judgedFigure (cond a (cond b (cond c (cond t (J.Growth g) (cond th (J.Hit h) (cond tu (J.Unknown u) J.Clear))) J.WrongLength) J.NoGuard) J.Invalid) ≤ k
 judged-most true true true true th tu g h u k e f l = leb-true g k e
-judged-most true true true false true tu g h u k e f l = leb-true h k f
-judged-most true true true false false true g h u k e f l = leb-true u k l
+judged-most true true true false true tu g h u k e f l = le-of-suc-le-suc (ltb-true h (suc k) f)
+judged-most true true true false false true g h u k e f l = le-of-suc-le-suc (ltb-true u (suc k) l)
 judged-most true true true false false false g h u k e f l = omega arith
 judged-most true true false t th tu g h u k e f l = omega arith
 judged-most true false c t th tu g h u k e f l = omega arith

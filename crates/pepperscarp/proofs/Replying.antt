@@ -13,8 +13,9 @@ use Rattle.stepping.specs.Refusals.{Steps, stepOk, steppedR, steppedE}
 use Rattle.stepping.specs.declared.Stepped.{Stepped}
 use Rattle.stepping.specs.declared.Stepped.the-variants as P
 use Rattle.reachability.specs.Limits.{accepted}
-use Rattle.reachability.specs.Answers.{sweepAnswer, judgeAnswer, SweepLeaves, JudgeLeaves}
+use Rattle.reachability.specs.Answers.{sweepAnswer, SweepLeaves}
 use Rattle.reachability.specs.declared.model.Model.{Model}
+use Rattle.judge.specs.Answers.{judgeAnswer, JudgeLeaves}
 use Rattle.reader.specs.declared.Reading.{Reading}
 use Rattle.reader.specs.declared.Status.{Status}
 use Rattle.reader.specs.declared.Status.the-variants.{Read, Refused}

@@ -12,14 +12,14 @@ use Rattle.stepping.specs.Refusals.{steppedNumber}
 use Rattle.stepping.specs.declared.Stepped.{Stepped}
 use Rattle.stepping.specs.declared.Stepped.the-variants as P
 use Rattle.reachability.specs.Limits.{accepted}
-use Rattle.reachability.specs.Recurrence.{firstPlace, growthStep, spareFigure}
-use Rattle.reachability.specs.Verdicts.{hitAt, unknownAt}
-use Rattle.reachability.specs.Answers.{sweptNumber, judgedNumber, sweepAnswer, judgeAnswer, lengthsOk}
+use Rattle.reachability.specs.Recurrence.{growthStep, spareFigure}
+use Rattle.reachability.specs.Answers.{sweptNumber, sweepAnswer, lengthsOk}
 use Rattle.reachability.specs.declared.model.Model.{Model}
 use Rattle.reachability.specs.declared.sweep.Swept.{Swept}
 use Rattle.reachability.specs.declared.sweep.Swept.the-variants as S
-use Rattle.reachability.specs.declared.judge.Judged.{Judged}
-use Rattle.reachability.specs.declared.judge.Judged.the-variants as J
+use Rattle.reachability.specs.declared.verdicts.Judged.{Judged}
+use Rattle.reachability.specs.declared.verdicts.Judged.the-variants as J
+use Rattle.judge.specs.Answers.{judgedNumber, judgeAnswer}
 use Rattle.reader.specs.declared.Status.the-variants.{Read, Refused}
 use Rattle.reader.specs.Reading.{readModel}
 use Rattle.reader.proofs.ReadModels.{readModel-accepted}
@@ -116,6 +116,4 @@ judge-never-11 file g lb ls e z = never (readModel file .model) (readModel-accep
     never : (m : Model) → accepted m ≡ true → judgedNumber (judgeAnswer m g lb ls) ≡ 11 → ⊥
     never m ok z =
         let d : ℕ = getD (m .watched) g 0 in
-        let h : ℕ = firstPlace (suc (m .steps)) (hitAt m d (vector (m .levels) g)) in
-        let u : ℕ = firstPlace (suc (m .steps)) (unknownAt m d (vector (m .levels) g)) in
-        judged-other (accepted m) (ltb g (m .guards)) (lengthsOk m lb ls) (leb (growthStep m d) (m .steps)) (leb h (m .steps)) (leb u (m .steps)) (growthStep m d) h u ok z
+        judged-other (accepted m) (ltb g (m .guards)) (lengthsOk m lb ls) (leb (growthStep m d) (m .steps)) _ _ (growthStep m d) _ _ ok z

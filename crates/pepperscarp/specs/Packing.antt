@@ -4,11 +4,12 @@ use Prim.Native.Nat.{ℕ, _+_, _*_}
 use Rattle.stepping.specs.Refusals.{steppedNumber}
 use Rattle.stepping.specs.declared.Stepped.{Stepped}
 use Rattle.stepping.specs.declared.Stepped.the-variants.{Sum, Refused}
-use Rattle.reachability.specs.Answers.{sweptNumber, judgedNumber}
+use Rattle.reachability.specs.Answers.{sweptNumber}
 use Rattle.reachability.specs.declared.sweep.Swept.{Swept}
 use Rattle.reachability.specs.declared.sweep.Swept.the-variants as S
-use Rattle.reachability.specs.declared.judge.Judged.{Judged}
-use Rattle.reachability.specs.declared.judge.Judged.the-variants as J
+use Rattle.reachability.specs.declared.verdicts.Judged.{Judged}
+use Rattle.reachability.specs.declared.verdicts.Judged.the-variants as J
+use Rattle.judge.specs.Answers.{judgedNumber}
 
 -- Number, verdict and figure side by side.
 abbrev pub packed : ℕ → ℕ → ℕ → ℕ

@@ -11,8 +11,9 @@ use Rattle.stepping.specs.Recurrence.{growthSum}
 use Rattle.stepping.specs.Refusals.{stepOk, steppedR, steppedE}
 use Rattle.stepping.specs.declared.Stepped.{Stepped}
 use Rattle.stepping.specs.declared.Stepped.the-variants.{Sum, Refused as Unstepped}
-use Rattle.reachability.specs.Answers.{sweepAnswer, judgeAnswer, SweepLeaves, JudgeLeaves}
+use Rattle.reachability.specs.Answers.{sweepAnswer, SweepLeaves}
 use Rattle.reachability.specs.declared.model.Model.{Model}
+use Rattle.judge.specs.Answers.{judgeAnswer, JudgeLeaves}
 use Rattle.reader.specs.declared.Status.{Status}
 use Rattle.reader.specs.declared.Status.the-variants.{Read, Refused}
 use Rattle.reader.specs.Reading.{readModel}

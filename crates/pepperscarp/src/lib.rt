@@ -5,8 +5,8 @@
 // nothing is refused. On a refusal the lent memory is as it was.
 mod packing;
 
+use judge::judge;
 use listing::reply;
-use reachability::judge::judge;
 use reachability::sweep::sweep;
 use reader::Status;
 use reader::read;

@@ -1,6 +1,6 @@
 // Answers in one number. What is packed fits: a figure is below 2 to the 48, and the callers show it.
-use reachability::judge::Judged;
 use reachability::sweep::Swept;
+use reachability::verdicts::Judged;
 use stepping::Stepped;
 ghost use mathlib.Core.Path.{_≡_};
 ghost use Prim.Native.Nat.{_<_};

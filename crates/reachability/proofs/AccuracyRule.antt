@@ -1,19 +1,19 @@
--- Demand 3: the accuracy rule of an accepted model, for every direction number, guard level, step 0 to K and run of any
--- denominator. In order: two facts of numbers; the rule for bounds and slacks; the rule for a verdict. Assumes nothing.
+-- Demand 3: the accuracy rule of an accepted model, for every direction number, level, step 0 to K and run of any denominator. In
+-- order: two facts of numbers; bounds and slacks; verdicts; the rule; the rule of the lists that a sweep leaves. Assumes nothing.
 use mathlib.Core.Path.{_≡_, refl, sym, ap, ap₂, subst, _∙_}
 use mathlib.Core.Bool.{Bool, true, false, cond, _&&_}
 use mathlib.Core.List.{List}
-use Prim.Native.Nat.{ℕ, zero, suc, _+_, _*_, _-_, _^_, _≤_, _<_}
-use native.Mathlib.Nat.{le-refl, mul-le-mul-left, zero-lt-suc}
+use Prim.Native.Nat.{ℕ, zero, suc, _+_, _*_, _^_, _≤_, _<_, suc-le-suc}
+use native.Mathlib.Nat.{le-refl, mul-le-mul-left, lt-of-lt-of-le, le-of-suc-le-suc}
 use native.Mathlib.Omega.{arith}
-use borrow.Author.Tests.{leb-true, leb-false}
-use lib.Dec.{leb, lit<}
+use borrow.Author.Tests.{ltb-true, ltb-false}
+use lib.Dec.{ltb, lit<}
 use lib.IntN.{ℤ, pos, natAbs, _+ℤ_, _-ℤ_, _*ℤ_}
 use lib.Signed.{leZ}
 use Rattle.integers.specs.Whole.{_⩽_, Near, ceilDiv, ceilDivℕ, fraction}
 use Rattle.integers.specs.Sums.{vector, sum, sumℕ, dot, dotℕ, tabulate}
 use Rattle.integers.proofs.SignedParts.{v, #, _⊕_, _⊖_, _⊗_, le!, eq!, le?, eq?, near!, near?}
-use Rattle.integers.proofs.Order.{⩽-of-eq, ⩽-trans, ⩽-scale, ⩽-unscale, ⩽-of-leZ, lt-of-leZ-false}
+use Rattle.integers.proofs.Order.{⩽-of-eq, ⩽-trans, ⩽-scale, ⩽-unscale}
 use Rattle.integers.proofs.Sums.{sum-cong, sum-scale, sum-add, pos-sumℕ}
 use Rattle.integers.proofs.Rounding.{ceilDiv-le, ceilDiv-near, ceilDivℕ-le}
 use Rattle.integers.proofs.Machine.{getD-tabulate}
@@ -26,14 +26,15 @@ use Rattle.reachability.specs.Limits.{accepted, frameOk, setAccepted, di
 use Rattle.reachability.specs.Runs.{moves, direction, Run, state, value, denominator, Largest, stateOf}
 use Rattle.reachability.specs.Recurrence.{first, working, supportAt, errorAt, rawBound, rawSlack, bound, slack, firstPlace, walk}
 use Rattle.reachability.specs.Verdicts.{hitAt, unknownAt, verdict}
-use Rattle.reachability.specs.Rule.{NoRunPasses, SomeRunWithin, ReachedBy, WithinSlackOf, VerdictHolds, Accurate}
+use Rattle.reachability.specs.Rule.{NoRunPasses, SomeRunWithin, ReachedBy, WithinSlackOf, VerdictHolds, Accurate, AccuracyRule}
 use Rattle.reachability.specs.Answers.{boundsOf, slacksOf}
 use Rattle.reachability.specs.declared.model.Model.{Model}
-use Rattle.reachability.specs.declared.judge.Judged.{Judged}
-use Rattle.reachability.specs.declared.judge.Judged.the-variants.{Hit, Unknown, Clear}
+use Rattle.reachability.specs.declared.verdicts.Judged.{Judged}
+use Rattle.reachability.specs.declared.verdicts.Judged.the-variants.{Hit, Unknown, Clear, Invalid, NoGuard, WrongLength, Growth}
 use Rattle.reachability.proofs.SetLaws.{SetLaws}
-use Rattle.reachability.proofs.model.Facts.{ModelFacts}
+use Rattle.reachability.proofs.model.Facts.{ModelFacts, model-facts}
 use Rattle.reachability.proofs.FirstPlace.{firstPlace-passes, firstPlace-before}
+use Rattle.reachability.proofs.VerdictLaws.{reaches-le, reaches-false-le, reaches-mono, reaches-scale, reaches-unscale}
 use Rattle.reachability.proofs.Walks.{top, value-le-top, Attains, attains, near-sums}
 
 -- ---- two facts of numbers: t is the exact largest value in 1 / 1,048,576, p is 65,536 ^ k, s the sum of supports, e of errors
@@ -110,7 +111,7 @@ module _ (m : Model) (facts : ModelFacts m) (d : ℕ) where
 
   value-le : (x : ℕ → ℤ) (k : ℕ) → k ≤ m .steps → (q : ℕ) (run : Run m q) → dot (m .n) x (state m run k) ⩽ pos q *ℤ exactAt x k
   unfolding exactAt
-  value-le x k h q run = value-le-top (m .n) (moves m) lawsI lawsU q (run .start) (run .inputs) k (run .starts) (λ j l. run .enters j (native.Mathlib.Nat.lt-of-lt-of-le l h)) x
+  value-le x k h q run = value-le-top (m .n) (moves m) lawsI lawsU q (run .start) (run .inputs) k (run .starts) (λ j l. run .enters j (lt-of-lt-of-le l h)) x
 
   -- ---- no run passes the bound
 
@@ -149,30 +150,30 @@ module _ (m : Model) (facts : ModelFacts m) (d : ℕ) where
       let a = attaining (direction m d) k in
       record { above = λ q run. value-le (direction m d) k h q run; attained = (1, a .0, a .1 ∙ eq! (v (exactAt (direction m d) k)) (# 1 ⊗ v (exactAt (direction m d) k)) (omega arith)) }
 
-  -- ---- what the lists hold
-
-  bounds-at : (k : ℕ) → k ≤ m .steps → vector (boundsOf m d) k ≡ bound m d k
-  bounds-at k h = getD-tabulate (suc (m .steps)) (bound m d) k (pos 0) (omega arith)
-
-  slacks-at : (k : ℕ) → k ≤ m .steps → vector (slacksOf m d) k ≡ pos (slack m d k)
-  slacks-at k h = getD-tabulate (suc (m .steps)) (λ j. pos (slack m d j)) k (pos 0) (omega arith)
-
-  -- The accuracy rule of bounds and slacks.
-  pub accurate : Accurate m d (boundsOf m d) (slacksOf m d)
-  accurate =
-      record {
-        bounds = λ k h. subst (NoRunPasses m d k) (sym (bounds-at k h)) (no-run-passes k h);
-        slacks = λ k h. subst (λ (b : ℤ). SomeRunWithin m d k b (vector (slacksOf m d) k)) (sym (bounds-at k h)) (subst (SomeRunWithin m d k (bound m d k)) (sym (slacks-at k h)) (some-run-within k));
-        exact = λ k h. (exactAt (direction m d) k, largest-is k h);
-      }
+  pub accurate-here : Accurate m d (bound m d) (λ k. pos (slack m d k))
+  accurate-here = record { bounds = no-run-passes; slacks = λ k h. some-run-within k; exact = λ k h. (exactAt (direction m d) k, largest-is k h) }
 
   -- ---- verdicts
 
   module _ (level : ℤ) where
-    hit-holds : (k : ℕ) → hitAt m d level k ≡ true → ReachedBy m d level k
+    abbrev hit : ℕ → Bool
+    hit = hitAt level (bound m d) (λ k. pos (slack m d k))
+
+    abbrev unknown : ℕ → Bool
+    unknown = unknownAt level (bound m d)
+
+    positive : (q k : ℕ) → 1 ≤ q → 1 ≤ denominator q k
+    positive q k l = native.Mathlib.Nat.mul-le-mul l (native.Mathlib.Nat.one-le-pow k matrixUnit (lit< tt))
+
+    hit-holds : (k : ℕ) → hit k ≡ true → ReachedBy m d level k
     hit-holds k t =
         let w = some-run-within k in
-        record { q = w .q; run = w .run; reaches = ⩽-trans (⩽-scale (denominator (w .q) k) (⩽-of-leZ level (bound m d k -ℤ pos (slack m d k)) t)) (w .within) }
+        let p : ℕ = denominator (w .q) k in
+        record {
+          q = w .q;
+          run = w .run;
+          there = reaches-mono (pos (denominator (w .q) k) *ℤ level) _ _ (reaches-scale (denominator (w .q) k) level (bound m d k -ℤ pos (slack m d k)) (positive (w .q) k (w .run .positive)) t) (w .within);
+        }
 
     -- the exact largest value lies between bound - slack and bound
     exact-le-bound : (k : ℕ) → k ≤ m .steps → exactAt (direction m d) k ⩽ pos (matrixUnit ^ k) *ℤ bound m d k
@@ -189,55 +190,88 @@ module _ (m : Model) (facts : ModelFacts m) (d : ℕ) where
         unscaled zero l g = absurd (omega arith)
         unscaled (suc q) l g = ⩽-unscale q (⩽-trans (⩽-of-eq (eq! (# (suc q) ⊗ (# (matrixUnit ^ k) ⊗ (v (bound m d k) ⊖ # (slack m d k)))) (# (suc q * matrixUnit ^ k) ⊗ (v (bound m d k) ⊖ # (slack m d k))) (omega arith))) g)
 
-    unknown-holds : (k : ℕ) → k ≤ m .steps → hitAt m d level k ≡ false → unknownAt m d level k ≡ true → WithinSlackOf m d level k (vector (slacksOf m d) k)
+    unknown-holds : (k : ℕ) → k ≤ m .steps → hit k ≡ false → unknown k ≡ true → WithinSlackOf m d level k (pos (slack m d k))
     unknown-holds k h f t =
         record {
           exact = exactAt (direction m d) k;
           largest = largest-is k h;
-          near = subst (λ (z : ℤ). Near (exactAt (direction m d) k) (pos (matrixUnit ^ k) *ℤ level) (matrixUnit ^ k * natAbs z)) (sym (slacks-at k h)) (between (matrixUnit ^ k) (exactAt (direction m d) k) (bound m d k) (slack m d k) (exact-le-bound k h) (bound-le-exact k h) (lt-of-leZ-false level (bound m d k -ℤ pos (slack m d k)) f) (⩽-of-leZ level (bound m d k) t));
+          near = between (matrixUnit ^ k) (exactAt (direction m d) k) (bound m d k) (slack m d k) (exact-le-bound k h) (bound-le-exact k h) (reaches-false-le level (bound m d k -ℤ pos (slack m d k)) f) (reaches-le level (bound m d k) t);
         }
       where
-        between : (p : ℕ) (x b : ℤ) (s : ℕ) → x ⩽ pos p *ℤ b → pos p *ℤ (b -ℤ pos s) ⩽ x → (b -ℤ pos s) +ℤ pos 1 ⩽ level → level ⩽ b → Near x (pos p *ℤ level) (p * s)
+        between : (p : ℕ) (x b : ℤ) (s : ℕ) → x ⩽ pos p *ℤ b → pos p *ℤ (b -ℤ pos s) ⩽ x → b -ℤ pos s ⩽ level → level ⩽ b → Near x (pos p *ℤ level) (p * s)
         between p x b s high low below above =
             near! (v x) (# p ⊗ v level) (p * s)
-            (omega (arith, le? (v x) (# p ⊗ v b) high, mul-le-mul-left p (le? (v b ⊖ # s ⊕ # 1) (v level) below)))
+            (omega (arith, le? (v x) (# p ⊗ v b) high, mul-le-mul-left p (le? (v b ⊖ # s) (v level) below)))
             (omega (arith, le? (# p ⊗ (v b ⊖ # s)) (v x) low, mul-le-mul-left p (le? (v level) (v b) above)))
 
-    clear-holds : (k : ℕ) → k ≤ m .steps → unknownAt m d level k ≡ false → ReachedBy m d level k → ⊥
+    clear-holds : (k : ℕ) → k ≤ m .steps → unknown k ≡ false → ReachedBy m d level k → ⊥
     clear-holds k h f w =
-        apart (w .q) (w .run .positive) (⩽-trans (w .reaches) (no-run-passes k h (w .q) (w .run))) (lt-of-leZ-false level (bound m d k) f)
+        never (reaches-unscale (denominator (w .q) k) level (bound m d k) (positive (w .q) k (w .run .positive)) (reaches-mono (pos (denominator (w .q) k) *ℤ level) _ _ (w .there) (no-run-passes k h (w .q) (w .run))))
       where
-        apart : (q : ℕ) → 1 ≤ q → pos (denominator q k) *ℤ level ⩽ pos (denominator q k) *ℤ bound m d k → bound m d k +ℤ pos 1 ⩽ level → ⊥
-        apart q l g b =
-            let p : ℕ = denominator q k in
-            omega (arith, le? (# (denominator q k) ⊗ v level) (# (denominator q k) ⊗ v (bound m d k)) g, mul-le-mul-left (denominator q k) (le? (v (bound m d k) ⊕ # 1) (v level) b), positive)
-          where
-            positive : 1 ≤ denominator q k
-            positive = native.Mathlib.Nat.mul-le-mul l (native.Mathlib.Nat.one-le-pow k matrixUnit (lit< tt))
+        never : unknown k ≡ true → ⊥
+        never t = let z : _≡_ {A = ℕ} 0 1 = cc in omega arith
 
-    -- The accuracy rule of the verdict.
-    pub verdict-holds : VerdictHolds m d level (slacksOf m d) (verdict m d level)
-    verdict-holds = hit (leb h (m .steps)) refl
+    pub verdict-holds : VerdictHolds m d level (λ k. pos (slack m d k)) (verdict m d level)
+    verdict-holds = hits (ltb h n) refl
       where
+        n : ℕ
+        n = suc (m .steps)
+
         h : ℕ
-        h = firstPlace (suc (m .steps)) (hitAt m d level)
+        h = firstPlace n hit
 
         u : ℕ
-        u = firstPlace (suc (m .steps)) (unknownAt m d level)
+        u = firstPlace n unknown
 
-        inside : {k : ℕ} → leb k (m .steps) ≡ true → k ≤ m .steps
-        inside {k} t = leb-true k (m .steps) t
+        inside : {k : ℕ} → ltb k n ≡ true → k ≤ m .steps
+        inside {k} t = le-of-suc-le-suc (ltb-true k n t)
 
-        beyond : {j k : ℕ} → leb k (m .steps) ≡ false → j ≤ m .steps → j < k
-        beyond {j} {k} f l = native.Mathlib.Nat.lt-of-le-of-lt l (leb-false k (m .steps) f)
+        before : {j k : ℕ} → ltb k n ≡ false → j ≤ m .steps → j < k
+        before {j} {k} f l = lt-of-lt-of-le (suc-le-suc l) (ltb-false k n f)
 
-        below : {k : ℕ} → k ≤ m .steps → k < suc (m .steps)
-        below l = Prim.Native.Nat.suc-le-suc l
+        unknowns : ltb h n ≡ false → (b : Bool) → ltb u n ≡ b → VerdictHolds m d level (λ k. pos (slack m d k)) (cond b (Unknown u) Clear)
+        unknowns f true t = (inside t, unknown-holds u (inside t) (firstPlace-before n hit u (before f (inside t))) (firstPlace-passes n unknown (ltb-true u n t)))
+        unknowns f false g = λ k l. clear-holds k l (firstPlace-before n unknown k (before g l))
 
-        unknown : leb h (m .steps) ≡ false → (b : Bool) → leb u (m .steps) ≡ b → VerdictHolds m d level (slacksOf m d) (cond b (Unknown u) Clear)
-        unknown f true t = (inside t, unknown-holds u (inside t) (firstPlace-before (suc (m .steps)) (hitAt m d level) u (beyond f (inside t))) (firstPlace-passes (suc (m .steps)) (unknownAt m d level) (below (inside t))))
-        unknown f false g = λ k l. clear-holds k l (firstPlace-before (suc (m .steps)) (unknownAt m d level) k (beyond g l))
+        hits : (b : Bool) → ltb h n ≡ b → VerdictHolds m d level (λ k. pos (slack m d k)) (cond b (Hit h) (cond (ltb u n) (Unknown u) Clear))
+        hits true t = (inside t, hit-holds h (firstPlace-passes n hit (ltb-true h n t)))
+        hits false f = unknowns f (ltb u n) refl
 
-        hit : (b : Bool) → leb h (m .steps) ≡ b → VerdictHolds m d level (slacksOf m d) (cond b (Hit h) (cond (leb u (m .steps)) (Unknown u) Clear))
-        hit true t = (inside t, hit-holds h (firstPlace-passes (suc (m .steps)) (hitAt m d level) (below (inside t))))
-        hit false f = unknown f (leb u (m .steps)) refl
+-- ---- the rule
+
+pub rule-of-facts : (m : Model) → ModelFacts m → AccuracyRule m
+rule-of-facts m facts = record { accurate = accurate-here m facts; verdicts = verdict-holds m facts }
+
+-- Demand 3, whole.
+pub accuracy-rule : (m : Model) → accepted m ≡ true → AccuracyRule m
+accuracy-rule m ok = rule-of-facts m (model-facts m ok)
+
+-- ---- the rule of the lists that a sweep leaves
+
+module _ (m : Model) (d : ℕ) where
+  pub bounds-at : (k : ℕ) → k < suc (m .steps) → vector (boundsOf m d) k ≡ bound m d k
+  bounds-at k h = getD-tabulate (suc (m .steps)) (bound m d) k (pos 0) h
+
+  pub slacks-at : (k : ℕ) → k < suc (m .steps) → vector (slacksOf m d) k ≡ pos (slack m d k)
+  slacks-at k h = getD-tabulate (suc (m .steps)) (λ j. pos (slack m d j)) k (pos 0) h
+
+  pub accurate-lists : AccuracyRule m → Accurate m d (vector (boundsOf m d)) (vector (slacksOf m d))
+  accurate-lists rule =
+      let here = rule .accurate d in
+      record {
+        bounds = λ k h. rw (bounds-at k (suc-le-suc h)) (here .bounds k h);
+        slacks = λ k h. rw (bounds-at k (suc-le-suc h), slacks-at k (suc-le-suc h)) (here .slacks k h);
+        exact = here .exact;
+      }
+
+  pub verdict-lists : AccuracyRule m → (level : ℤ) → VerdictHolds m d level (vector (slacksOf m d)) (verdict m d level)
+  verdict-lists rule level = at-lists (verdict m d level) (rule .verdicts d level)
+    where
+      at-lists : (a : Judged) → VerdictHolds m d level (λ k. pos (slack m d k)) a → VerdictHolds m d level (vector (slacksOf m d)) a
+      at-lists (Hit k) h = h
+      at-lists (Unknown k) h = (h .0, subst (WithinSlackOf m d level k) (sym (slacks-at k (suc-le-suc (h .0)))) (h .1))
+      at-lists Clear h = h
+      at-lists Invalid h = tt
+      at-lists NoGuard h = tt
+      at-lists WrongLength h = tt
+      at-lists (Growth k) h = tt

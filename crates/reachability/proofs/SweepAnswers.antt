@@ -23,7 +23,6 @@ use Rattle.stepping.proofs.SpareFigure.{spare-is}
 use Rattle.reachability.specs.Limits.{accepted, directionLimit, someNonzero, allZero}
 use Rattle.reachability.specs.Runs.{moves, direction}
 use Rattle.reachability.specs.Recurrence.{Working, first, walk, working, sumAt, growsAt, growthStep, spareFigure, bound, slack}
-use Rattle.reachability.specs.Rule.{Accurate}
 use Rattle.reachability.specs.Answers.{sweepAnswer, lengthsOk, boundsOf, slacksOf, sweptNumber, SweepLeaves}
 use Rattle.reachability.specs.Filling.{Fills}
 use Rattle.reachability.specs.declared.model.Model.{Model}
@@ -33,7 +32,7 @@ use Rattle.reachability.specs.declared.sweep.Filled.{Filled}
 use Rattle.reachability.specs.declared.sweep.Filled.the-variants.{Largest, Grown}
 use Rattle.reachability.proofs.FirstPlace.{firstPlace-before}
 use Rattle.reachability.proofs.model.Facts.{ModelFacts}
-use Rattle.reachability.proofs.AccuracyRule.{accurate}
+use Rattle.reachability.proofs.AccuracyRule.{rule-of-facts, accurate-lists}
 
 module _ (m : Model) (d lb ls : ℕ) where
   abbrev finished : Swept
@@ -155,7 +154,7 @@ sweeps m facts d b₀ s₀ b s row-b row-s a f fills calm lb ls p q answer h =
       answer = h;
       bounds = in-b ∙ sym (ap (λ (t : Bool). cond t (boundsOf m d) b₀) zero-number);
       slacks = in-s ∙ sym (ap (λ (t : Bool). cond t (slacksOf m d) s₀) zero-number);
-      accurate = λ z. subst (λ (x : List ℤ). Accurate m d x s) (sym in-b) (subst (Accurate m d (boundsOf m d)) (sym in-s) (accurate m facts d));
+      accurate = λ z. rw (in-b, in-s) (accurate-lists m d (rule-of-facts m facts));
     }
   where
     zero-number : eqb (sweptNumber a) 0 ≡ true

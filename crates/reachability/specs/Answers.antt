@@ -1,22 +1,19 @@
--- Document 01, "Refusals by place", the rows "sweep, judge": what the two answer and leave, for every input. Definitions only.
+-- Document 01, "Refusals by place", the rows "sweep, judge": what a sweep answers and leaves, for every input. Definitions only.
 -- b₀ and s₀ are the lists as lent, b and s as left. Assumes nothing.
 use mathlib.Core.Path.{_≡_}
-use mathlib.Core.Bool.{Bool, true, cond, _&&_}
+use mathlib.Core.Bool.{Bool, cond, _&&_}
 use mathlib.Core.List.{List}
 use Prim.Native.Nat.{ℕ, suc}
 use lib.Dec.{leb, ltb, eqb}
-use lib.ListN.{length, getD}
+use lib.ListN.{length}
 use lib.IntN.{ℤ, pos}
 use Rattle.integers.specs.Sums.{vector, tabulate}
 use Rattle.reachability.specs.Limits.{accepted}
 use Rattle.reachability.specs.Recurrence.{growthStep, spareFigure, bound, slack}
-use Rattle.reachability.specs.Verdicts.{verdict}
-use Rattle.reachability.specs.Rule.{Accurate, VerdictHolds}
+use Rattle.reachability.specs.Rule.{Accurate}
 use Rattle.reachability.specs.declared.model.Model.{Model}
 use Rattle.reachability.specs.declared.sweep.Swept.{Swept}
 use Rattle.reachability.specs.declared.sweep.Swept.the-variants as S
-use Rattle.reachability.specs.declared.judge.Judged.{Judged}
-use Rattle.reachability.specs.declared.judge.Judged.the-variants as J
 
 -- The document's number of an answer: 0 where nothing is refused.
 abbrev pub sweptNumber : Swept → ℕ
@@ -25,15 +22,6 @@ sweptNumber S.Invalid = 11
 sweptNumber S.NoDirection = 12
 sweptNumber S.WrongLength = 13
 sweptNumber (S.Growth k) = 14
-
-abbrev pub judgedNumber : Judged → ℕ
-judgedNumber (J.Hit k) = 0
-judgedNumber (J.Unknown k) = 0
-judgedNumber J.Clear = 0
-judgedNumber J.Invalid = 11
-judgedNumber J.NoGuard = 12
-judgedNumber J.WrongLength = 13
-judgedNumber (J.Growth k) = 14
 
 -- "a lent list isn't K + 1 long": both are.
 abbrev pub lengthsOk : Model → ℕ → ℕ → Bool
@@ -50,17 +38,6 @@ sweepAnswer m d lb ls =
     S.NoDirection)
     S.Invalid
 
-abbrev pub judgeAnswer : Model → ℕ → ℕ → ℕ → Judged
-judgeAnswer m g lb ls =
-    let d = getD (m .watched) g 0 in
-    cond (accepted m)
-    (cond (ltb g (m .guards))
-    (cond (lengthsOk m lb ls)
-    (cond (leb (growthStep m d) (m .steps)) (J.Growth (growthStep m d)) (verdict m d (vector (m .levels) g)))
-    J.WrongLength)
-    J.NoGuard)
-    J.Invalid
-
 -- Bounds and slacks for steps 0 to K.
 abbrev pub boundsOf : Model → ℕ → List ℤ
 boundsOf m d = tabulate (suc (m .steps)) (bound m d)
@@ -74,12 +51,4 @@ pub record SweepLeaves (m : Model) (d : ℕ) (b₀ s₀ : List ℤ) (a : Swept) 
   pub answer : a ≡ sweepAnswer m d (length b₀) (length s₀)
   pub bounds : b ≡ cond (eqb (sweptNumber a) 0) (boundsOf m d) b₀
   pub slacks : s ≡ cond (eqb (sweptNumber a) 0) (slacksOf m d) s₀
-  pub accurate : sweptNumber a ≡ 0 → Accurate m d b s
-
--- What a judge leaves and answers: "leaves the sweep of that guard's direction in the lists and answers the verdict."
-pub record JudgeLeaves (m : Model) (g : ℕ) (b₀ s₀ : List ℤ) (a : Judged) (b s : List ℤ) : Type 0 where
-  pub answer : a ≡ judgeAnswer m g (length b₀) (length s₀)
-  pub bounds : b ≡ cond (eqb (judgedNumber a) 0) (boundsOf m (getD (m .watched) g 0)) b₀
-  pub slacks : s ≡ cond (eqb (judgedNumber a) 0) (slacksOf m (getD (m .watched) g 0)) s₀
-  pub accurate : judgedNumber a ≡ 0 → Accurate m (getD (m .watched) g 0) b s
-  pub verdict : VerdictHolds m (getD (m .watched) g 0) (vector (m .levels) g) s a
+  pub accurate : sweptNumber a ≡ 0 → Accurate m d (vector b) (vector s)

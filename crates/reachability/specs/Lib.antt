@@ -7,4 +7,3 @@ pub mod Rule
 pub mod Answers
 pub mod Inner
 pub mod Filling
-pub mod Cases

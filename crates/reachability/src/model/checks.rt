@@ -117,7 +117,7 @@ fn set_accepted(n: usize, set: Set) -> bool
 }
 
 // The model breaks no rule.
-pub(crate) fn accepts(model: Model) -> bool
+pub fn accepts(model: Model) -> bool
     ensures { λ b. ⌜ b ≡ accepted model ⌝ }
 {
     let n = model.n;

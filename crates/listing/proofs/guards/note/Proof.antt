@@ -4,8 +4,8 @@ use mathlib.Core.List.{List, [], _∷_, _++_}
 use borrow.Author.Tests.{eqb-true, eqb-false}
 use Rattle.integers.specs.Sums.{vector}
 use Rattle.integers.proofs.Machine.{read-given}
-use Rattle.reachability.specs.Verdicts.{sweptVerdict}
-use Rattle.reachability.specs.declared.judge.Judged.{Judged}
+use Rattle.judge.specs.Answers.{sweptVerdict}
+use Rattle.reachability.specs.declared.verdicts.Judged.{Judged}
 use Rattle.listing.specs.Listing.{judgeOf}
 use Rattle.listing.specs.Inner.{Notes, caseOf, stepOf}
 use Rattle.listing.proofs.Noting.{notes-none, notes-pass, notes-more}
@@ -80,7 +80,7 @@ loop-again-2 c =
     let below : l .g < 16 = omega (arith, c .before .before .before .before .before .before .before .before .before .before .pre .0 .guards-most, c .before .before .before .before .before .if1 .taken) in
     let watching = c .before .before .before .before .if2 .left in
     let level-is = read-given w64 (vector (a .model .levels) (l .g)) (c .before .before .before .verdict-arg .given) in
-    let answer : c .before .before .verdict .result ≡ judgeOf (a .model) (l .g) = c .before .before .verdict .ensures ∙ ap (λ (z : ℤ). sweptVerdict (a .swept) z (a .bounds .now) (a .slacks .now)) level-is ∙ start .pre .0 .answers (l .g) (c .before .before .before .before .before .if1 .taken) watching in (
+    let answer : c .before .before .verdict .result ≡ judgeOf (a .model) (l .g) = c .before .before .verdict .ensures .answer ∙ ap (λ (z : ℤ). sweptVerdict (a .swept) z (a .bounds .now) (a .slacks .now)) level-is ∙ start .pre .0 .answers (l .g) (c .before .before .before .before .before .if1 .taken) watching in (
       omega (arith, c .before .before .before .before .before .if1 .taken),
       notes-more (a .model) caseOf (a .direction) (a .cases .now) (l .g) (l .cases) (c .before .case-of .result) below watching (c .before .case-of .ensures ∙ ap caseOf answer) (l .inv .1),
       notes-more (a .model) stepOf (a .direction) (a .steps .now) (l .g) (l .steps) (c .step-of .result) below watching (c .step-of .ensures ∙ ap stepOf answer) (l .inv .2),

@@ -4,9 +4,9 @@ use mathlib.Core.List.{[], _∷_}
 use lib.IntN.{pos}
 use Rattle.integers.specs.Sums.{sum, sumℕ, maxℕ, allBelow}
 use Rattle.stepping.specs.Recurrence.{greatest}
 use Rattle.reachability.specs.Sets.{largest}
 use Rattle.reachability.specs.Recurrence.{walk, firstPlace}
-use Rattle.reachability.specs.Cases.{reaches, Holds, none, _and_, AllHold, zonotope, cases}
+use Rattle.judge.specs.Cases.{reaches, Holds, none, _and_, AllHold, zonotope, cases}
 
 -- The reach in case 9.
 zonotope-reaches : Holds (reaches 2 zonotope (pos 5 ∷ pos 5 ∷ []))

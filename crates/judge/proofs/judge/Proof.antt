@@ -1,18 +1,18 @@
--- `reachability::judge::judge` meets its contract: a test that fails gives its refusal with both lists kept; otherwise the sweep's
+-- `judge::judge` meets its contract: a test that fails gives its refusal with both lists kept; otherwise the sweep's
 -- answer and lists settle the judge's. Assumes nothing.
 use Rattle.integers.proofs.Basics.{_≡_, refl, sym, ap, _∙_, true, ℕ, _<_, arith, needs, getD, ℤ, w64}
 use mathlib.Core.List.{List}
 use borrow.Author.Tests.{not-true, not-false}
 use Rattle.integers.specs.Sums.{vector}
 use Rattle.integers.proofs.Machine.{read-given}
 use Rattle.reachability.specs.Limits.{accepted}
-use Rattle.reachability.specs.Verdicts.{sweptVerdict}
+use Rattle.judge.specs.Answers.{sweptVerdict}
 use Rattle.reachability.specs.Answers.{SweepLeaves}
 use Rattle.reachability.specs.declared.model.Model.{Model}
-use Rattle.reachability.specs.declared.judge.Judged.the-variants.{Invalid, NoGuard}
-use Rattle.reachability.proofs.JudgeAnswers.{judge-refuses, judged-invalid, judged-no-guard, guard-below, judges}
-use Rattle.reachability.proofs.judge.judge.Statement.{statement}
-use Rattle.reachability.proofs.judge.judge.Tie as tie
+use Rattle.reachability.specs.declared.verdicts.Judged.the-variants.{Invalid, NoGuard}
+use Rattle.judge.proofs.Answers.{judge-refuses, answer-invalid, answer-no-guard, guard-below, judges}
+use Rattle.judge.proofs.judge.Statement.{statement}
+use Rattle.judge.proofs.judge.Tie as tie
 
 accepts-requires : tie.Need-accepts-requires
 accepts-requires c κs = search needs
@@ -20,7 +20,7 @@ accepts-requires c κs = search needs
 returns : tie.Need-returns
 returns c =
     let a = c .before .before .args in
-    judge-refuses (a .model) (a .guard) (a .bounds .now) (a .slacks .now) Invalid 10 refl (judged-invalid (a .model) (a .guard) _ _ (sym (c .before .accepts .ensures) ∙ not-true _ (c .if1 .taken))) tt
+    judge-refuses (a .model) (a .guard) (a .bounds .now) (a .slacks .now) Invalid refl (answer-invalid (a .model) (a .guard) _ _ (sym (c .before .accepts .ensures) ∙ not-true _ (c .if1 .taken))) tt
 
 -- the model is accepted
 module _ (c : tie.Else1) where
@@ -42,7 +42,7 @@ module _ (c : tie.Else1) where
 returns-2 : tie.Need-returns-2
 returns-2 c =
     let b = c .before .before in
-    judge-refuses (m b) (g b) (b₀ b) (s₀ b) NoGuard 11 refl (judged-no-guard (m b) (g b) _ _ (ok b) (c .if2 .taken)) tt
+    judge-refuses (m b) (g b) (b₀ b) (s₀ b) NoGuard refl (answer-no-guard (m b) (g b) _ _ (ok b) (c .if2 .taken)) tt
 
 -- the guard is one of the sixteen
 below : (c : tie.Else2) → g (c .before .before) < 16
@@ -94,7 +94,7 @@ returns-3 c =
     let w = c .before .before .before .before .before in
     let l = vector (m (at w) .levels) (g (at w)) in
     judges (m (at w)) (g (at w)) (ok (at w)) (tested w .if2 .left) (b₀ (at w)) (s₀ (at w)) (w .sweep .result) (b w) (s w) (c .verdict .result) (left w)
-    (c .verdict .ensures ∙ ap (λ (z : ℤ). sweptVerdict (w .sweep .result) z (b w) (s w)) (read-given w64 l (w .before .before .before .level .given)))
+    (c .verdict .ensures .answer ∙ ap (λ (z : ℤ). sweptVerdict (w .sweep .result) z (b w) (s w)) (read-given w64 l (w .before .before .before .level .given)))
 
 pub judge-spec : {M : Type 1} → statement M
 judge-spec =

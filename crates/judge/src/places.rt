@@ -1,56 +1,40 @@
 // The first-step rules over a sweep's lists.
-use crate::judge::Judged;
+use reachability::verdicts::Judged;
 ghost use mathlib.Core.Path.{_≡_};
-ghost use lib.IntN.{natAbs, _-ℤ_};
+ghost use lib.IntN.{_-ℤ_};
 ghost use lib.ListN.{length};
-ghost use Rattle.integers.specs.Whole.{_⩽_};
 ghost use Rattle.integers.specs.Sums.{vector};
 ghost use Rattle.reachability.specs.Recurrence.{firstPlace};
-ghost use Rattle.reachability.specs.Verdicts.{reaches, listHit, listUnknown, listAnswer};
+ghost use Rattle.reachability.specs.Verdicts.{reaches, hitAt, unknownAt};
+ghost use Rattle.judge.specs.Answers.{listAnswer};
 
-// A value reaches the level.
+// A value reaches the level. No other function compares with a level.
 fn at_level(level: i64, value: i64) -> bool
     ensures { λ b. ⌜ b ≡ reaches level value ⌝ }
 {
     level <= value
 }
 
-// bound - level, for a bound at or above the level: as a u64 it fits for any two.
-fn gap(level: i64, bound: i64) -> u64
-    requires { ⌜ level ⩽ bound ⌝ }
-    ensures { λ g. ⌜ g ≡ natAbs (bound -ℤ level) ⌝ }
-{
-    let low = arrays::magnitude(level);
-    let high = arrays::magnitude(bound);
-    if 0 <= level {
-        return high - low;
-    }
-    if bound < 0 {
-        return low - high;
-    }
-    high + low
-}
-
-// bound - slack reaches the level, for any three numbers.
+// bound - slack reaches the level, for any three numbers: a difference below all i64 reaches none, and one above all reaches each.
 fn hits(level: i64, bound: i64, slack: i64) -> bool
     ensures { λ b. ⌜ b ≡ reaches level (bound -ℤ slack) ⌝ }
 {
-    if bound < level {
-        if 0 <= slack {
+    if 0 <= slack {
+        if bound < -9223372036854775808 + slack {
             return false;
         }
-        return gap(bound, level) <= arrays::magnitude(slack);
+        return at_level(level, bound - slack);
     }
-    if slack < 0 {
+    if 9223372036854775807 + slack < bound {
         return true;
     }
-    arrays::magnitude(slack) <= gap(level, bound)
+    at_level(level, bound - slack)
 }
 
 // The first step whose bound less its slack reaches the level, the length where there is none.
 fn first_hit(level: i64, bounds: &[i64], slacks: &[i64]) -> usize
     requires { ⌜ length (now slacks) ≡ length (now bounds) ⌝ }
-    ensures { λ k. ⌜ k ≡ firstPlace (length (now (bounds .entry))) (listHit level (now (bounds .entry)) (now (slacks .entry))) ⌝ }
+    ensures { λ k. ⌜ k ≡ firstPlace (length (now (bounds .entry))) (hitAt level (vector (now (bounds .entry))) (vector (now (slacks .entry)))) ⌝ }
 {
     let mut k: usize = 0;
     while k < bounds.len() {
@@ -64,7 +48,7 @@ fn first_hit(level: i64, bounds: &[i64], slacks: &[i64]) -> usize
 
 // The first step whose bound reaches the level, the length where there is none.
 fn first_unknown(level: i64, bounds: &[i64]) -> usize
-    ensures { λ k. ⌜ k ≡ firstPlace (length (now (bounds .entry))) (listUnknown level (now (bounds .entry))) ⌝ }
+    ensures { λ k. ⌜ k ≡ firstPlace (length (now (bounds .entry))) (unknownAt level (vector (now (bounds .entry)))) ⌝ }
 {
     let mut k: usize = 0;
     while k < bounds.len() {
@@ -76,19 +60,26 @@ fn first_unknown(level: i64, bounds: &[i64]) -> usize
     k
 }
 
-// HIT, else UNKNOWN, else CLEAR; 13 where the lists are not as long as each other.
+// HIT, else UNKNOWN, else CLEAR; 13 where the lists are not as long as each other, or not 2 to 257 long.
 pub(crate) fn verdict_of(level: i64, bounds: &[i64], slacks: &[i64]) -> Judged
     ensures { λ a. ⌜ a ≡ listAnswer level (now (bounds .entry)) (now (slacks .entry)) ⌝ }
 {
-    if slacks.len() != bounds.len() {
+    let size = bounds.len();
+    if slacks.len() != size {
+        return Judged::WrongLength;
+    }
+    if size < 2 {
+        return Judged::WrongLength;
+    }
+    if 257 < size {
         return Judged::WrongLength;
     }
     let h = first_hit(level, bounds, slacks);
-    if h < bounds.len() {
+    if h < size {
         return Judged::Hit(h);
     }
     let u = first_unknown(level, bounds);
-    if u < bounds.len() {
+    if u < size {
         return Judged::Unknown(u);
     }
     Judged::Clear

@@ -10,18 +10,19 @@ use Prim.Native.Nat.{ℕ, zero, suc}
 use lib.ListN.{length, replicate}
 use lib.IntN.{ℤ, pos, negℤ}
 use Rattle.integers.specs.Sums.{vector}
 use Rattle.reachability.specs.Sets.{supportAnswer, ReachAnswer}
 use Rattle.reachability.specs.Recurrence.{working}
-use Rattle.reachability.specs.Answers.{sweepAnswer, sweptNumber, judgeAnswer, boundsOf, slacksOf}
+use Rattle.reachability.specs.Answers.{sweepAnswer, sweptNumber, boundsOf, slacksOf}
 use Rattle.reachability.specs.declared.sets.Shape.{Shape}
 use Rattle.reachability.specs.declared.sets.Shape.the-variants.{Box, Zonotope, Vertices}
 use Rattle.reachability.specs.declared.sets.Set.{Set}
 use Rattle.reachability.specs.declared.sets.Supported.the-variants.{Value}
 use Rattle.reachability.specs.declared.model.Model.{Model}
 use Rattle.reachability.specs.declared.sweep.Swept.{Swept}
 use Rattle.reachability.specs.declared.sweep.Swept.the-variants.{Spare, Growth}
-use Rattle.reachability.specs.declared.judge.Judged.{Judged}
-use Rattle.reachability.specs.declared.judge.Judged.the-variants.{Hit, Clear}
+use Rattle.reachability.specs.declared.verdicts.Judged.{Judged}
+use Rattle.reachability.specs.declared.verdicts.Judged.the-variants.{Hit, Clear}
+use Rattle.judge.specs.Answers.{judgeAnswer}
 
 -- ---- stored values
 

@@ -1,0 +1,2 @@
+-- Laws of the first-step rules over lists.
+pub mod Laws

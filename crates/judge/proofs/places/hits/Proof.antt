@@ -1,0 +1,81 @@
+-- `judge::places::hits` meets its contract, for any three numbers: the two tests keep the difference within i64, and past them it is
+-- below or above every level. Assumes nothing.
+use Rattle.integers.proofs.Basics.{_≡_, sym, ap₂, _∙_, ℤ, pos, _-ℤ_, true, false, needs, w64, SFits, toZ-ofZ}
+use lib.Signed.{leZ}
+use Rattle.reachability.specs.Verdicts.{reaches}
+use Rattle.judge.proofs.places.Laws as laws
+use Rattle.judge.proofs.places.hits.Statement.{statement}
+use Rattle.judge.proofs.places.hits.Tie as tie
+
+natural : (c : tie.Then1) → leZ (pos 0) (c .before .args .slack) ≡ true
+natural c = simp (toZ-ofZ (c .before .fits .slack)) at (c .if1 .taken)
+
+add-if2 : tie.Need-add-if2
+add-if2 c = rw (toZ-ofZ (c .before .fits .slack)) (laws.least-add-fits _ (c .before .fits .slack) (natural c))
+
+returns : tie.Need-returns
+returns c =
+    let a = c .before .before in
+    let low = laws.least-add-fits _ (a .fits .slack) (natural (c .before)) in
+    sym (laws.hit-below (a .args .slack) (a .fits .slack) (natural (c .before)) (a .args .level) (a .args .bound) (a .fits .level) (simp (toZ-ofZ (a .fits .bound), toZ-ofZ (a .fits .slack), toZ-ofZ low) at (c .if2 .taken)))
+
+less-fits : (c : tie.Else2) → SFits w64 (c .before .before .args .bound -ℤ c .before .before .args .slack)
+less-fits c =
+    let a = c .before .before in
+    let low = laws.least-add-fits _ (a .fits .slack) (natural (c .before)) in
+    laws.less-fits (a .args .slack) (a .fits .slack) (natural (c .before)) (a .args .bound) (a .fits .bound) (simp (toZ-ofZ (a .fits .bound), toZ-ofZ (a .fits .slack), toZ-ofZ low) at (c .if2 .left))
+
+sub-at-level : tie.Need-sub-at-level
+sub-at-level c = rw (toZ-ofZ (c .before .before .fits .bound), toZ-ofZ (c .before .before .fits .slack)) (less-fits c)
+
+at-level-requires : tie.Need-at-level-requires
+at-level-requires c κs = search needs
+
+returns-2 : tie.Need-returns-2
+returns-2 c =
+    let a = c .before .before .before in
+    c .at-level .ensures ∙ simp (toZ-ofZ (a .fits .level), toZ-ofZ (a .fits .bound), toZ-ofZ (a .fits .slack), toZ-ofZ (less-fits (c .before)))
+
+negative : (c : tie.Else1) → leZ (pos 0) (c .before .args .slack) ≡ false
+negative c = simp (toZ-ofZ (c .before .fits .slack)) at (c .if1 .left)
+
+add-if3 : tie.Need-add-if3
+add-if3 c = rw (toZ-ofZ (c .before .fits .slack)) (laws.most-add-fits _ (c .before .fits .slack) (negative c))
+
+returns-3 : tie.Need-returns-3
+returns-3 c =
+    let a = c .before .before in
+    let high = laws.most-add-fits _ (a .fits .slack) (negative (c .before)) in
+    sym (laws.hit-above (a .args .slack) (a .fits .slack) (negative (c .before)) (a .args .level) (a .args .bound) (a .fits .level) (simp (toZ-ofZ (a .fits .bound), toZ-ofZ (a .fits .slack), toZ-ofZ high) at (c .if3 .taken)))
+
+more-fits : (c : tie.Else3) → SFits w64 (c .before .before .args .bound -ℤ c .before .before .args .slack)
+more-fits c =
+    let a = c .before .before in
+    let high = laws.most-add-fits _ (a .fits .slack) (negative (c .before)) in
+    laws.more-fits (a .args .slack) (a .fits .slack) (negative (c .before)) (a .args .bound) (a .fits .bound) (simp (toZ-ofZ (a .fits .bound), toZ-ofZ (a .fits .slack), toZ-ofZ high) at (c .if3 .left))
+
+sub-at-level-2 : tie.Need-sub-at-level-2
+sub-at-level-2 c = rw (toZ-ofZ (c .before .before .fits .bound), toZ-ofZ (c .before .before .fits .slack)) (more-fits c)
+
+at-level-requires-2 : tie.Need-at-level-requires-2
+at-level-requires-2 c κs = search needs
+
+returns-4 : tie.Need-returns-4
+returns-4 c =
+    let a = c .before .before .before in
+    c .at-level2 .ensures ∙ simp (toZ-ofZ (a .fits .level), toZ-ofZ (a .fits .bound), toZ-ofZ (a .fits .slack), toZ-ofZ (more-fits (c .before)))
+
+pub hits-spec : {M : Type 1} → statement M
+hits-spec =
+    tie.close
+    (tie.spec
+    add-if2
+    returns
+    sub-at-level
+    at-level-requires
+    returns-2
+    add-if3
+    returns-3
+    sub-at-level-2
+    at-level-requires-2
+    returns-4)

@@ -1,0 +1,85 @@
+-- Laws of `reaches` and of the first-step rules. The laws and proofs above cite these and don't unfold `reaches`. In order: values
+-- against a level; the verdict from the two first steps; the same of equal bounds and slacks. Assumes nothing.
+use mathlib.Core.Path.{_≡_, refl, ap, ap₂, _∙_}
+use mathlib.Core.Bool.{Bool, true, false, cond}
+use Prim.Native.Nat.{ℕ, zero, suc, _≤_, _<_}
+use native.Mathlib.Omega.{arith}
+use borrow.Author.Tests.{lt-ltb, le-ltb}
+use lib.Dec.{T, ltb}
+use lib.IntN.{ℤ, pos, _-ℤ_, _+ℤ_, _*ℤ_}
+use lib.Signed.{leZ}
+use Rattle.integers.specs.Whole.{_⩽_}
+use Rattle.integers.proofs.SignedParts.{v, #, _⊕_, le!, le?}
+use Rattle.integers.proofs.Order.{⩽-trans, ⩽-scale, ⩽-unscale, ⩽-of-leZ, lt-of-leZ-false}
+use Rattle.reachability.specs.Recurrence.{firstPlace}
+use Rattle.reachability.specs.Verdicts.{reaches, hitAt, unknownAt, verdictBelow}
+use Rattle.reachability.specs.declared.verdicts.Judged.{Judged}
+use Rattle.reachability.specs.declared.verdicts.Judged.the-variants.{Hit, Unknown, Clear}
+use Rattle.reachability.proofs.FirstPlace.{firstPlace-cong}
+
+-- ---- values against a level
+
+leZ-of-⩽ : {a b : ℤ} → a ⩽ b → leZ a b ≡ true
+leZ-of-⩽ {a} {b} h = told (leZ a b) (h .le)
+  where
+    told : (t : Bool) → T t → t ≡ true
+    told true h = refl
+    told false h = absurd h
+
+pub reaches-le : (level x : ℤ) → reaches level x ≡ true → level ⩽ x
+reaches-le level x t = ⩽-of-leZ level x t
+
+pub reaches-false-le : (level x : ℤ) → reaches level x ≡ false → x ⩽ level
+reaches-false-le level x f = le! (v x) (v level) (omega (arith, le? (v x ⊕ # 1) (v level) (lt-of-leZ-false level x f)))
+
+-- a value at or above one that reaches the level
+pub reaches-mono : (level x y : ℤ) → reaches level x ≡ true → x ⩽ y → reaches level y ≡ true
+reaches-mono level x y t h = leZ-of-⩽ (⩽-trans (reaches-le level x t) h)
+
+-- level and value over a common denominator
+pub reaches-scale : (p : ℕ) (level x : ℤ) → 1 ≤ p → reaches level x ≡ true → reaches (pos p *ℤ level) (pos p *ℤ x) ≡ true
+reaches-scale p level x l t = leZ-of-⩽ (⩽-scale p (reaches-le level x t))
+
+pub reaches-unscale : (p : ℕ) (level x : ℤ) → 1 ≤ p → reaches (pos p *ℤ level) (pos p *ℤ x) ≡ true → reaches level x ≡ true
+reaches-unscale zero level x l t = absurd (omega arith)
+reaches-unscale (suc p) level x l t = leZ-of-⩽ {a = level} {b = x} (⩽-unscale p (reaches-le (pos (suc p) *ℤ level) (pos (suc p) *ℤ x) t))
+
+-- a value above another that is at or above the level, and one below another that is at or below it
+pub reaches-above : (level x y : ℤ) → level ⩽ x → x +ℤ pos 1 ⩽ y → reaches level y ≡ true
+reaches-above level x y h k = leZ-of-⩽ (le! (v level) (v y) (omega (arith, le? (v level) (v x) h, le? (v x ⊕ # 1) (v y) k)))
+
+pub reaches-below : (level x y : ℤ) → x ⩽ level → y +ℤ pos 1 ⩽ x → reaches level y ≡ false
+reaches-below level x y h k = told (reaches level y) refl
+  where
+    told : (t : Bool) → reaches level y ≡ t → t ≡ false
+    told true t = absurd (omega (arith, le? (v x) (v level) h, le? (v y ⊕ # 1) (v x) k, le? (v level) (v y) (reaches-le level y t)))
+    told false t = refl
+
+-- ---- the verdict from the two first steps
+
+module _ (n : ℕ) (level : ℤ) (b s : ℕ → ℤ) where
+  abbrev h : ℕ
+  h = firstPlace n (hitAt level b s)
+
+  abbrev u : ℕ
+  u = firstPlace n (unknownAt level b)
+
+  pub verdict-hit : h < n → verdictBelow n level b s ≡ Hit h
+  verdict-hit l = ap (λ (t : Bool). cond t (Hit h) (cond (ltb u n) (Unknown u) Clear)) (lt-ltb h n l)
+
+  no-hit : n ≤ h → verdictBelow n level b s ≡ cond (ltb u n) (Unknown u) Clear
+  no-hit l = ap (λ (t : Bool). cond t (Hit h) (cond (ltb u n) (Unknown u) Clear)) (le-ltb h n l)
+
+  pub verdict-unknown : n ≤ h → u < n → verdictBelow n level b s ≡ Unknown u
+  verdict-unknown l k = no-hit l ∙ ap (λ (t : Bool). cond t (Unknown u) Clear) (lt-ltb u n k)
+
+  pub verdict-clear : n ≤ h → n ≤ u → verdictBelow n level b s ≡ Clear
+  verdict-clear l k = no-hit l ∙ ap (λ (t : Bool). cond t (Unknown u) Clear) (le-ltb u n k)
+
+-- ---- equal bounds and slacks
+
+pub verdict-cong : (n : ℕ) (level : ℤ) (b s b′ s′ : ℕ → ℤ) → ((k : ℕ) → k < n → b k ≡ b′ k) → ((k : ℕ) → k < n → s k ≡ s′ k) → verdictBelow n level b s ≡ verdictBelow n level b′ s′
+verdict-cong n level b s b′ s′ e f =
+    ap₂ (λ (x y : ℕ). cond (ltb x n) (Hit x) (cond (ltb y n) (Unknown y) Clear))
+    (firstPlace-cong n (hitAt level b s) (hitAt level b′ s′) (λ k l. ap₂ (λ (x y : ℤ). reaches level (x -ℤ y)) (e k l) (f k l)))
+    (firstPlace-cong n (unknownAt level b) (unknownAt level b′) (λ k l. ap (reaches level) (e k l)))
