@@ -38,7 +38,7 @@ cast-result : tie.Need-cast-result
 cast-result c = subst (λ (z : ℤ). T (nonNeg z) × Fits w64 (natAbs z)) (sym (read c)) (tt, record { fits = omega (arith, a-fits c .sfits) })
 
 add-result : tie.Need-add-result
-add-result c = subst (λ (z : ℤ). Fits w64 (natAbs z + 1)) (sym (read c)) (record { fits = omega (arith, a-fits c .sfits) })
+add-result c = omega (arith, ap natAbs (read c), a-fits c .sfits)
 
 cast-result-2 : tie.Need-cast-result-2
 cast-result-2 c =

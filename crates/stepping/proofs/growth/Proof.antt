@@ -1,7 +1,7 @@
 -- `stepping::growth` meets its contract, test by test; the largest sum of six is that of n. Assumes nothing.
 use Rattle.integers.proofs.Basics.{_≡_, sym, ap, _∙_, true, ℕ, arith, needs, ℤ}
 use mathlib.Core.List.{List}
-use borrow.Author.Tests.{le-leb, lt-leb, not-true, not-false}
+use borrow.Author.Tests.{le-leb, lt-leb, leb-true, not-true, not-false}
 use lib.Dec.{leb}
 use Rattle.integers.specs.Sums.{vector, magnitudes}
 use Rattle.stepping.specs.Limits.{growthLimit}
@@ -15,18 +15,18 @@ use Rattle.stepping.proofs.growth.Statement.{statement}
 use Rattle.stepping.proofs.growth.Tie as tie
 
 returns : tie.Need-returns
-returns c = grows _ _ _ Refused (simp (lt-leb _ _ (c .if1 .taken)))
+returns c = grows _ _ _ Refused (simp (lt-leb 1 (c .before .args .n) (omega arith)))
 
 returns-2 : tie.Need-returns-2
-returns-2 c = grows _ _ _ Refused (simp (le-leb _ _ (c .before .if1 .left), lt-leb _ _ (c .if2 .taken)))
+returns-2 c = grows _ _ _ Refused (simp (le-leb 1 (c .before .before .args .n) (omega arith), lt-leb (c .before .before .args .n) 6 (omega arith)))
 
 -- n from 1 to 6
 module _ (c : tie.Else2) where
   least : leb 1 (c .before .before .args .n) ≡ true
-  least = le-leb _ _ (c .before .if1 .left)
+  least = le-leb 1 (c .before .before .args .n) (omega arith)
 
   most : leb (c .before .before .args .n) 6 ≡ true
-  most = le-leb _ _ (c .if2 .left)
+  most = le-leb (c .before .before .args .n) 6 (omega arith)
 
 returns-3 : tie.Need-returns-3
 returns-3 c =
@@ -63,7 +63,7 @@ module _ (c : tie.Else4) where
   zero-e = sym (c .before .zero-beyond2 .ensures) ∙ not-false _ (c .if4 .left)
 
   six : growthSum 6 (vector r) (magnitudes e) ≡ growthSum n (vector r) (magnitudes e)
-  six = growthSum-six n (at-n .if2 .left) (vector r) (magnitudes e) (zeroBeyond-at n r (zero-r at-r)) (zeroBeyond-at n e zero-e)
+  six = growthSum-six n (leb-true n 6 (most at-n)) (vector r) (magnitudes e) (zeroBeyond-at n r (zero-r at-r)) (zeroBeyond-at n e zero-e)
 
 returns-5 : tie.Need-returns-5
 returns-5 c =
