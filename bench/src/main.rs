@@ -1,6 +1,6 @@
 //! Measures the sweep through the C interface against Rust of the same recurrence. Called by bench/run:
 //!
-//!     bench                       agreement, the sweep, and how its time grows, as Markdown
+//!     bench report ROUNDS         agreement, the sweep, and how its time grows, as Markdown
 //!     bench count WHO SETS TIMES  does one thing so often, for an instruction counter
 //!     bench file PATH             writes the model with the largest listing
 //!     bench listing PATH          prints the listing of a model file, from the calls alone
@@ -21,7 +21,6 @@ use support::records::{file, of_model};
 use support::{calls, listing};
 
 const SEED: u64 = 20_260_701;
-const ROUNDS: usize = 600;
 
 /// A model with its file, and room for the results.
 struct Subject {
@@ -74,14 +73,14 @@ fn main() {
     let arguments: Vec<String> = std::env::args().skip(1).collect();
     let arguments: Vec<&str> = arguments.iter().map(String::as_str).collect();
     match arguments[..] {
-        [] => report(),
-        ["count", who, sets, times] => count(who, sets, times),
+        ["report", rounds] => report(number(rounds)),
+        ["count", who, sets, times] => count(who, sets, number(times)),
         ["file", path] => std::fs::write(path, largest()).unwrap_or_else(|error| fail(&format!("{path}: {error}"))),
         ["listing", path] => match std::fs::read(path) {
             Ok(bytes) => print!("{}", listing::text(calls::listing(&bytes))),
             Err(error) => fail(&format!("{path}: {error}")),
         },
-        _ => fail("usage: bench [count WHO SETS TIMES | file PATH | listing PATH]"),
+        _ => fail("usage: bench report ROUNDS | count WHO SETS TIMES | file PATH | listing PATH"),
     }
 }
 
@@ -90,13 +89,18 @@ fn fail(message: &str) -> ! {
     exit(2);
 }
 
-fn report() {
+fn number(word: &str) -> usize {
+    word.parse().unwrap_or_else(|_| fail(&format!("{word} is not a number")))
+}
+
+/// Everything; the sweep by itself in so many rounds, the rest in half as many.
+fn report(rounds: usize) {
     agreement();
-    sweep_times();
-    growth_with_steps();
-    growth_with_coordinates();
-    growth_with_directions();
-    listing_times();
+    sweep_times(rounds);
+    growth_with_steps(rounds / 2);
+    growth_with_coordinates(rounds / 2);
+    growth_with_directions(rounds / 2);
+    listing_times(rounds / 2);
 }
 
 // Agreement.
@@ -211,10 +215,10 @@ fn times_of(sizes: &[Size], rounds: usize) -> Vec<Measured> {
         .collect()
 }
 
-fn sweep_times() {
+fn sweep_times(rounds: usize) {
     println!("## One sweep, n = 6, K = 256\n");
     let both = [Sets::Boxes, Sets::Vertices];
-    for (sets, times) in both.iter().zip(times_of(&both.map(|sets| Size { sets, ..Size::FULL }), ROUNDS)) {
+    for (sets, times) in both.iter().zip(times_of(&both.map(|sets| Size { sets, ..Size::FULL }), rounds)) {
         println!("| {} | ns, median | quartiles | to tuned | to plain |\n|---|---|---|---|---|", sets.name());
         for one in [&times.call, &times.refused, &times.sweep, &times.plain, &times.tuned, &times.float] {
             let spread = one.spread();
@@ -236,12 +240,12 @@ fn sweep_times() {
     }
 }
 
-fn growth_with_steps() {
+fn growth_with_steps(rounds: usize) {
     println!("## With the number of steps, n = 6\n");
     println!("| K | boxes: sweep ns | ns for a step | 16 vertices: sweep ns | ns for a step |\n|---|---|---|---|---|");
     let all = [32, 64, 96, 128, 192, 256];
-    let boxes = times_of(&all.map(|steps| Size { steps, ..Size::FULL }), ROUNDS / 2);
-    let vertices = times_of(&all.map(|steps| Size { steps, sets: Sets::Vertices, ..Size::FULL }), ROUNDS / 2);
+    let boxes = times_of(&all.map(|steps| Size { steps, ..Size::FULL }), rounds);
+    let vertices = times_of(&all.map(|steps| Size { steps, sets: Sets::Vertices, ..Size::FULL }), rounds);
     for (steps, (boxes, vertices)) in all.iter().zip(boxes.iter().zip(&vertices)) {
         let (a, b) = (boxes.sweep.spread().median, vertices.sweep.spread().median);
         let turns = (steps + 1) as f64;
@@ -250,12 +254,12 @@ fn growth_with_steps() {
     println!();
 }
 
-fn growth_with_coordinates() {
+fn growth_with_coordinates(rounds: usize) {
     println!("## With the number of coordinates, K = 256\n");
     println!("| n | boxes: sweep ns | to tuned | to plain | 16 vertices: sweep ns | to tuned | to plain |\n|---|---|---|---|---|---|---|");
     let all = [1, 2, 3, 4, 5, 6];
-    let boxes = times_of(&all.map(|n| Size { n, ..Size::FULL }), ROUNDS / 2);
-    let vertices = times_of(&all.map(|n| Size { n, sets: Sets::Vertices, ..Size::FULL }), ROUNDS / 2);
+    let boxes = times_of(&all.map(|n| Size { n, ..Size::FULL }), rounds);
+    let vertices = times_of(&all.map(|n| Size { n, sets: Sets::Vertices, ..Size::FULL }), rounds);
     for (n, pair) in all.iter().zip(boxes.iter().zip(&vertices)) {
         print!("| {n} |");
         for times in [pair.0, pair.1] {
@@ -267,11 +271,11 @@ fn growth_with_coordinates() {
     println!();
 }
 
-fn growth_with_directions() {
+fn growth_with_directions(rounds: usize) {
     println!("## With the number of directions, n = 6, K = 256, boxes, all directions swept\n");
     println!("| directions | all sweeps, ns | for each direction | with reading the file at each call | for each direction |\n|---|---|---|---|---|");
     let all = [1, 2, 4, 8, 12, 16];
-    for (directions, times) in all.iter().zip(times_of(&all.map(|directions| Size { directions, ..Size::FULL }), ROUNDS / 2)) {
+    for (directions, times) in all.iter().zip(times_of(&all.map(|directions| Size { directions, ..Size::FULL }), rounds)) {
         let (sweep, call) = (times.sweep.spread().median, times.call.spread().median);
         let count = f64::from(*directions as u32);
         println!("| {directions} | {:.0} | {sweep:.0} | {:.0} | {call:.0} |", count * sweep, count * call);
@@ -280,7 +284,7 @@ fn growth_with_directions() {
 }
 
 /// The largest listing, written by the routine and by Rust that formats the results of the calls.
-fn listing_times() {
+fn listing_times(rounds: usize) {
     let bytes = largest();
     let mut out = vec![0; LISTING_ROOM];
     let text = listing::text(calls::listing(&bytes));
@@ -302,7 +306,7 @@ fn listing_times() {
     ];
     println!("## The largest listing, {} bytes, in one process\n", text.len());
     println!("| | µs, median | quartiles |\n|---|---|---|");
-    for times in measure(&mut contenders, ROUNDS / 2) {
+    for times in measure(&mut contenders, rounds) {
         let spread = times.spread();
         println!("| {} | {:.0} | {:.0} to {:.0} |", times.name, spread.median / 1e3, spread.low / 1e3, spread.high / 1e3);
     }
@@ -311,14 +315,11 @@ fn listing_times() {
 
 // One thing, so often, for an instruction counter.
 
-fn count(who: &str, sets: &str, times: &str) {
+fn count(who: &str, sets: &str, times: usize) {
     let sets = match sets {
         "boxes" => Sets::Boxes,
         "vertices" => Sets::Vertices,
         _ => fail("SETS is boxes or vertices"),
-    };
-    let Ok(times) = times.parse::<usize>() else {
-        fail("TIMES is a number");
     };
     let mut subject = Subject::new(6, 256, sets, 16);
     let mut values = vec![0.0; 257];
