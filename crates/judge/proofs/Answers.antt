@@ -49,7 +49,7 @@ module _ (lb ls : ℕ) where
 -- ---- numbers
 
 -- a verdict is no refusal
-verdict-number : (n : ℕ) (level : ℤ) (b s : ℕ → ℤ) → judgedNumber (verdictBelow n level b s) ≡ 0
+pub verdict-number : (n : ℕ) (level : ℤ) (b s : ℕ → ℤ) → judgedNumber (verdictBelow n level b s) ≡ 0
 verdict-number n level b s = cases (ltb (firstPlace n (hitAt level b s)) n) (ltb (firstPlace n (unknownAt level b)) n) _ _
   where
     cases : (t u : Bool) (h k : ℕ) → judgedNumber (cond t (J.Hit h) (cond u (J.Unknown k) J.Clear)) ≡ 0

@@ -7,12 +7,14 @@ use Prim.Native.Nat.{ℕ, suc, _/_, _%_, _<_}
 use native.Mathlib.Omega.{arith}
 use lib.Dec.{leb, ltb}
 use lib.ListN.{getD}
+use lib.IntN.{pos}
 use Rattle.integers.specs.Sums.{vector}
 use Rattle.stepping.specs.Refusals.{steppedNumber}
 use Rattle.stepping.specs.declared.Stepped.{Stepped}
 use Rattle.stepping.specs.declared.Stepped.the-variants as P
 use Rattle.reachability.specs.Limits.{accepted}
-use Rattle.reachability.specs.Recurrence.{growthStep, spareFigure}
+use Rattle.reachability.specs.Recurrence.{growthStep, spareFigure, bound, slack}
+use Rattle.reachability.specs.Verdicts.{verdict}
 use Rattle.reachability.specs.Answers.{sweptNumber, sweepAnswer, lengthsOk}
 use Rattle.reachability.specs.declared.model.Model.{Model}
 use Rattle.reachability.specs.declared.sweep.Swept.{Swept}
@@ -20,6 +22,7 @@ use Rattle.reachability.specs.declared.sweep.Swept.the-variants as S
 use Rattle.reachability.specs.declared.verdicts.Judged.{Judged}
 use Rattle.reachability.specs.declared.verdicts.Judged.the-variants as J
 use Rattle.judge.specs.Answers.{judgedNumber, judgeAnswer}
+use Rattle.judge.proofs.Answers.{verdict-number}
 use Rattle.reader.specs.declared.Status.the-variants.{Read, Refused}
 use Rattle.reader.specs.Reading.{readModel}
 use Rattle.reader.proofs.ReadModels.{readModel-accepted}
@@ -92,14 +95,12 @@ swept-other false b c t g h e z = never e
     never : false ≡ true → ⊥
     never f = let n : _≡_ {A = ℕ} 0 1 = cc in omega arith
 
-judged-other : (a b c t th tu : Bool) (g h u : ℕ) → a ≡ true → judgedNumber (cond a (cond b (cond c (cond t (J.Growth g) (cond th (J.Hit h) (cond tu (J.Unknown u) J.Clear))) J.WrongLength) J.NoGuard) J.Invalid) ≡ 11 → ⊥
-judged-other true true true true th tu g h u e z = omega arith
-judged-other true true true false true tu g h u e z = omega arith
-judged-other true true true false false true g h u e z = omega arith
-judged-other true true true false false false g h u e z = omega arith
-judged-other true true false t th tu g h u e z = omega arith
-judged-other true false c t th tu g h u e z = omega arith
-judged-other false b c t th tu g h u e z = never e
+judged-other : (a b c t : Bool) (g : ℕ) (x : Judged) → judgedNumber x ≡ 0 → a ≡ true → judgedNumber (cond a (cond b (cond c (cond t (J.Growth g) x) J.WrongLength) J.NoGuard) J.Invalid) ≡ 11 → ⊥
+judged-other true true true true g x n e z = omega arith
+judged-other true true true false g x n e z = omega arith
+judged-other true true false t g x n e z = omega arith
+judged-other true false c t g x n e z = omega arith
+judged-other false b c t g x n e z = never e
   where
     never : false ≡ true → ⊥
     never f = let n : _≡_ {A = ℕ} 0 1 = cc in omega arith
@@ -116,4 +117,4 @@ judge-never-11 file g lb ls e z = never (readModel file .model) (readModel-accep
     never : (m : Model) → accepted m ≡ true → judgedNumber (judgeAnswer m g lb ls) ≡ 11 → ⊥
     never m ok z =
         let d : ℕ = getD (m .watched) g 0 in
-        judged-other (accepted m) (ltb g (m .guards)) (lengthsOk m lb ls) (leb (growthStep m d) (m .steps)) _ _ (growthStep m d) _ _ ok z
+        judged-other (accepted m) (ltb g (m .guards)) (lengthsOk m lb ls) (leb (growthStep m d) (m .steps)) (growthStep m d) (verdict m d (vector (m .levels) g)) (verdict-number (suc (m .steps)) (vector (m .levels) g) (bound m d) (λ k. pos (slack m d k))) ok z
