@@ -31,7 +31,7 @@ use Rattle.reachability.specs.Answers.{boundsOf, slacksOf}
 use Rattle.reachability.specs.declared.model.Model.{Model}
 use Rattle.reachability.specs.declared.judge.Judged.{Judged}
 use Rattle.reachability.specs.declared.judge.Judged.the-variants.{Hit, Unknown, Clear}
-use Rattle.reachability.proofs.SetLaws.{SetLaws}
+use Rattle.reachability.proofs.sets.Laws.{SetLaws}
 use Rattle.reachability.proofs.model.Facts.{ModelFacts}
 use Rattle.reachability.proofs.FirstPlace.{firstPlace-passes, firstPlace-before}
 use Rattle.reachability.proofs.Walks.{top, value-le-top, Attains, attains, near-sums}

@@ -29,15 +29,15 @@ use Rattle.reachability.specs.Sets.{points, supportOf, reachOf, reachLim
 use Rattle.reachability.specs.Limits.{accepted, stepsOk, directionsOk, someNonzero}
 use Rattle.reachability.specs.Runs.{moves, direction}
 use Rattle.reachability.specs.Recurrence.{Working, first, next, walk, working, sumAt, growsAt, firstPlace, growthStep, supportAt, errorAt, rawBound, rawSlack, bound, slack}
-use Rattle.reachability.specs.Inner.{Counted, Tested}
-use Rattle.reachability.specs.Filling.{Row, termLimit, termSupport, termErrors, LineAsks, LineGives, Prepared, Fills, sumOf}
+use Rattle.reachability.specs.SetsInner.{Counted, Tested}
+use Rattle.reachability.specs.SweepInner.{Row, termLimit, termSupport, termErrors, LineAsks, LineGives, Prepared, Fills, sumOf}
 use Rattle.reachability.specs.declared.sets.Shape.{Shape}
 use Rattle.reachability.specs.declared.sets.Set.{Set}
 use Rattle.reachability.specs.declared.model.Model.{Model}
 use Rattle.reachability.specs.declared.sweep.Filled.{Filled}
 use Rattle.reachability.specs.declared.sweep.Filled.the-variants.{Largest, Grown}
-use Rattle.reachability.proofs.SetBounds.{supportOf-six, supportOf-same}
-use Rattle.reachability.proofs.SetTests.{SetFacts}
+use Rattle.reachability.proofs.sets.Bounds.{supportOf-six, supportOf-same}
+use Rattle.reachability.proofs.sets.Facts.{SetFacts}
 use Rattle.reachability.proofs.model.Facts.{ModelFacts}
 use Rattle.reachability.proofs.FirstPlace.{firstPlace-is, firstPlace-none}
 

@@ -17,7 +17,7 @@ use Rattle.stepping.specs.Refusals.{dimensionOk, matrixOk}
 use Rattle.reachability.specs.Limits.{accepted, stepsOk, frameOk, setAccepted, directionLimit, allZero, someNonzero, directionsOk, guardOk, guardsOk}
 use Rattle.reachability.specs.Runs.{direction}
 use Rattle.reachability.specs.declared.model.Model.{Model}
-use Rattle.reachability.proofs.SetTests.{SetFacts, set-facts, n-range}
+use Rattle.reachability.proofs.sets.Facts.{SetFacts, set-facts, n-range}
 
 pub record ModelFacts (m : Model) : Type 0 where
   -- n and the steps

@@ -6,7 +6,7 @@ ghost use mathlib.Core.Bool.{_&&_};
 ghost use Prim.Native.Nat.{_≤_};
 ghost use Rattle.stepping.specs.Refusals.{dimensionOk};
 ghost use Rattle.reachability.specs.Sets.{countOk, orderedOk, reachOk, setOk, directionOk, valueOk, points as pointsOf};
-ghost use Rattle.reachability.specs.Inner.{Counted};
+ghost use Rattle.reachability.specs.SetsInner.{Counted};
 ghost use Rattle.reachability.specs.declared.sets.Shape.the-variants.{Box};
 
 // The count is one that the shape allows.

@@ -5,7 +5,7 @@ ghost use Prim.Native.Nat.{_≤_, _<_, max};
 ghost use lib.IntN.{pos, natAbs};
 ghost use Rattle.integers.specs.Sums.{sumℕ, maxℕ, tabulate};
 ghost use Rattle.reachability.specs.Sets.{reachOf, points as pointsOf};
-ghost use Rattle.reachability.specs.Inner.{Counted, ReachSmall};
+ghost use Rattle.reachability.specs.SetsInner.{Counted, ReachSmall};
 
 // |coordinate i of point k|.
 fn size(points: &[i32; 96], k: usize, i: usize) -> u64

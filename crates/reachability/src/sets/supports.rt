@@ -7,7 +7,7 @@ ghost use lib.IntN.{pos, natAbs, _+ℤ_, _*ℤ_};
 ghost use lib.Signed.{ltZ};
 ghost use Rattle.integers.specs.Sums.{vector, dot as dotOf};
 ghost use Rattle.reachability.specs.Sets.{supportOf, points as pointsOf};
-ghost use Rattle.reachability.specs.Inner.{TimesAdd, Added, Tested, Counted};
+ghost use Rattle.reachability.specs.SetsInner.{TimesAdd, Added, Tested, Counted};
 ghost use Rattle.reachability.specs.declared.sets.Shape.the-variants.{Box, Zonotope, Vertices};
 
 // sum + a × b.

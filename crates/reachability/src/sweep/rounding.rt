@@ -4,7 +4,7 @@ ghost use lib.IntN.{pos, natAbs};
 ghost use Prim.Native.Nat.{_+_};
 ghost use Rattle.integers.specs.Whole.{ceilDiv, ceilDivℕ, fraction};
 ghost use Rattle.stepping.specs.Limits.{directionUnit};
-ghost use Rattle.reachability.specs.Filling.{RawSmall, SlackSmall};
+ghost use Rattle.reachability.specs.SweepInner.{RawSmall, SlackSmall};
 
 // The raw bound / 1,048,576 rounded up.
 pub(crate) fn bound_of(raw: i64) -> i64

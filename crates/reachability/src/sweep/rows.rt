@@ -16,8 +16,8 @@ ghost use Rattle.integers.specs.Sums.{vector, magnitudes, matrix, tabulate, dot
 ghost use Rattle.stepping.specs.Recurrence.{spare};
 ghost use Rattle.stepping.specs.Refusals.{steppedNumber};
 ghost use Rattle.reachability.specs.Sets.{supportOf, points as pointsOf};
-ghost use Rattle.reachability.specs.Inner.{Counted, Tested};
-ghost use Rattle.reachability.specs.Filling.{Row, Errors, RawParts, sumOf, LineAsks, LineGives, Askable, Prepared, Fills};
+ghost use Rattle.reachability.specs.SetsInner.{Counted, Tested};
+ghost use Rattle.reachability.specs.SweepInner.{Row, Errors, RawParts, sumOf, LineAsks, LineGives, Askable, Prepared, Fills};
 
 // 257 zeros. The contract gives the length alone.
 pub(crate) fn blank() -> [i64; 257]

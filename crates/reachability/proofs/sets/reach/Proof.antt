@@ -6,7 +6,7 @@ use Rattle.arrays.proofs.Laws.{and-true}
 use Rattle.stepping.specs.Refusals.{dimensionOk}
 use Rattle.integers.specs.Sums.{tabulate}
 use Rattle.reachability.specs.Sets.{setOk, reachOf, points}
-use Rattle.reachability.proofs.SetTests.{SetFacts, set-facts}
+use Rattle.reachability.proofs.sets.Facts.{SetFacts, set-facts}
 use Rattle.reachability.proofs.sets.reach.Statement.{statement}
 use Rattle.reachability.proofs.sets.reach.Tie as tie
 

@@ -12,8 +12,8 @@ use Rattle.reachability.specs.Sets.{points, setOk, directionOk, supportO
 use Rattle.reachability.specs.declared.sets.Set.{Set}
 use Rattle.reachability.specs.declared.sets.Supported.{Supported}
 use Rattle.reachability.specs.declared.sets.Supported.the-variants.{Value, Refused}
-use Rattle.reachability.proofs.SetTests.{SetFacts, set-facts, n-range, direction-small}
-use Rattle.reachability.proofs.SetBounds.{supportOf-six}
+use Rattle.reachability.proofs.sets.Facts.{SetFacts, set-facts, n-range, direction-small}
+use Rattle.reachability.proofs.sets.Bounds.{supportOf-six}
 use Rattle.reachability.proofs.sets.support.Statement.{statement}
 use Rattle.reachability.proofs.sets.support.Tie as tie
 

@@ -4,7 +4,7 @@ use borrow.Author.Tests.{lt-leb, le-leb, not-true, not-false}
 use lib.Dec.{leb}
 use Rattle.arrays.specs.Tests.{zeroOutside}
 use Rattle.reachability.specs.Sets.{countOk, reachOk, points}
-use Rattle.reachability.proofs.SetTests.{counted-of}
+use Rattle.reachability.proofs.sets.Facts.{counted-of}
 use Rattle.reachability.proofs.sets.checks.set_ok.Statement.{statement}
 use Rattle.reachability.proofs.sets.checks.set_ok.Tie as tie
 

@@ -7,7 +7,7 @@ use lib.Signed.{ltZ}
 use Rattle.integers.specs.Sums.{vector, dot as dotOf}
 use Rattle.integers.proofs.Machine.{read-given}
 use Rattle.reachability.specs.Sets.{largest, points as pointsOf}
-use Rattle.reachability.proofs.SetBounds.{largest-zero, largest-suc}
+use Rattle.reachability.proofs.sets.Bounds.{largest-zero, largest-suc}
 use Rattle.reachability.proofs.sets.supports.of_vertices.Statement.{statement}
 use Rattle.reachability.proofs.sets.supports.of_vertices.Tie as tie
 

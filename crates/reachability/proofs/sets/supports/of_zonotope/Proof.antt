@@ -7,8 +7,8 @@ use Rattle.integers.proofs.Order.{natAbs-add}
 use Rattle.integers.proofs.Sums.{sumℕ-zero, sumℕ-suc}
 use Rattle.integers.proofs.Machine.{read-given}
 use Rattle.reachability.specs.Sets.{points as pointsOf}
-use Rattle.reachability.specs.Inner.{Tested}
-use Rattle.reachability.proofs.SetBounds.{dot-small}
+use Rattle.reachability.specs.SetsInner.{Tested}
+use Rattle.reachability.proofs.sets.Bounds.{dot-small}
 use Rattle.reachability.proofs.sets.supports.of_zonotope.Statement.{statement}
 use Rattle.reachability.proofs.sets.supports.of_zonotope.Tie as tie
 

@@ -6,7 +6,7 @@ use Prim.Native.Nat.{max}
 use Rattle.integers.proofs.Machine.{read-given}
 use Rattle.stepping.specs.Refusals.{Steps, growthAnswer}
 use Rattle.stepping.specs.declared.Stepped.{Stepped}
-use Rattle.reachability.specs.Filling.{LineAsks, LineGives, Prepared, Askable, sumOf}
+use Rattle.reachability.specs.SweepInner.{LineAsks, LineGives, Prepared, Askable, sumOf}
 use Rattle.reachability.specs.declared.sets.Shape.{Shape}
 use Rattle.reachability.specs.declared.model.Model.{Model}
 use Rattle.reachability.proofs.model.Facts.{ModelFacts, model-facts}

@@ -9,7 +9,7 @@ use Rattle.integers.specs.Sums.{magnitudes}
 use Rattle.integers.proofs.Order.{natAbs-add}
 use Rattle.integers.proofs.Sums.{sumℕ-bound}
 use Rattle.integers.proofs.Machine.{sfits-of-natAbs, read-given}
-use Rattle.reachability.specs.Filling.{Row, LineAsks, termSupport, termErrors}
+use Rattle.reachability.specs.SweepInner.{Row, LineAsks, termSupport, termErrors}
 use Rattle.reachability.proofs.sweep.rows.line_of.Statement.{statement}
 use Rattle.reachability.proofs.sweep.rows.line_of.Tie as tie
 

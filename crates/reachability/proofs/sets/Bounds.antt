@@ -14,7 +14,7 @@ use Rattle.integers.proofs.Sums.{sum-beyond, sumℕ-bound, sumℕ-cong, natAbs-
 use Rattle.arrays.specs.Tests.{zeroOutside}
 use Rattle.arrays.proofs.Laws.{zeroOutside-column}
 use Rattle.reachability.specs.Sets.{points, largest, supportOf}
-use Rattle.reachability.specs.Inner.{Tested}
+use Rattle.reachability.specs.SetsInner.{Tested}
 use Rattle.reachability.specs.declared.sets.Shape.{Shape}
 use Rattle.reachability.specs.declared.sets.Shape.the-variants.{Box, Zonotope, Vertices}
 

@@ -25,7 +25,7 @@ use Rattle.reachability.specs.Runs.{moves, direction}
 use Rattle.reachability.specs.Recurrence.{Working, first, walk, working, sumAt, growsAt, growthStep, spareFigure, bound, slack}
 use Rattle.reachability.specs.Rule.{Accurate}
 use Rattle.reachability.specs.Answers.{sweepAnswer, lengthsOk, boundsOf, slacksOf, sweptNumber, SweepLeaves}
-use Rattle.reachability.specs.Filling.{Fills}
+use Rattle.reachability.specs.SweepInner.{Fills}
 use Rattle.reachability.specs.declared.model.Model.{Model}
 use Rattle.reachability.specs.declared.sweep.Swept.{Swept}
 use Rattle.reachability.specs.declared.sweep.Swept.the-variants.{Spare, Invalid, NoDirection, WrongLength, Growth}

@@ -15,7 +15,7 @@ use Rattle.stepping.specs.Recurrence.{firstR, firstE}
 use Rattle.stepping.specs.declared.Stepped.{Stepped}
 use Rattle.stepping.specs.declared.Stepped.the-variants.{Sum, Refused}
 use Rattle.reachability.specs.Sets.{points, supportOf, reachOf, reachLimit}
-use Rattle.reachability.specs.Inner.{Counted, Tested}
+use Rattle.reachability.specs.SetsInner.{Counted, Tested}
 use Rattle.reachability.specs.Runs.{direction}
 use Rattle.reachability.specs.declared.sets.Shape.{Shape}
 use Rattle.reachability.specs.Limits.{accepted}

@@ -15,10 +15,10 @@ use Rattle.arrays.specs.Tests.{zeroOutside}
 use Rattle.arrays.proofs.Laws.{and-true, zeroOutside-row}
 use Rattle.stepping.specs.Refusals.{dimensionOk}
 use Rattle.reachability.specs.Sets.{points, reachOf, countOk, orderedOk, reachOk, setOk, directionOk, valueOk, Member, supportOf}
-use Rattle.reachability.specs.Inner.{Counted, Tested, ReachSmall}
+use Rattle.reachability.specs.SetsInner.{Counted, Tested, ReachSmall}
 use Rattle.reachability.specs.declared.sets.Shape.{Shape}
 use Rattle.reachability.specs.declared.sets.Shape.the-variants.{Box, Zonotope, Vertices}
-use Rattle.reachability.proofs.SetLaws.{SetLaws, set-laws}
+use Rattle.reachability.proofs.sets.Laws.{SetLaws, set-laws}
 
 pub record SetFacts (n : ℕ) (shape : Shape) (count : ℕ) (xs : List ℤ) : Type 0 where
   pub counted : Counted count

@@ -1,0 +1,4 @@
+-- Laws of the three sets.
+pub mod Laws
+pub mod Bounds
+pub mod Facts

@@ -1,0 +1,2 @@
+-- Laws of the sweep.
+pub mod Answers
