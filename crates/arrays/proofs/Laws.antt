@@ -1,12 +1,12 @@
 -- What the tests over an array say of each element, also of a place past its end, where a stored vector is zero.
 -- Assumes nothing.
-use mathlib.Core.Path.{_≡_, refl, sym, ap, subst, _∙_}
+use mathlib.Core.Path.{_≡_, refl, sym, ap, ap₂, subst, _∙_}
 use mathlib.Core.Bool.{Bool, true, false, _&&_, _||_, cond}
 use mathlib.Core.List.{List}
 use Prim.Native.Nat.{ℕ, _+_, _*_, _/_, _%_, _≤_, _<_}
 use native.Mathlib.Decide.{decLt}
 use native.Mathlib.Omega.{arith}
-use borrow.Author.Tests.{le-ltb, eqb-true}
+use borrow.Author.Tests.{lt-ltb, le-ltb, ltb-true, eq-eqb, eqb-true}
 use lib.Dec.{ltb, eqb}
 use lib.ListN.{length, List·getD-eq-default}
 use lib.IntN.{ℤ, pos, negℤ, natAbs}
@@ -14,7 +14,7 @@ use lib.Signed.{leZ}
 use Rattle.integers.specs.Sums.{vector, matrix}
 use Rattle.integers.proofs.SignedParts.{v, #, neg, le?, abs! }
 use Rattle.integers.proofs.Order.{⩽-of-leZ}
-use Rattle.integers.proofs.Sums.{allBelow-at}
+use Rattle.integers.proofs.Sums.{allBelow-at, allBelow-intro}
 use Rattle.integers.proofs.Machine.{zero-of-natAbs}
 use Rattle.arrays.specs.Tests.{between, allBetween, zeroUnless, zeroOutside}
 
@@ -39,7 +39,7 @@ pub or-true : (a : Bool) → a || true ≡ true
 or-true true = refl
 or-true false = refl
 
-or-false : (a b : Bool) → a || b ≡ true → a ≡ false → b ≡ true
+pub or-false : (a b : Bool) → a || b ≡ true → a ≡ false → b ≡ true
 or-false a b t f = sym (ap (λ (x : Bool). x || b) f) ∙ t
 
 -- past the end of a list a vector is zero
@@ -62,7 +62,7 @@ allBetween-at limit xs t k =
 -- ---- zeros
 
 module _ (rows columns : ℕ) (xs : List ℤ) (t : zeroOutside rows columns xs ≡ true) where
-  zeroOutside-at : (k : ℕ) → ltb (k / 6) rows && ltb (k % 6) columns ≡ false → vector xs k ≡ pos 0
+  pub zeroOutside-at : (k : ℕ) → ltb (k / 6) rows && ltb (k % 6) columns ≡ false → vector xs k ≡ pos 0
   zeroOutside-at k f =
       elim (decLt k (length xs)) [ yes h ↦ zero-of-natAbs (vector xs k) (eqb-true _ 0 (or-false _ (eqb (natAbs (vector xs k)) 0) (allBelow-at (length xs) (λ j. zeroUnless rows columns j (vector xs j)) t k h) f)) | no g ↦ beyond-end xs k (omega (arith, g)) ]
 
@@ -77,6 +77,16 @@ module _ (rows columns : ℕ) (xs : List ℤ) (t : zeroOutside rows columns xs �
   zeroOutside-column p i hi h =
       let outside : ltb ((6 * p + i) % 6) columns ≡ false = le-ltb _ columns (omega arith) in
       zeroOutside-at (6 * p + i) (ap (λ (b : Bool). ltb ((6 * p + i) / 6) rows && b) outside ∙ and-false (ltb ((6 * p + i) / 6) rows))
+
+-- what holds of fewer rows and columns holds of more
+pub zeroOutside-wider : {n n′ : ℕ} (xs : List ℤ) → n ≤ n′ → zeroOutside n n xs ≡ true → zeroOutside n′ n′ xs ≡ true
+zeroOutside-wider {n} {n′} xs l t = allBelow-intro (length xs) (λ k. zeroUnless n′ n′ k (vector xs k)) (λ k h. cases k (ltb (k / 6) n && ltb (k % 6) n) refl)
+  where
+    cases : (k : ℕ) (b : Bool) → ltb (k / 6) n && ltb (k % 6) n ≡ b → zeroUnless n′ n′ k (vector xs k) ≡ true
+    cases k true e =
+        let both = and-true (ltb (k / 6) n) (ltb (k % 6) n) e in
+        ap (λ (b : Bool). b || eqb (natAbs (vector xs k)) 0) (ap₂ _&&_ (lt-ltb (k / 6) n′ (omega (arith, ltb-true (k / 6) n (both .0)))) (lt-ltb (k % 6) n′ (omega (arith, ltb-true (k % 6) n (both .1)))))
+    cases k false e = ap (λ (b : Bool). (ltb (k / 6) n′ && ltb (k % 6) n′) || b) (eq-eqb _ 0 (ap natAbs (zeroOutside-at n n xs t k e))) ∙ or-true (ltb (k / 6) n′ && ltb (k % 6) n′)
 
 -- ---- answers
 

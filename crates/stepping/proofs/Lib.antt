@@ -1,4 +1,6 @@
 pub mod SpareFigure
+pub mod Recurrence
+pub mod Working
 pub mod Beyond
 pub mod Stands
 pub mod Shifts

@@ -8,23 +8,23 @@ use lib.Dec.{T, ltb, eqb}
 use lib.IntN.{ℤ, pos, natAbs}
 use lib.Signed.{nonNeg}
 use Rattle.integers.specs.Sums.{vector, magnitudes, matrix, allBelow, tabulate}
-use Rattle.stepping.specs.Limits.{entryLimit, growthLimit}
+use Rattle.stepping.specs.Limits.{entryLimit, errorLimit}
 use Rattle.stepping.specs.Recurrence.{nextR, nextE}
 
--- A product of a tested entry and a tested value can be added to a sum of at most five such.
-pub record TimesAdd (sum a b : ℤ) : Type 0 where
-  pub sum-small : natAbs sum ≤ 5 * (entryLimit * growthLimit)
+-- A product of a tested entry and a value within its limit can be added to a sum of at most five such.
+pub record TimesAdd (limit : ℕ) (sum a b : ℤ) : Type 0 where
+  pub sum-small : natAbs sum ≤ 5 * (entryLimit * limit)
   pub entry-small : natAbs a ≤ entryLimit
-  pub value-small : natAbs b ≤ growthLimit
+  pub value-small : natAbs b ≤ limit
 
 -- Entries and values within their limits.
-pub record Bounded (m xs : List ℤ) : Type 0 where
-  pub entries : (k : ℕ) → k < 36 → natAbs (vector m k) ≤ entryLimit
-  pub values : (i : ℕ) → i < 6 → natAbs (vector xs i) ≤ growthLimit
+pub record Bounded (limit : ℕ) (m xs : List ℤ) : Type 0 where
+  pub entries : (k : ℕ) → natAbs (vector m k) ≤ entryLimit
+  pub values : (i : ℕ) → i < 6 → natAbs (vector xs i) ≤ limit
 
 -- The same of errors, none of which is below 0.
 pub record BoundedErrors (m e : List ℤ) : Type 0 where
-  pub bounded : Bounded m e
+  pub bounded : Bounded errorLimit m e
   pub natural : (i : ℕ) → i < 6 → T (nonNeg (vector e i))
 
 -- Where the zeros of row p of an n by n matrix begin: past its n columns, or in a row past its n rows at once.

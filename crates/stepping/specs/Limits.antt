@@ -16,3 +16,7 @@ growthLimit = 1073741824
 -- "Limits": "Matrix entries -131,072 to 131,072."
 abbrev pub entryLimit : ℕ
 entryLimit = 131072
+
+-- The most that an e can be where the growth sum is within its limit. An r is bounded by `growthLimit`, an e by this.
+abbrev pub errorLimit : ℕ
+errorLimit = growthLimit

@@ -34,9 +34,11 @@ nonNegative xs = allBelow 6 (λ i. nonNeg (vector xs i))
 abbrev pub matrixOk : ℕ → List ℤ → Bool
 matrixOk n xs = allBetween (negℤ (pos entryLimit)) (pos entryLimit) xs && zeroOutside n n xs
 
--- A working direction that a routine takes, its growth sum apart.
+-- "n .. as for the sweep; a nonzero value beyond n; e below 0; or the growth sum of r and e .. above 1,073,741,824": a working
+-- direction of which none of these holds.
 abbrev pub workingOk : ℕ → List ℤ → List ℤ → Bool
-workingOk n r e = dimensionOk n && (zeroBeyond n r && (zeroBeyond n e && nonNegative e))
+workingOk n r e =
+    dimensionOk n && (zeroBeyond n r && (zeroBeyond n e && (nonNegative e && leb (growthSum n (vector r) (magnitudes e)) growthLimit)))
 
 -- What `first` leaves: r(0) and e(0) of the direction d, six elements each.
 pub record First (d r e : List ℤ) : Type 0 where
@@ -56,7 +58,7 @@ spareNumber NoSpare = 11
 abbrev pub largestAnswer : List ℤ → List ℤ → Stepped
 largestAnswer r e = cond (nonNegative e) (Sum (growthSum 6 (vector r) (magnitudes e))) Refused
 
--- What `growth` answers: the growth sum of r and e, or number 11.
+-- What `growth` answers: the growth sum of r and e, at most 1,073,741,824, or number 11.
 abbrev pub growthAnswer : ℕ → List ℤ → List ℤ → Stepped
 growthAnswer n r e = cond (workingOk n r e) (Sum (growthSum n (vector r) (magnitudes e))) Refused
 
@@ -66,7 +68,7 @@ pub record Grows (n : ℕ) (r e : List ℤ) (a : Stepped) : Type 0 where
 
 -- No condition of number 11 holds for a step.
 abbrev pub stepOk : ℕ → List ℤ → List ℤ → List ℤ → Bool
-stepOk n m r e = workingOk n r e && (leb (growthSum n (vector r) (magnitudes e)) growthLimit && matrixOk n m)
+stepOk n m r e = workingOk n r e && matrixOk n m
 
 -- The six elements of r and e after a step.
 abbrev pub steppedR : ℕ → List ℤ → List ℤ → List ℤ
@@ -75,7 +77,8 @@ steppedR n m r = tabulate 6 (nextR n (matrix m) (vector r))
 abbrev pub steppedE : ℕ → List ℤ → List ℤ → List ℤ → List ℤ
 steppedE n m r e = tabulate 6 (λ i. pos (nextE n (matrix m) (vector r) (magnitudes e) i))
 
--- What `step` answers and leaves: r and e as lent, r′ and e′ as left. Where it refuses, r and e keep every element.
+-- What `step` answers and leaves: r and e as lent, r′ and e′ as left. The growth sum is that of r′ and e′, also where it is above
+-- 1,073,741,824. Where it refuses, r and e keep every element.
 pub record Steps (n : ℕ) (m r e : List ℤ) (a : Stepped) (r′ e′ : List ℤ) : Type 0 where
   pub answer : a ≡ cond (stepOk n m r e) (Sum (growthSum n (vector r′) (magnitudes e′))) Refused
   pub number : steppedNumber a ≡ cond (stepOk n m r e) 0 11

@@ -6,7 +6,7 @@ ghost use lib.IntN.{natAbs, pos, _+ℤ_, _*ℤ_};
 ghost use lib.Signed.{nonNeg};
 ghost use Rattle.integers.specs.Whole.{ceilDivℕ, fraction};
 ghost use Rattle.integers.specs.Sums.{vector, magnitudes, transposed, matrix as matrixOf};
-ghost use Rattle.stepping.specs.Limits.{directionUnit, matrixUnit, entryLimit, growthLimit};
+ghost use Rattle.stepping.specs.Limits.{directionUnit, matrixUnit, entryLimit, growthLimit, errorLimit};
 ghost use Rattle.stepping.specs.Recurrence.{errorSum};
 ghost use Rattle.stepping.specs.Inner.{TimesAdd, Bounded, BoundedErrors, Advanced};
 
@@ -19,7 +19,7 @@ pub(crate) fn scaled(d: i32) -> i64
 
 // sum + a × b.
 pub(crate) fn times_add(sum: i64, a: i32, b: i64) -> i64
-    requires { ⌜ TimesAdd sum a b ⌝ }
+    requires { ⌜ TimesAdd growthLimit sum a b ⌝ }
     ensures { λ s. ⌜ s ≡ sum +ℤ a *ℤ b ⌝ }
 {
     sum + (a as i64) * b
@@ -27,7 +27,7 @@ pub(crate) fn times_add(sum: i64, a: i32, b: i64) -> i64
 
 // sum + |a| × b, for b from 0 on.
 pub(crate) fn magnitude_times_add(sum: u64, a: i32, b: i64) -> u64
-    requires { ⌜ TimesAdd (pos sum) a b × T (nonNeg b) ⌝ }
+    requires { ⌜ TimesAdd errorLimit (pos sum) a b × T (nonNeg b) ⌝ }
     ensures { λ s. ⌜ s ≡ sum + natAbs a * natAbs b ⌝ }
 {
     sum + arrays::magnitude(a as i64) * (b as u64)
@@ -35,7 +35,7 @@ pub(crate) fn magnitude_times_add(sum: u64, a: i32, b: i64) -> u64
 
 // N of column i: the sum over p of M[row p, column i] × r[p].
 pub(crate) fn product_sum(matrix: &[i32; 36], r: &[i64; 6], i: usize) -> i64
-    requires { ⌜ (i < 6) × Bounded (now matrix) (now r) ⌝ }
+    requires { ⌜ (i < 6) × Bounded growthLimit (now matrix) (now r) ⌝ }
     ensures { λ s. ⌜ s ≡ transposed 6 (matrixOf (now (matrix .entry))) (vector (now (r .entry))) i ⌝ }
 {
     let mut sum: i64 = 0;
@@ -69,26 +69,19 @@ fn inexact(sum: i64) -> u64
     if sum == 65536 * floor { 0 } else { 1 }
 }
 
-// The next e of a column, from its sum of errors and its N.
-pub(crate) fn next_error(errors: u64, sum: i64) -> i64
-    requires { ⌜ errors ≤ 6 * (entryLimit * growthLimit) ⌝ }
-    ensures { λ e. ⌜ e ≡ pos (ceilDivℕ errors matrixUnit + fraction sum matrixUnit) ⌝ }
-{
-    ((errors + 65535) / 65536 + inexact(sum)) as i64
-}
-
 // The next e of column i, whose N is `sum`.
 fn column_error(matrix: &[i32; 36], e: &[i64; 6], i: usize, sum: i64) -> i64
     requires { ⌜ (i < 6) × BoundedErrors (now matrix) (now e) ⌝ }
     ensures { λ x. ⌜ x ≡ pos (ceilDivℕ (errorSum 6 (matrixOf (now (matrix .entry))) (magnitudes (now (e .entry))) i) matrixUnit + fraction sum matrixUnit) ⌝ }
 {
-    next_error(error_sum(matrix, e, i), sum)
+    let errors = error_sum(matrix, e, i);
+    ((errors + 65535) / 65536 + inexact(sum)) as i64
 }
 
 // r and e one step on, in place. The six columns stand in a straight line, so that r and e are stored once each and as a
 // whole.
 pub(crate) fn advance(matrix: &[i32; 36], r: &mut [i64; 6], e: &mut [i64; 6])
-    requires { ⌜ Bounded (now matrix) (now r) × BoundedErrors (now matrix) (now e) ⌝ }
+    requires { ⌜ Bounded growthLimit (now matrix) (now r) × BoundedErrors (now matrix) (now e) ⌝ }
     ensures { λ _. ⌜ Advanced (now (matrix .entry)) (now (r .entry)) (now (e .entry)) (now (r .exit)) (now (e .exit)) ⌝ }
 {
     let n0 = product_sum(matrix, r, 0);

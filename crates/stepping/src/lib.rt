@@ -40,8 +40,8 @@ pub fn first(direction: &[i32; 6], r: &mut [i64; 6], e: &mut [i64; 6])
     *e = [0i64; 6];
 }
 
-// The growth sum of r and e: the largest |r[i]| + e[i], exact for every value that an i64 can hold. Number 11 for n
-// outside 1 to 6, a nonzero value beyond n, or an e below 0.
+// The growth sum of r and e: the largest |r[i]| + e[i]. Number 11 for n outside 1 to 6, a nonzero value beyond n, an e below 0,
+// or a growth sum above 1,073,741,824.
 pub fn growth(n: usize, r: &[i64; 6], e: &[i64; 6]) -> Stepped
     ensures { λ a. ⌜ Grows n (now (r .entry)) (now (e .entry)) a ⌝ }
 {
@@ -57,7 +57,13 @@ pub fn growth(n: usize, r: &[i64; 6], e: &[i64; 6]) -> Stepped
     if !refusals::zero_beyond(n, e) {
         return Stepped::Refused;
     }
-    refusals::largest_sum(r, e)
+    let Stepped::Sum(sum) = refusals::largest_sum(r, e) else {
+        return Stepped::Refused;
+    };
+    if 1073741824 < sum {
+        return Stepped::Refused;
+    }
+    Stepped::Sum(sum)
 }
 
 // Each entry of the n by n matrix is within its limit, and the others are zero. At n = 6 there are no others.
@@ -73,16 +79,13 @@ pub fn matrix_ok(n: usize, matrix: &[i32; 36]) -> bool
     refusals::zero_around(n, matrix)
 }
 
-// One step: r and e of the next step by the transpose of the matrix, and the growth sum of what it left. Number 11, with r
-// and e as they were, for n outside 1 to 6, a matrix entry beyond its limit, a nonzero matrix, r or e value beyond n, an e
-// below 0, or a growth sum of r and e above 1,073,741,824.
+// One step: r and e of the next step by the transpose of the matrix, and the growth sum of what it left, whatever it is.
+// Number 11, with r and e as they were, where `growth` refuses r and e, or for a matrix entry beyond its limit or a nonzero one
+// beyond n.
 pub fn step(n: usize, matrix: &[i32; 36], r: &mut [i64; 6], e: &mut [i64; 6]) -> Stepped
     ensures { λ a. ⌜ Steps n (now (matrix .entry)) (now (r .entry)) (now (e .entry)) a (now (r .exit)) (now (e .exit)) ⌝ }
 {
-    let Stepped::Sum(sum) = growth(n, r, e) else {
-        return Stepped::Refused;
-    };
-    if 1073741824 < sum {
+    if let Stepped::Refused = growth(n, r, e) {
         return Stepped::Refused;
     }
     if !matrix_ok(n, matrix) {

@@ -1,13 +1,16 @@
 -- `stepping::growth` meets its contract, test by test; the largest sum of six is that of n. Assumes nothing.
-use Rattle.integers.proofs.Basics.{_≡_, sym, ap, _∙_, true, ℕ, needs}
-use mathlib.Core.Bool.{cond}
+use Rattle.integers.proofs.Basics.{_≡_, sym, ap, subst, _∙_, true, ℕ, _≤_, _<_, needs, ℤ}
+use mathlib.Core.List.{List}
 use borrow.Author.Tests.{le-leb, lt-leb, not-true, not-false}
 use lib.Dec.{leb}
+use Rattle.integers.specs.Sums.{vector, magnitudes}
+use Rattle.stepping.specs.Limits.{growthLimit}
+use Rattle.stepping.specs.Recurrence.{growthSum}
 use Rattle.stepping.specs.Refusals.{zeroBeyond, nonNegative}
 use Rattle.stepping.specs.declared.Stepped.the-variants.{Sum, Refused}
-use Rattle.integers.specs.Sums.{vector, magnitudes}
-use Rattle.stepping.proofs.Numbers.{grows}
-use Rattle.stepping.proofs.Beyond.{zeroBeyond-at, growthSum-six}
+use Rattle.stepping.proofs.Numbers.{grows, refused-only, sum-only}
+use Rattle.stepping.proofs.Working.{zeroBeyond-at}
+use Rattle.stepping.proofs.Beyond.{growthSum-six}
 use Rattle.stepping.proofs.growth.Statement.{statement}
 use Rattle.stepping.proofs.growth.Tie as tie
 
@@ -45,18 +48,62 @@ returns-4 c =
     let at-n = at-r .before .before in
     grows _ _ _ Refused (simp (least at-n, most at-n, zero-r at-r, sym (c .before .zero-beyond2 .ensures) ∙ not-true _ (c .if4 .taken)))
 
+-- n from 1 to 6, and zeros beyond it
+module _ (c : tie.Else4) where
+  abbrev at-r : tie.Else3
+  at-r = c .before .before
+
+  abbrev at-n : tie.Else2
+  at-n = at-r .before .before
+
+  abbrev n : ℕ
+  n = at-n .before .before .args .n
+
+  abbrev r : List ℤ
+  r = at-n .before .before .args .r .now
+
+  abbrev e : List ℤ
+  e = at-n .before .before .args .e .now
+
+  zero-e : zeroBeyond n e ≡ true
+  zero-e = sym (c .before .zero-beyond2 .ensures) ∙ not-false _ (c .if4 .left)
+
+  six : growthSum 6 (vector r) (magnitudes e) ≡ growthSum n (vector r) (magnitudes e)
+  six = growthSum-six n (at-n .if2 .left) (vector r) (magnitudes e) (zeroBeyond-at n r (zero-r at-r)) (zeroBeyond-at n e zero-e)
+
 largest-sum-requires : tie.Need-largest-sum-requires
 largest-sum-requires c κs = search needs
 
+enum-known-sum : tie.Need-enum-known-sum
+enum-known-sum c = search needs
+
+enum-told : tie.Need-enum-told
+enum-told c = search needs
+
 returns-5 : tie.Need-returns-5
 returns-5 c =
-    let at-r = c .before .before .before in
-    let at-n = at-r .before .before in
-    let a = at-n .before .before .args in
-    let zero-e = sym (c .before .before .zero-beyond2 .ensures) ∙ not-false _ (c .before .if4 .left) in
-    let same = growthSum-six (a .n) (at-n .if2 .left) (vector (a .r .now)) (magnitudes (a .e .now)) (zeroBeyond-at (a .n) (a .r .now) (zero-r at-r)) (zeroBeyond-at (a .n) (a .e .now) zero-e) in
-    grows (a .n) (a .r .now) (a .e .now) (c .largest-sum .result)
-    (c .largest-sum .ensures ∙ ap (λ (s : ℕ). cond (nonNegative (a .e .now)) (Sum s) Refused) same ∙ sym (simp (least at-n, most at-n, zero-r at-r, zero-e)))
+    let b = c .before .before .before in
+    let negative = refused-only (nonNegative (e b)) _ (sym (c .enum-told .given .1) ∙ c .before .before .largest-sum .ensures) in
+    grows _ _ _ Refused (simp (least (at-n b), most (at-n b), zero-r (at-r b), zero-e b, negative))
+
+-- no e below 0, and the sum is the growth sum
+passed : (c : tie.After-known-told) → let b : tie.Else4 = c .before .before .before .before in (nonNegative (e b) ≡ true) × (c .before .sum .given .0 .0 ≡ growthSum (n b) (vector (r b)) (magnitudes (e b)))
+passed c =
+    let b = c .before .before .before .before in
+    let both = sum-only (nonNegative (e b)) _ _ (sym (c .before .sum .given .1) ∙ c .before .before .before .largest-sum .ensures) in
+    (both .0, both .1 ∙ six b)
+
+returns-6 : tie.Need-returns-6
+returns-6 c =
+    let b = c .before .before .before .before .before in
+    let above = lt-leb _ growthLimit (subst (λ (s : ℕ). growthLimit < s) (passed (c .before) .1) (c .if5 .taken)) in
+    grows _ _ _ Refused (simp (least (at-n b), most (at-n b), zero-r (at-r b), zero-e b, passed (c .before) .0, above))
+
+returns-7 : tie.Need-returns-7
+returns-7 c =
+    let b = c .before .before .before .before .before in
+    let within = le-leb _ growthLimit (subst (λ (s : ℕ). s ≤ growthLimit) (passed (c .before) .1) (c .if5 .left)) in
+    grows (n b) (r b) (e b) _ (simp (least (at-n b), most (at-n b), zero-r (at-r b), zero-e b, passed (c .before) .0, within) (ap Sum (passed (c .before) .1)))
 
 pub growth-spec : {M : Type 1} → statement M
 growth-spec =
@@ -69,4 +116,8 @@ growth-spec =
     zero-beyond-requires-2
     returns-4
     largest-sum-requires
-    returns-5)
+    enum-known-sum
+    enum-told
+    returns-5
+    returns-6
+    returns-7)

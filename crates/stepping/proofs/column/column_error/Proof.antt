@@ -1,33 +1,45 @@
--- `stepping::column::column_error` meets its contract: six products of a tested entry and a tested error are at most what
--- `next_error` takes. Assumes nothing.
-use Rattle.integers.proofs.Basics.{sym, ap₂, subst, _∙_, ℕ, _+_, _*_, _≤_, _<_, arith, needs, ℤ, pos, w64, toZ-ofZ}
-use mathlib.Core.List.{List}
+-- `stepping::column::column_error` meets its contract: six products of a tested entry and a tested error, divided, are far inside an
+-- i64, and `ceilDivℕ` by 65,536 adds 65,535 first. Assumes nothing.
+use Rattle.integers.proofs.Basics.{sym, ap, ap₂, subst, _∙_, ℕ, _+_, _*_, _≤_, arith, needs, ℤ, pos, w64, toZ, ofZ, toZ-ofZ}
+use mir.Facts.{toZ-pos}
 use native.Mathlib.Nat.{mul-le-mul}
 use Rattle.integers.specs.Whole.{ceilDivℕ, fraction}
-use Rattle.integers.specs.Sums.{magnitudes, matrix as matrixOf}
+use Rattle.integers.proofs.Rounding.{fraction-le-one}
 use Rattle.integers.proofs.Sums.{sumℕ-bound}
-use Rattle.integers.proofs.Machine.{read-given}
-use Rattle.stepping.specs.Recurrence.{errorSum}
-use Rattle.stepping.specs.Inner.{Bounded}
+use Rattle.stepping.specs.Limits.{matrixUnit, entryLimit, errorLimit}
 use Rattle.stepping.proofs.column.column_error.Statement.{statement}
 use Rattle.stepping.proofs.column.column_error.Tie as tie
 
 error-sum-requires : tie.Need-error-sum-requires
 error-sum-requires c κs = search needs
 
-errorSum-small : (m e : List ℤ) (i : ℕ) → i < 6 → Bounded m e → errorSum 6 (matrixOf m) (magnitudes e) i ≤ 6 * (131072 * 1073741824)
-errorSum-small m e i h b = sumℕ-bound 6 (131072 * 1073741824) (λ p l. mul-le-mul (b .entries (6 * p + i) (omega arith)) (b .values p l))
+few : (c : tie.After-error-sum) → c .error-sum .result ≤ 6 * (entryLimit * errorLimit)
+few c =
+    let b = c .before .pre .1 .bounded in
+    subst (λ (k : ℕ). k ≤ 6 * (entryLimit * errorLimit)) (sym (c .error-sum .ensures)) (sumℕ-bound 6 (entryLimit * errorLimit) (λ p h. mul-le-mul (b .entries (6 * p + c .before .args .i)) (b .values p h)))
 
-next-error-requires : tie.Need-next-error-requires
-next-error-requires c κs =
-    let a = c .before .args in
-    subst (λ (k : ℕ). k ≤ 6 * (131072 * 1073741824)) (sym (c .error-sum .ensures)) (errorSum-small (a .matrix .now) (a .e .now) (a .i) (c .before .pre .0) (c .before .pre .1 .bounded))
+add-result : tie.Need-add-result
+add-result c = omega (arith, few c)
+
+inexact-requires : tie.Need-inexact-requires
+inexact-requires c κs = search needs
+
+at-most-one : (c : tie.After-inexact) → c .inexact .result ≤ 1
+at-most-one c =
+    subst (λ (k : ℕ). k ≤ 1) (sym (c .inexact .ensures)) (fraction-le-one (toZ w64 (ofZ w64 (c .before .before .args .sum))) matrixUnit)
+
+add-result-2 : tie.Need-add-result-2
+add-result-2 c = omega (arith, at-most-one c, few (c .before))
+
+cast-result : tie.Need-cast-result
+cast-result c = record { sfits = omega (arith, at-most-one c, few (c .before)) }
 
 returns : tie.Need-returns
 returns c =
-    read-given w64 (c .next-error .result) (c .next-error .ok)
-    ∙ c .next-error .ensures
-    ∙ ap₂ (λ (s : ℕ) (z : ℤ). pos (ceilDivℕ s 65536 + fraction z 65536)) (c .before .error-sum .ensures) (toZ-ofZ (c .before .before .fits .sum))
+    toZ-pos w64 (omega (arith, at-most-one c, few (c .before)))
+    ∙ ap₂ (λ (s k : ℕ). pos (ceilDivℕ s matrixUnit + k)) (c .before .error-sum .ensures) (c .inexact .ensures ∙ ap (λ (z : ℤ). fraction z matrixUnit) (toZ-ofZ (c .before .before .fits .sum)))
 
 pub column-error-spec : {M : Type 1} → statement M
-column-error-spec = tie.close (tie.spec error-sum-requires next-error-requires returns)
+column-error-spec =
+    tie.close
+    (tie.spec error-sum-requires add-result inexact-requires add-result-2 cast-result returns)

@@ -1,32 +1,28 @@
--- `stepping::column::error_sum` meets its contract: after p turns `sum` is the sum of the first p products. The measure is what is left of six.
+-- `stepping::column::error_sum` meets its contract: `sum` is the running sum of the products. The measure is what is left of six.
 -- Assumes nothing.
-use Rattle.integers.proofs.Basics.{_≡_, sym, ap, ap₂, subst, _∙_, ℕ, _+_, _*_, _-_, _≤_, arith, add-one, ℤ, natAbs, w32, w64, toZ, ofZ}
+use Rattle.integers.proofs.Basics.{_≡_, sym, ap, ap₂, subst, _∙_, ℕ, _+_, _*_, _-_, _≤_, arith, ℤ, pos, natAbs, w32, w64, toZ, ofZ}
 use mathlib.Core.List.{List}
-use Rattle.integers.specs.Sums.{vector, magnitudes, matrix as matrixOf, sum as sumOf, sumℕ}
-use Rattle.integers.proofs.Machine.{read-given}
 use native.Mathlib.Nat.{mul-le-mul}
 use lib.Dec.{T}
 use lib.Signed.{nonNeg}
-use Rattle.integers.proofs.Sums.{sumℕ-zero, sumℕ-suc}
+use Rattle.integers.specs.Sums.{vector, magnitudes, matrix as matrixOf}
+use Rattle.integers.proofs.Machine.{read-given}
+use Rattle.integers.proofs.RunningSum.{RunningSum, running-start, running-more, running-doneℕ}
+use Rattle.stepping.specs.Limits.{entryLimit, errorLimit}
 use Rattle.stepping.proofs.column.error_sum.Statement.{statement}
 use Rattle.stepping.proofs.column.error_sum.Tie as tie
 
 abbrev product : List ℤ → List ℤ → ℕ → ℕ → ℕ
 product m e i p = natAbs (matrixOf m p i) * magnitudes e p
 
-record So (m e : List ℤ) (i sum p : ℕ) : Type 0 where
-  inside : p ≤ 6
-  is : sum ≡ sumℕ p (product m e i)
-  small : sum ≤ p * (131072 * 1073741824)
-
 abbrev Inv-loop : tie.InvT-loop
-Inv-loop matrix e i sum₀ p₀ sum p = So matrix e i sum p
+Inv-loop matrix e i sum₀ p₀ sum p = RunningSum 6 (λ q. pos (product matrix e i q)) (entryLimit * errorLimit) p (pos sum)
 
 abbrev μ-loop : tie.MeasureT-loop
-μ-loop matrix r i sum₀ p₀ sum p = 6 - p
+μ-loop matrix e i sum₀ p₀ sum p = 6 - p
 
 loop-holds : tie.Need-loop-holds Inv-loop μ-loop
-loop-holds c = record { inside = omega arith; is = sym (sumℕ-zero (product (c .args .matrix .now) (c .args .e .now) (c .args .i))); small = omega arith }
+loop-holds c = running-start 6 (λ q. pos (product (c .args .matrix .now) (c .args .e .now) (c .args .i) q)) (entryLimit * errorLimit)
 
 mul-magnitude-times-add : tie.Need-mul-magnitude-times-add Inv-loop μ-loop
 mul-magnitude-times-add c = omega arith
@@ -48,40 +44,39 @@ element-copy-out-magnitude-times-add-2 c = omega arith
 
 -- the entry and the value of a turn, read
 module _ (c : tie.After-magnitude-times-add-arg2 Inv-loop μ-loop) where
-  abbrev m : List ℤ
-  m = c .before .before .before .before .args .matrix .now
-
-  abbrev xs : List ℤ
-  xs = c .before .before .before .before .args .e .now
+  abbrev start : tie.Start Inv-loop μ-loop
+  start = c .before .before .before .before
 
   abbrev p : ℕ
   p = c .before .before .before .loop .p
 
-  abbrev i : ℕ
-  i = c .before .before .before .before .args .i
+  abbrev entry : ℤ
+  entry = matrixOf (start .args .matrix .now) p (start .args .i)
 
-  entry : toZ w32 (ofZ w32 (matrixOf m p i)) ≡ matrixOf m p i
-  entry = read-given w32 (matrixOf m p i) (c .before .magnitude-times-add-arg .given)
+  abbrev value : ℤ
+  value = vector (start .args .e .now) p
 
-  value : toZ w64 (ofZ w64 (vector xs p)) ≡ vector xs p
-  value = read-given w64 (vector xs p) (c .magnitude-times-add-arg2 .given)
+  read-entry : toZ w32 (ofZ w32 entry) ≡ entry
+  read-entry = read-given w32 entry (c .before .magnitude-times-add-arg .given)
 
-  entry-small : natAbs (matrixOf m p i) ≤ 131072
-  entry-small = c .before .before .before .before .pre .1 .bounded .entries (6 * p + i) (omega (arith, c .before .before .before .before .pre .0))
+  read-value : toZ w64 (ofZ w64 value) ≡ value
+  read-value = read-given w64 value (c .magnitude-times-add-arg2 .given)
 
-  value-small : natAbs (vector xs p) ≤ 1073741824
-  value-small = c .before .before .before .before .pre .1 .bounded .values p (omega arith)
+  entry-small : natAbs entry ≤ entryLimit
+  entry-small = start .pre .1 .bounded .entries (6 * p + start .args .i)
+
+  value-small : natAbs value ≤ errorLimit
+  value-small = start .pre .1 .bounded .values p (omega arith)
 
 magnitude-times-add-requires : tie.Need-magnitude-times-add-requires Inv-loop μ-loop
-magnitude-times-add-requires c κs =
-    let inv = c .before .before .before .loop .inv in (
-      record {
-        sum-small = omega (arith, inv .small, c .before .before .loop-test .taken);
-        entry-small = subst (λ (z : ℤ). natAbs z ≤ 131072) (sym (entry c)) (entry-small c);
-        value-small = subst (λ (z : ℤ). natAbs z ≤ 1073741824) (sym (value c)) (value-small c);
-      },
-      subst (λ (z : ℤ). T (nonNeg z)) (sym (value c)) (c .before .before .before .before .pre .1 .natural (p c) (omega arith)),
-    )
+magnitude-times-add-requires c κs = (
+  record {
+    sum-small = omega (arith, c .before .before .before .loop .inv .small, c .before .before .loop-test .taken);
+    entry-small = subst (λ (z : ℤ). natAbs z ≤ entryLimit) (sym (read-entry c)) (entry-small c);
+    value-small = subst (λ (z : ℤ). natAbs z ≤ errorLimit) (sym (read-value c)) (value-small c);
+  },
+  subst (λ (z : ℤ). T (nonNeg z)) (sym (read-value c)) (start c .pre .1 .natural (p c) (omega arith)),
+)
 
 add-p : tie.Need-add-p Inv-loop μ-loop
 add-p c = omega arith
@@ -92,21 +87,12 @@ loop-less c = omega arith
 loop-again : tie.Need-loop-again Inv-loop μ-loop
 loop-again c =
     let b = c .before in
-    let inv = b .before .before .before .loop .inv in
-    let f = product (m b) (xs b) (i b) in
-    let added = c .magnitude-times-add .ensures ∙ ap₂ (λ (x y : ℤ). b .before .before .before .loop .sum + natAbs x * natAbs y) (entry b) (value b) in
-    record {
-      inside = omega arith;
-      is = added ∙ ap (λ (k : ℕ). k + f (p b)) (inv .is) ∙ sym (ap (λ (k : ℕ). sumℕ k f) (add-one (p b)) ∙ sumℕ-suc (p b) f);
-      small = omega (arith, added, mul-le-mul (entry-small b) (value-small b), inv .small);
-    }
+    let at-loop = b .before .before .before in
+    running-more (at-loop .loop .inv) (b .before .before .loop-test .taken) (mul-le-mul (entry-small b) (value-small b))
+    (ap pos (c .magnitude-times-add .ensures ∙ ap₂ (λ (x y : ℤ). at-loop .loop .sum + natAbs x * natAbs y) (read-entry b) (read-value b)))
 
 returns : tie.Need-returns Inv-loop μ-loop
-returns c =
-    let inv = c .before .loop .inv in
-    let a = c .before .before .args in
-    let done : c .before .loop .p ≡ 6 = omega (arith, inv .inside, c .loop-test .left) in
-    inv .is ∙ ap (λ (k : ℕ). sumℕ k (product (a .matrix .now) (a .e .now) (a .i))) done
+returns c = running-doneℕ (c .before .loop .inv) (omega arith)
 
 pub error-sum-spec : {M : Type 1} → statement M
 error-sum-spec =

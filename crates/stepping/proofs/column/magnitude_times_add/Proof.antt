@@ -5,6 +5,7 @@ use native.Mathlib.Nat.{mul-le-mul}
 use lib.Dec.{T}
 use lib.Signed.{nonNeg}
 use Rattle.integers.proofs.Machine.{read-wide}
+use Rattle.stepping.specs.Limits.{entryLimit, errorLimit}
 use Rattle.stepping.proofs.column.magnitude_times_add.Statement.{statement}
 use Rattle.stepping.proofs.column.magnitude_times_add.Tie as tie
 
@@ -28,8 +29,8 @@ module _ (c : tie.After-magnitude) where
   product-is : c .magnitude .result * natAbs (toZ w64 (ofZ w64 b)) ≡ natAbs (c .before .args .a) * natAbs b
   product-is = ap₂ _*_ of-a (ap natAbs read-b)
 
-  product-small : c .magnitude .result * natAbs (toZ w64 (ofZ w64 b)) ≤ 131072 * 1073741824
-  product-small = subst (λ (k : ℕ). k ≤ 131072 * 1073741824) (sym product-is) (mul-le-mul (c .before .pre .0 .entry-small) (c .before .pre .0 .value-small))
+  product-small : c .magnitude .result * natAbs (toZ w64 (ofZ w64 b)) ≤ entryLimit * errorLimit
+  product-small = subst (λ (k : ℕ). k ≤ entryLimit * errorLimit) (sym product-is) (mul-le-mul (c .before .pre .0 .entry-small) (c .before .pre .0 .value-small))
 
 cast-result : tie.Need-cast-result
 cast-result c = subst (λ (z : ℤ). T (nonNeg z) × Fits w64 (natAbs z)) (sym (read-b c)) (c .before .pre .1, record { fits = omega (arith, c .before .pre .0 .value-small) })

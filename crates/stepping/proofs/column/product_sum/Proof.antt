@@ -1,31 +1,26 @@
--- `stepping::column::product_sum` meets its contract: after p turns `sum` is the sum of the first p products. The measure is what is left of six.
+-- `stepping::column::product_sum` meets its contract: `sum` is the running sum of the products. The measure is what is left of six.
 -- Assumes nothing.
-use Rattle.integers.proofs.Basics.{_≡_, sym, ap, ap₂, subst, _∙_, ℕ, _+_, _*_, _-_, _≤_, arith, add-one, ℤ, natAbs, _+ℤ_, _*ℤ_, w32, w64, toZ, ofZ}
+use Rattle.integers.proofs.Basics.{_≡_, sym, ap₂, subst, _∙_, ℕ, _+_, _*_, _-_, _≤_, arith, ℤ, natAbs, _+ℤ_, _*ℤ_, w32, w64, toZ, ofZ}
 use mathlib.Core.List.{List}
-use Rattle.integers.specs.Sums.{vector, magnitudes, matrix as matrixOf, sum as sumOf, sumℕ}
+use Rattle.integers.specs.Sums.{vector, matrix as matrixOf}
 use Rattle.integers.proofs.Machine.{read-given}
-use native.Mathlib.Nat.{mul-le-mul}
-use Rattle.integers.proofs.Order.{natAbs-add, natAbs-mul}
-use Rattle.integers.proofs.Sums.{sum-zero, sum-suc}
+use Rattle.integers.proofs.Order.{natAbs-mul-le}
+use Rattle.integers.proofs.RunningSum.{RunningSum, running-start, running-more, running-done}
+use Rattle.stepping.specs.Limits.{entryLimit, growthLimit}
 use Rattle.stepping.proofs.column.product_sum.Statement.{statement}
 use Rattle.stepping.proofs.column.product_sum.Tie as tie
 
 abbrev product : List ℤ → List ℤ → ℕ → ℕ → ℤ
 product m r i p = matrixOf m p i *ℤ vector r p
 
-record So (m r : List ℤ) (i sum p : ℕ) : Type 0 where
-  inside : p ≤ 6
-  is : toZ w64 sum ≡ sumOf p (product m r i)
-  small : natAbs (toZ w64 sum) ≤ p * (131072 * 1073741824)
-
 abbrev Inv-loop : tie.InvT-loop
-Inv-loop matrix r i sum₀ p₀ sum p = So matrix r i sum p
+Inv-loop matrix r i sum₀ p₀ sum p = RunningSum 6 (product matrix r i) (entryLimit * growthLimit) p (toZ w64 sum)
 
 abbrev μ-loop : tie.MeasureT-loop
 μ-loop matrix r i sum₀ p₀ sum p = 6 - p
 
 loop-holds : tie.Need-loop-holds Inv-loop μ-loop
-loop-holds c = record { inside = omega arith; is = sym (sum-zero (product (c .args .matrix .now) (c .args .r .now) (c .args .i))); small = omega arith }
+loop-holds c = running-start 6 (product (c .args .matrix .now) (c .args .r .now) (c .args .i)) (entryLimit * growthLimit)
 
 mul-times-add : tie.Need-mul-times-add Inv-loop μ-loop
 mul-times-add c = omega arith
@@ -47,37 +42,36 @@ element-copy-out-times-add-2 c = omega arith
 
 -- the entry and the value of a turn, read
 module _ (c : tie.After-times-add-arg2 Inv-loop μ-loop) where
-  abbrev m : List ℤ
-  m = c .before .before .before .before .args .matrix .now
-
-  abbrev xs : List ℤ
-  xs = c .before .before .before .before .args .r .now
+  abbrev start : tie.Start Inv-loop μ-loop
+  start = c .before .before .before .before
 
   abbrev p : ℕ
   p = c .before .before .before .loop .p
 
-  abbrev i : ℕ
-  i = c .before .before .before .before .args .i
+  abbrev entry : ℤ
+  entry = matrixOf (start .args .matrix .now) p (start .args .i)
 
-  entry : toZ w32 (ofZ w32 (matrixOf m p i)) ≡ matrixOf m p i
-  entry = read-given w32 (matrixOf m p i) (c .before .times-add-arg .given)
+  abbrev value : ℤ
+  value = vector (start .args .r .now) p
 
-  value : toZ w64 (ofZ w64 (vector xs p)) ≡ vector xs p
-  value = read-given w64 (vector xs p) (c .times-add-arg2 .given)
+  read-entry : toZ w32 (ofZ w32 entry) ≡ entry
+  read-entry = read-given w32 entry (c .before .times-add-arg .given)
 
-  entry-small : natAbs (matrixOf m p i) ≤ 131072
-  entry-small = c .before .before .before .before .pre .1 .entries (6 * p + i) (omega (arith, c .before .before .before .before .pre .0))
+  read-value : toZ w64 (ofZ w64 value) ≡ value
+  read-value = read-given w64 value (c .times-add-arg2 .given)
 
-  value-small : natAbs (vector xs p) ≤ 1073741824
-  value-small = c .before .before .before .before .pre .1 .values p (omega arith)
+  entry-small : natAbs entry ≤ entryLimit
+  entry-small = start .pre .1 .entries (6 * p + start .args .i)
+
+  value-small : natAbs value ≤ growthLimit
+  value-small = start .pre .1 .values p (omega arith)
 
 times-add-requires : tie.Need-times-add-requires Inv-loop μ-loop
 times-add-requires c κs =
-    let inv = c .before .before .before .loop .inv in
     record {
-      sum-small = omega (arith, inv .small, c .before .before .loop-test .taken);
-      entry-small = subst (λ (z : ℤ). natAbs z ≤ 131072) (sym (entry c)) (entry-small c);
-      value-small = subst (λ (z : ℤ). natAbs z ≤ 1073741824) (sym (value c)) (value-small c);
+      sum-small = omega (arith, c .before .before .before .loop .inv .small, c .before .before .loop-test .taken);
+      entry-small = subst (λ (z : ℤ). natAbs z ≤ entryLimit) (sym (read-entry c)) (entry-small c);
+      value-small = subst (λ (z : ℤ). natAbs z ≤ growthLimit) (sym (read-value c)) (value-small c);
     }
 
 add-p : tie.Need-add-p Inv-loop μ-loop
@@ -89,26 +83,12 @@ loop-less c = omega arith
 loop-again : tie.Need-loop-again Inv-loop μ-loop
 loop-again c =
     let b = c .before in
-    let inv = b .before .before .before .loop .inv in
-    let f = product (m b) (xs b) (i b) in
-    let read = read-given w64 (c .times-add .result) (c .times-add .ok) in
-    let added = read ∙ c .times-add .ensures ∙ ap₂ (λ (x y : ℤ). toZ w64 (b .before .before .before .loop .sum) +ℤ x *ℤ y) (entry b) (value b) in
-    record {
-      inside = omega arith;
-      is = added ∙ ap (λ (z : ℤ). z +ℤ f (p b)) (inv .is) ∙ sym (ap (λ (k : ℕ). sumOf k f) (add-one (p b)) ∙ sum-suc (p b) f);
-      small = subst (λ (z : ℤ). natAbs z ≤ (p b + 1) * (131072 * 1073741824)) (sym added) (grown b);
-    }
-  where
-    grown : (b : tie.After-times-add-arg2 Inv-loop μ-loop) → natAbs (toZ w64 (b .before .before .before .loop .sum) +ℤ product (m b) (xs b) (i b) (p b)) ≤ (p b + 1) * (131072 * 1073741824)
-    grown b =
-        omega (arith, natAbs-add (toZ w64 (b .before .before .before .loop .sum)) (product (m b) (xs b) (i b) (p b)), natAbs-mul (matrixOf (m b) (p b) (i b)) (vector (xs b) (p b)), mul-le-mul (entry-small b) (value-small b), b .before .before .before .loop .inv .small)
+    let at-loop = b .before .before .before in
+    running-more (at-loop .loop .inv) (b .before .before .loop-test .taken) (natAbs-mul-le (entry b) (value b) (entry-small b) (value-small b))
+    (read-given w64 (c .times-add .result) (c .times-add .ok) ∙ c .times-add .ensures ∙ ap₂ (λ (x y : ℤ). toZ w64 (at-loop .loop .sum) +ℤ x *ℤ y) (read-entry b) (read-value b))
 
 returns : tie.Need-returns Inv-loop μ-loop
-returns c =
-    let inv = c .before .loop .inv in
-    let a = c .before .before .args in
-    let done : c .before .loop .p ≡ 6 = omega (arith, inv .inside, c .loop-test .left) in
-    inv .is ∙ ap (λ (k : ℕ). sumOf k (product (a .matrix .now) (a .r .now) (a .i))) done
+returns c = running-done (c .before .loop .inv) (omega arith)
 
 pub product-sum-spec : {M : Type 1} → statement M
 product-sum-spec =

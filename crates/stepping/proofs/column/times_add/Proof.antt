@@ -1,10 +1,10 @@
 -- `stepping::column::times_add` meets its contract: the product and the sum are far inside an i64. Assumes nothing.
-use Rattle.integers.proofs.Basics.{_≡_, refl, sym, ap, ap₂, subst, _∙_, Bool, true, false, ℕ, suc, _+_, _*_, _-_, _≤_, _<_, arith, add-one, needs, length, getD, set, ℤ, pos, negsuc, natAbs, _+ℤ_, _-ℤ_, _*ℤ_, w32, w64, Fits, SFits, toZ, ofZ, toZ-ofZ}
+use Rattle.integers.proofs.Basics.{_≡_, sym, ap, ap₂, subst, _∙_, _*_, _≤_, arith, ℤ, natAbs, _+ℤ_, _*ℤ_, w32, w64, SFits, toZ, ofZ, toZ-ofZ}
 use mir.Facts.{sfits-widen}
-use native.Mathlib.Nat.{mul-le-mul}
 use lib.Dec.{lit<}
-use Rattle.integers.proofs.Order.{natAbs-mul, natAbs-add}
+use Rattle.integers.proofs.Order.{natAbs-mul-le, natAbs-add}
 use Rattle.integers.proofs.Machine.{sfits-of-natAbs, read-wide}
+use Rattle.stepping.specs.Limits.{entryLimit, growthLimit}
 use Rattle.stepping.proofs.column.times_add.Statement.{statement}
 use Rattle.stepping.proofs.column.times_add.Tie as tie
 
@@ -15,8 +15,8 @@ module _ (c : tie.Start) where
   read-a : toZ w64 (ofZ w64 (toZ w32 (ofZ w32 (c .args .a)))) ≡ c .args .a
   read-a = read-wide w32 w64 tt (c .fits .a)
 
-  product-small : natAbs (c .args .a *ℤ c .args .b) ≤ 131072 * 1073741824
-  product-small = subst (λ (k : ℕ). k ≤ 131072 * 1073741824) (sym (natAbs-mul (c .args .a) (c .args .b))) (mul-le-mul (c .pre .entry-small) (c .pre .value-small))
+  product-small : natAbs (c .args .a *ℤ c .args .b) ≤ entryLimit * growthLimit
+  product-small = natAbs-mul-le (c .args .a) (c .args .b) (c .pre .entry-small) (c .pre .value-small)
 
   product : SFits w64 (c .args .a *ℤ c .args .b)
   product = sfits-of-natAbs w64 product-small (lit< tt)
@@ -25,7 +25,7 @@ module _ (c : tie.Start) where
   product-is = ap₂ _*ℤ_ read-a (toZ-ofZ (c .fits .b))
 
   total : SFits w64 (c .args .sum +ℤ c .args .a *ℤ c .args .b)
-  total = sfits-of-natAbs w64 {b = 6 * (131072 * 1073741824)} (omega (arith, natAbs-add (c .args .sum) (c .args .a *ℤ c .args .b), product-small, c .pre .sum-small)) (lit< tt)
+  total = sfits-of-natAbs w64 {b = 6 * (entryLimit * growthLimit)} (omega (arith, natAbs-add (c .args .sum) (c .args .a *ℤ c .args .b), product-small, c .pre .sum-small)) (lit< tt)
 
   total-is : toZ w64 (ofZ w64 (c .args .sum)) +ℤ toZ w64 (ofZ w64 (toZ w64 (ofZ w64 (toZ w32 (ofZ w32 (c .args .a)))) *ℤ toZ w64 (ofZ w64 (c .args .b)))) ≡ c .args .sum +ℤ c .args .a *ℤ c .args .b
   total-is = ap₂ _+ℤ_ (toZ-ofZ (c .fits .sum)) (ap (λ (z : ℤ). toZ w64 (ofZ w64 z)) product-is ∙ toZ-ofZ product)
