@@ -1,7 +1,6 @@
 pub mod FirstPlace
 pub mod Walks
 pub mod AccuracyRule
-pub mod Turns
 pub mod JudgeLaws
 pub mod JudgeAnswers
 pub mod MarkedCases

@@ -2,7 +2,7 @@
 mod checks;
 
 use crate::sets::Set;
-pub(crate) use checks::accepts;
+pub use checks::accepts;
 
 // A model: n coordinates, `steps` steps, the matrix in six rows of six, the initial set and the input set, the directions in
 // sixteen rows of six, and the guards, each the number of the direction that it watches and a level. What lies beyond n and

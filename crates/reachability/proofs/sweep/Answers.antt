@@ -33,6 +33,7 @@ use Rattle.reachability.specs.declared.sweep.Filled.{Filled}
 use Rattle.reachability.specs.declared.sweep.Filled.the-variants.{Largest, Grown}
 use Rattle.reachability.proofs.FirstPlace.{firstPlace-before}
 use Rattle.reachability.proofs.model.Facts.{ModelFacts}
+use Rattle.reachability.proofs.sweep.SweepStep.{first-working}
 use Rattle.reachability.proofs.AccuracyRule.{accurate}
 
 module _ (m : Model) (d lb ls : ℕ) where
@@ -126,15 +127,9 @@ module _ (m : Model) (facts : ModelFacts m) (d : ℕ) (inside : d < m .direction
           vanish : m .n ≤ i → ⊥
           vanish l = omega (arith, positive, ap natAbs (facts .direction-beyond d i l (some-entry .1)))
 
-      walk-start : walk (m .n) (moves m) 0 (first (direction m d)) 0 ≡ first (direction m d)
-      walk-start = start
-        where
-          start : walk (m .n) (moves m) 0 (first (direction m d)) 0 ≡ first (direction m d)
-          start = Rattle.reachability.proofs.Turns.walk-start (m .n) (moves m) (first (direction m d))
-
       first-sum : directionUnit ≤ sumAt m d 0
       first-sum =
-          subst (λ (w : Working). directionUnit ≤ growthSum (m .n) (w .r) (w .e)) (sym walk-start)
+          subst (λ (w : Working). directionUnit ≤ growthSum (m .n) (w .r) (w .e)) (sym (first-working m d))
           (le-trans (omega (arith, natAbs-mul (pos directionUnit) (direction m d i), positive)) (le-maxℕ (m .n) (λ j. natAbs (firstR (direction m d) j) + firstE j) i below-n))
 
   pub largest-least : 1 ≤ maxℕ (suc (m .steps)) (sumAt m d)
