@@ -12,7 +12,7 @@ use lib.ListN.{length, getD}
 use lib.IntN.{ℤ, pos}
 use Rattle.integers.specs.Sums.{vector}
 use Rattle.integers.proofs.Machine.{length-tabulate}
-use Rattle.arrays.proofs.Laws.{and-false, and-skip, and-stop}
+use Rattle.integers.proofs.Booleans.{and-false, and-skip, and-stop}
 use Rattle.reachability.specs.Limits.{accepted, stepsOk}
 use Rattle.reachability.specs.Recurrence.{firstPlace, growthStep, spareFigure, bound, slack}
 use Rattle.reachability.specs.Verdicts.{hitAt, unknownAt, verdictBelow, verdict}

@@ -18,7 +18,7 @@ use Rattle.reachability.specs.declared.sweep.Swept.{Swept}
 use Rattle.reachability.specs.declared.sweep.Swept.the-variants as S
 use Rattle.reachability.specs.declared.verdicts.Judged.{Judged}
 use Rattle.reachability.specs.declared.verdicts.Judged.the-variants as J
-use Rattle.arrays.proofs.Laws.{and-true}
+use Rattle.integers.proofs.Booleans.{and-true}
 use Rattle.reachability.specs.Limits.{accepted}
 use Rattle.reachability.proofs.model.Facts.{model-facts}
 use Rattle.judge.proofs.Answers.{judges}

@@ -17,7 +17,8 @@ use Rattle.integers.proofs.Rounding.{fraction-le-one}
 use Rattle.integers.proofs.Sums.{sumℕ-bound, natAbs-sum, le-maxℕ, maxℕ-le}
 use Rattle.integers.proofs.Machine.{getD-tabulate}
 use Rattle.arrays.specs.Tests.{allBetween, zeroOutside}
-use Rattle.arrays.proofs.Laws.{and-true, allBetween-at}
+use Rattle.integers.proofs.Booleans.{and-true}
+use Rattle.arrays.proofs.Tests.{allBetween-at}
 use Rattle.stepping.specs.Limits.{matrixUnit, growthLimit, entryLimit}
 use Rattle.stepping.specs.Recurrence.{greatest, nextR, nextE, errorSum, growthSum}
 use Rattle.stepping.specs.Refusals.{stepOk, workingOk, dimensionOk, zeroBeyond, nonNegative, matrixOk, steppedR, steppedE}

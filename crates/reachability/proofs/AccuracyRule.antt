@@ -17,7 +17,7 @@ use Rattle.integers.proofs.Order.{⩽-of-eq, ⩽-trans, ⩽-scale, ⩽-unscale}
 use Rattle.integers.proofs.Sums.{sum-cong, sum-scale, sum-add, pos-sumℕ}
 use Rattle.integers.proofs.Rounding.{ceilDiv-le, ceilDiv-near, ceilDivℕ-le}
 use Rattle.integers.proofs.Machine.{getD-tabulate}
-use Rattle.arrays.proofs.Laws.{and-true}
+use Rattle.integers.proofs.Booleans.{and-true}
 use Rattle.stepping.specs.Limits.{matrixUnit, directionUnit}
 use Rattle.stepping.specs.Recurrence.{firstR, firstE}
 use Rattle.stepping.proofs.Stands.{stands-first}
@@ -31,7 +31,7 @@ use Rattle.reachability.specs.Answers.{boundsOf, slacksOf}
 use Rattle.reachability.specs.declared.model.Model.{Model}
 use Rattle.reachability.specs.declared.verdicts.Judged.{Judged}
 use Rattle.reachability.specs.declared.verdicts.Judged.the-variants.{Hit, Unknown, Clear, Invalid, NoGuard, WrongLength, Growth}
-use Rattle.reachability.proofs.SetLaws.{SetLaws}
+use Rattle.reachability.proofs.sets.Laws.{SetLaws}
 use Rattle.reachability.proofs.model.Facts.{ModelFacts, model-facts}
 use Rattle.reachability.proofs.FirstPlace.{firstPlace-passes, firstPlace-before}
 use Rattle.reachability.proofs.VerdictLaws.{reaches-le, reaches-false-le, reaches-mono, reaches-scale, reaches-unscale}

@@ -1,9 +1,4 @@
-pub mod SetLaws
-pub mod SetBounds
-pub mod SetTests
 pub mod FirstPlace
 pub mod VerdictLaws
 pub mod Walks
 pub mod AccuracyRule
-pub mod Turns
-pub mod SweepAnswers

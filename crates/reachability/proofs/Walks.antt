@@ -19,7 +19,7 @@ use Rattle.stepping.specs.Limits.{matrixUnit}
 use Rattle.stepping.proofs.Stands.{Stands, stands-step}
 use Rattle.reachability.specs.Runs.{stateOf}
 use Rattle.reachability.specs.Recurrence.{Working, next, walk}
-use Rattle.reachability.proofs.SetLaws.{SetLaws}
+use Rattle.reachability.proofs.sets.Laws.{SetLaws}
 
 one-times : (z : ℤ) → pos 1 *ℤ z ≡ z
 one-times z = eq! (# 1 ⊗ v z) (v z) (omega arith)

@@ -5,5 +5,5 @@ pub mod Recurrence
 pub mod Verdicts
 pub mod Rule
 pub mod Answers
-pub mod Inner
-pub mod Filling
+pub mod SetsInner
+pub mod SweepInner

@@ -80,7 +80,14 @@ pub fn reach_within(shape: Shape, count: usize, points: &[i32; 96]) -> bool
     if 16 < count {
         return false;
     }
-    checks::reach_ok(shape, count, points)
+    let mut i: usize = 0;
+    while i < 6 {
+        if 1048576 < reaches::reach_at(shape, count, points, i) {
+            return false;
+        }
+        i += 1;
+    }
+    true
 }
 
 // n is at most 6, and in each of the n coordinates the first point is not above the second.
@@ -90,5 +97,12 @@ pub fn corners_ordered(n: usize, points: &[i32; 96]) -> bool
     if 6 < n {
         return false;
     }
-    checks::corners_ok(n, points)
+    let mut i: usize = 0;
+    while i < n {
+        if points[6 + i] < points[i] {
+            return false;
+        }
+        i += 1;
+    }
+    true
 }

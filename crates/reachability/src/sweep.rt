@@ -1,5 +1,5 @@
 // The sweep of a direction: bounds and slacks for every step.
-mod rounding;
+pub mod rounding;
 mod rows;
 
 use crate::model::Model;

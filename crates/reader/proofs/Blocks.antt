@@ -18,7 +18,8 @@ use Rattle.integers.proofs.SignedParts.{v, #, neg, le!, le?, abs?, _⊕_}
 use Rattle.integers.proofs.Order.{lt-of-leZ-false}
 use Rattle.integers.proofs.Sums.{allBelow-intro}
 use Rattle.arrays.specs.Tests.{between, allBetween, zeroUnless, zeroOutside}
-use Rattle.arrays.proofs.Laws.{or-true, allBetween-at}
+use Rattle.integers.proofs.Booleans.{or-true}
+use Rattle.arrays.proofs.Tests.{allBetween-at}
 use Rattle.reachability.specs.Limits.{allZero, someNonzero, guardOk, guardsOk}
 use Rattle.reader.specs.Models.{zeros, putRow}
 use Rattle.reader.proofs.Rows.{putRow-other, putRow-same}

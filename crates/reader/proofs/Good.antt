@@ -8,7 +8,7 @@ use native.Mathlib.Omega.{arith}
 use borrow.Author.Tests.{le-leb, leb-true, ltb-true, eqb-true, eqb-false, leb-false}
 use lib.Dec.{leb, ltb, eqb}
 use lib.ListN.{length-set, replicate}
-use Rattle.arrays.proofs.Laws.{and-true}
+use Rattle.integers.proofs.Booleans.{and-true}
 use Rattle.stepping.specs.Refusals.{dimensionOk}
 use Rattle.records.specs.Numbers.{littleEndian, signedAt}
 use Rattle.reachability.specs.Limits.{stepsOk}

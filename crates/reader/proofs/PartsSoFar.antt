@@ -13,7 +13,7 @@ use lib.ListN.{length, set, List·getD-eq-default}
 use lib.IntN.{ℤ, pos}
 use Rattle.integers.specs.Sums.{vector, tabulate}
 use Rattle.integers.proofs.Machine.{getD-tabulate}
-use Rattle.arrays.proofs.Laws.{and-true}
+use Rattle.integers.proofs.Booleans.{and-true}
 use Rattle.stepping.specs.Refusals.{dimensionOk}
 use Rattle.records.specs.Numbers.{signedAt}
 use Rattle.reachability.specs.declared.sets.Shape.{Shape}

@@ -10,7 +10,7 @@ use borrow.Author.Tests.{ne-eqb, eqb-true, leb-true}
 use lib.Dec.{eqb, leb, ltb}
 use lib.ListN.{length}
 use Rattle.integers.specs.Sums.{allBelow}
-use Rattle.arrays.proofs.Laws.{and-true}
+use Rattle.integers.proofs.Booleans.{and-true}
 use Rattle.records.specs.declared.kinds.BodyLength.the-variants.{Bytes}
 use Rattle.records.specs.Kinds.{bodyLength}
 use Rattle.records.proofs.KnownKinds.{everyKind, everyKind-at}

@@ -11,13 +11,14 @@ use lib.IntN.{pos, negℤ, natAbs}
 use Rattle.integers.specs.Sums.{vector, allBelow}
 use Rattle.integers.proofs.Sums.{allBelow-at, allBelow-some}
 use Rattle.arrays.specs.Tests.{allBetween, zeroOutside}
-use Rattle.arrays.proofs.Laws.{and-true, allBetween-at, zeroOutside-column}
+use Rattle.integers.proofs.Booleans.{and-true}
+use Rattle.arrays.proofs.Tests.{allBetween-at, zeroOutside-column}
 use Rattle.stepping.specs.Limits.{entryLimit}
 use Rattle.stepping.specs.Refusals.{dimensionOk, matrixOk}
 use Rattle.reachability.specs.Limits.{accepted, stepsOk, frameOk, setAccepted, directionLimit, allZero, someNonzero, directionsOk, guardOk, guardsOk}
 use Rattle.reachability.specs.Runs.{direction}
 use Rattle.reachability.specs.declared.model.Model.{Model}
-use Rattle.reachability.proofs.SetTests.{SetFacts, set-facts, n-range}
+use Rattle.reachability.proofs.sets.Facts.{SetFacts, set-facts, n-range}
 
 pub record ModelFacts (m : Model) : Type 0 where
   -- n and the steps

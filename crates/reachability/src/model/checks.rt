@@ -1,12 +1,9 @@
 // Number 11 for the sweep and the judge: the rules of "The three sets" and "Limits".
 use crate::model::Model;
-use crate::sets::Set;
 use crate::sets::set_ok;
 ghost use mathlib.Core.Path.{_≡_};
-ghost use mathlib.Core.Bool.{_&&_};
 ghost use Prim.Native.Nat.{_<_};
-ghost use Rattle.stepping.specs.Refusals.{dimensionOk};
-ghost use Rattle.reachability.specs.Limits.{frameOk, allZero, someNonzero, directionsOk, guardOk, guardsOk, setAccepted, accepted};
+ghost use Rattle.reachability.specs.Limits.{allZero, directionsOk, guardOk, guardsOk, accepted};
 
 // Each of the six entries of direction k is zero.
 fn all_zero(entries: &[i32; 96], k: usize) -> bool
@@ -19,21 +16,6 @@ fn all_zero(entries: &[i32; 96], k: usize) -> bool
             return false;
         }
         i += 1;
-    }
-    true
-}
-
-// None of the directions is zero.
-fn some_nonzero(count: usize, entries: &[i32; 96]) -> bool
-    requires { ⌜ count < 17 ⌝ }
-    ensures { λ b. ⌜ b ≡ someNonzero count (now (entries .entry)) ⌝ }
-{
-    let mut k: usize = 0;
-    while k < count {
-        if all_zero(entries, k) {
-            return false;
-        }
-        k += 1;
     }
     true
 }
@@ -54,7 +36,14 @@ fn directions_ok(n: usize, count: usize, entries: &[i32; 96]) -> bool
     if !arrays::all_between(-1000, 1000, entries) {
         return false;
     }
-    some_nonzero(count, entries)
+    let mut k: usize = 0;
+    while k < count {
+        if all_zero(entries, k) {
+            return false;
+        }
+        k += 1;
+    }
+    true
 }
 
 // A guard below the count is on a direction; one beyond it is zero.
@@ -87,50 +76,37 @@ fn guards_ok(directions: usize, guards: usize, watched: &[usize; 16], levels: &[
     true
 }
 
-// n, the steps and the matrix break no rule.
-fn frame_ok(n: usize, steps: usize, matrix: &[i32; 36]) -> bool
-    ensures { λ b. ⌜ b ≡ frameOk n steps (now (matrix .entry)) ⌝ }
+// The model breaks no rule of "The three sets" and "Limits".
+pub fn accepts(model: Model) -> bool
+    ensures { λ b. ⌜ b ≡ accepted model ⌝ }
 {
+    let n = model.n;
     if n < 1 {
         return false;
     }
     if 6 < n {
         return false;
     }
-    if steps < 1 {
+    if model.steps < 1 {
         return false;
     }
-    if 256 < steps {
+    if 256 < model.steps {
         return false;
     }
-    stepping::matrix_ok(n, matrix)
-}
-
-// n and the set break no rule.
-fn set_accepted(n: usize, set: Set) -> bool
-    ensures { λ b. ⌜ b ≡ dimensionOk n && setAccepted n set ⌝ }
-{
-    let shape = set.shape;
-    let count = set.count;
-    let points = set.points;
-    set_ok(n, shape, count, &points)
-}
-
-// The model breaks no rule.
-pub fn accepts(model: Model) -> bool
-    ensures { λ b. ⌜ b ≡ accepted model ⌝ }
-{
-    let n = model.n;
     let matrix = model.matrix;
-    if !frame_ok(n, model.steps, &matrix) {
+    if !stepping::matrix_ok(n, &matrix) {
         return false;
     }
     let initial = model.initial;
-    if !set_accepted(n, initial) {
+    let initial_shape = initial.shape;
+    let initial_points = initial.points;
+    if !set_ok(n, initial_shape, initial.count, &initial_points) {
         return false;
     }
     let input = model.input;
-    if !set_accepted(n, input) {
+    let input_shape = input.shape;
+    let input_points = input.points;
+    if !set_ok(n, input_shape, input.count, &input_points) {
         return false;
     }
     let directions = model.directions;

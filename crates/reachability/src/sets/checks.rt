@@ -1,13 +1,11 @@
 // The rules that number 11 tests of a set and of a direction for it.
 use crate::sets::Shape;
-use crate::sets::reaches::reach_at;
+use crate::sets::corners_ordered;
+use crate::sets::reach_within;
 ghost use mathlib.Core.Path.{_≡_};
 ghost use mathlib.Core.Bool.{_&&_};
-ghost use Prim.Native.Nat.{_≤_};
 ghost use Rattle.stepping.specs.Refusals.{dimensionOk};
-ghost use Rattle.reachability.specs.Sets.{countOk, orderedOk, reachOk, setOk, directionOk, valueOk, points as pointsOf};
-ghost use Rattle.reachability.specs.Inner.{Counted};
-ghost use Rattle.reachability.specs.declared.sets.Shape.the-variants.{Box};
+ghost use Rattle.reachability.specs.Sets.{countOk, setOk, directionOk, valueOk};
 
 // The count is one that the shape allows.
 fn count_ok(shape: Shape, count: usize) -> bool
@@ -30,47 +28,6 @@ fn count_ok(shape: Shape, count: usize) -> bool
     }
 }
 
-// Each reach is at most 1,048,576.
-pub(crate) fn reach_ok(shape: Shape, count: usize, points: &[i32; 96]) -> bool
-    requires { ⌜ Counted count ⌝ }
-    ensures { λ b. ⌜ b ≡ reachOk shape count (pointsOf (now (points .entry))) ⌝ }
-{
-    let mut i: usize = 0;
-    while i < 6 {
-        if 1048576 < reach_at(shape, count, points, i) {
-            return false;
-        }
-        i += 1;
-    }
-    true
-}
-
-// No lower corner is above its upper.
-pub(crate) fn corners_ok(n: usize, points: &[i32; 96]) -> bool
-    requires { ⌜ n ≤ 6 ⌝ }
-    ensures { λ b. ⌜ b ≡ orderedOk n Box (pointsOf (now (points .entry))) ⌝ }
-{
-    let mut i: usize = 0;
-    while i < n {
-        if points[6 + i] < points[i] {
-            return false;
-        }
-        i += 1;
-    }
-    true
-}
-
-fn ordered_ok(n: usize, shape: Shape, points: &[i32; 96]) -> bool
-    requires { ⌜ n ≤ 6 ⌝ }
-    ensures { λ b. ⌜ b ≡ orderedOk n shape (pointsOf (now (points .entry))) ⌝ }
-{
-    match shape {
-        Shape::Box => corners_ok(n, points),
-        Shape::Zonotope => true,
-        Shape::Vertices => true,
-    }
-}
-
 // n and the set break no rule.
 pub(crate) fn set_ok(n: usize, shape: Shape, count: usize, points: &[i32; 96]) -> bool
     ensures { λ b. ⌜ b ≡ dimensionOk n && setOk n shape count (now (points .entry)) ⌝ }
@@ -87,10 +44,14 @@ pub(crate) fn set_ok(n: usize, shape: Shape, count: usize, points: &[i32; 96]) -
     if !arrays::zero_outside(count, n, points) {
         return false;
     }
-    if !reach_ok(shape, count, points) {
+    if !reach_within(shape, count, points) {
         return false;
     }
-    ordered_ok(n, shape, points)
+    match shape {
+        Shape::Box => corners_ordered(n, points),
+        Shape::Zonotope => true,
+        Shape::Vertices => true,
+    }
 }
 
 // r has no value beyond n, and no magnitude above 1,073,741,824.

@@ -1,11 +1,11 @@
 // Reaches. A count that its shape allows is all that they ask, so that they also serve the test of the reach.
 use crate::sets::Shape;
 ghost use mathlib.Core.Path.{_≡_};
-ghost use Prim.Native.Nat.{_≤_, _<_, max};
+ghost use Prim.Native.Nat.{_≤_, _<_};
 ghost use lib.IntN.{pos, natAbs};
 ghost use Rattle.integers.specs.Sums.{sumℕ, maxℕ, tabulate};
 ghost use Rattle.reachability.specs.Sets.{reachOf, points as pointsOf};
-ghost use Rattle.reachability.specs.Inner.{Counted, ReachSmall};
+ghost use Rattle.reachability.specs.SetsInner.{Counted, ReachSmall};
 
 // |coordinate i of point k|.
 fn size(points: &[i32; 96], k: usize, i: usize) -> u64
@@ -21,10 +21,10 @@ fn sum_of_sizes(count: usize, points: &[i32; 96], i: usize) -> u64
     ensures { λ s. ⌜ s ≡ sumℕ count (λ k. natAbs (pointsOf (now (points .entry)) k i)) ⌝ }
 {
     let mut sum: u64 = 0;
-    let mut k: usize = 0;
-    while k < count {
-        sum = sum + size(points, k, i);
-        k += 1;
+    let mut j: usize = 0;
+    while j < count {
+        sum = sum + size(points, j, i);
+        j += 1;
     }
     sum
 }

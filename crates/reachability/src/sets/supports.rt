@@ -2,12 +2,12 @@
 use crate::sets::Shape;
 ghost use mathlib.Core.Path.{_≡_};
 ghost use mathlib.Core.Bool.{cond};
-ghost use Prim.Native.Nat.{_≤_, _<_};
-ghost use lib.IntN.{pos, natAbs, _+ℤ_, _*ℤ_};
+ghost use Prim.Native.Nat.{_<_};
+ghost use lib.IntN.{pos, _+ℤ_, _*ℤ_};
 ghost use lib.Signed.{ltZ};
 ghost use Rattle.integers.specs.Sums.{vector, dot as dotOf};
 ghost use Rattle.reachability.specs.Sets.{supportOf, points as pointsOf};
-ghost use Rattle.reachability.specs.Inner.{TimesAdd, Added, Tested, Counted};
+ghost use Rattle.reachability.specs.SetsInner.{TimesAdd, Tested, Counted};
 ghost use Rattle.reachability.specs.declared.sets.Shape.the-variants.{Box, Zonotope, Vertices};
 
 // sum + a × b.
@@ -16,14 +16,6 @@ fn times_add(sum: i64, a: i64, b: i32) -> i64
     ensures { λ s. ⌜ s ≡ sum +ℤ a *ℤ b ⌝ }
 {
     sum + a * (b as i64)
-}
-
-// sum + |d|.
-fn magnitude_add(sum: i64, d: i64) -> i64
-    requires { ⌜ Added sum d ⌝ }
-    ensures { λ s. ⌜ s ≡ sum +ℤ pos (natAbs d) ⌝ }
-{
-    sum + (arrays::magnitude(d) as i64)
 }
 
 // The upper corner where r is positive, else the lower.
@@ -74,7 +66,9 @@ fn of_zonotope(count: usize, points: &[i32; 96], r: &[i64; 6]) -> i64
     let mut sum = dot(points, 0, r);
     let mut k: usize = 1;
     while k < count {
-        sum = magnitude_add(sum, dot(points, k, r));
+        let d = dot(points, k, r);
+        let size = arrays::magnitude(d) as i64;
+        sum = sum + size;
         k += 1;
     }
     sum

@@ -1,23 +1,20 @@
-// The bound and the slack of a step from its raw bound and slack.
-ghost use mathlib.Core.Path.{_≡_};
-ghost use lib.IntN.{pos, natAbs};
-ghost use Prim.Native.Nat.{_+_};
-ghost use Rattle.integers.specs.Whole.{ceilDiv, ceilDivℕ, fraction};
-ghost use Rattle.stepping.specs.Limits.{directionUnit};
-ghost use Rattle.reachability.specs.Filling.{RawSmall, SlackSmall};
+// The bound and the slack of a step from its raw bound and raw slack, for every raw bound and raw slack.
+ghost use Rattle.reachability.specs.Recurrence.{Rounds};
 
-// The raw bound / 1,048,576 rounded up.
-pub(crate) fn bound_of(raw: i64) -> i64
-    requires { ⌜ RawSmall raw ⌝ }
-    ensures { λ b. ⌜ b ≡ ceilDiv raw directionUnit ⌝ }
-{
-    0 - ((0 - raw) >> 20)
+// A bound and its slack.
+pub struct Rounded {
+    pub bound: i64,
+    pub slack: i64,
 }
 
-// The raw slack / 1,048,576 rounded up, plus 1 where the raw bound isn't a multiple.
-pub(crate) fn slack_of(raw: i64, raw_slack: u64) -> i64
-    requires { ⌜ SlackSmall «raw_slack» ⌝ }
-    ensures { λ s. ⌜ s ≡ pos (ceilDivℕ «raw_slack» directionUnit + fraction raw directionUnit) ⌝ }
+// The bound is the raw bound / 1,048,576 rounded up. Its slack is the raw slack / 1,048,576 rounded up, plus 1 where the raw
+// bound isn't a multiple.
+pub fn bound_and_slack(raw: i64, raw_slack: u64) -> Rounded
+    ensures { λ a. ⌜ Rounds raw «raw_slack» (a .bound) (a .slack) ⌝ }
 {
-    ((raw_slack + 1048575) / 1048576 + arrays::fraction(raw, 1048576)) as i64
+    let part = arrays::fraction(raw, 1048576);
+    let up = raw_slack / 1048576 + (raw_slack % 1048576 + 1048575) / 1048576;
+    let bound = (raw >> 20) + (part as i64);
+    let slack = (up + part) as i64;
+    Rounded { bound, slack }
 }

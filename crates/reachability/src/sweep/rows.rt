@@ -4,20 +4,16 @@ use crate::sets::Shape;
 use crate::sets::reaches_of;
 use crate::sets::support_of;
 use crate::sweep::Filled;
-use crate::sweep::rounding::bound_of;
-use crate::sweep::rounding::slack_of;
+use crate::sweep::rounding::bound_and_slack;
 use stepping::Spare;
 use stepping::Stepped;
 ghost use mathlib.Core.Path.{_≡_};
-ghost use Prim.Native.Nat.{_≤_, _<_, _+_, _*_};
-ghost use lib.ListN.{length, getD};
-ghost use lib.IntN.{pos, natAbs, _+ℤ_};
-ghost use Rattle.integers.specs.Sums.{vector, magnitudes, matrix, tabulate, dotℕ};
+ghost use Prim.Native.Nat.{_≤_, _<_};
+ghost use lib.ListN.{length};
+ghost use Rattle.integers.specs.Sums.{vector, matrix, tabulate};
+ghost use Rattle.stepping.specs.Limits.{growthLimit};
 ghost use Rattle.stepping.specs.Recurrence.{spare};
-ghost use Rattle.stepping.specs.Refusals.{steppedNumber};
-ghost use Rattle.reachability.specs.Sets.{supportOf, points as pointsOf};
-ghost use Rattle.reachability.specs.Inner.{Counted, Tested};
-ghost use Rattle.reachability.specs.Filling.{Row, Errors, RawParts, sumOf, LineAsks, LineGives, Askable, Prepared, Fills};
+ghost use Rattle.reachability.specs.SweepInner.{ErrorsWithReach, termErrors, TermsAsk, termOf, StepAsks, StepGives, sumOf, FillAsks, Prepared, Fills};
 
 // 257 zeros. The contract gives the length alone.
 pub(crate) fn blank() -> [i64; 257]
@@ -40,31 +36,23 @@ fn row(entries: &[i32; 96], k: usize) -> [i32; 6]
     d
 }
 
-// sum + e × reach.
-fn error_add(sum: u64, e: i64, reach: i64) -> u64
-    requires { ⌜ Errors sum e reach ⌝ }
-    ensures { λ s. ⌜ s ≡ sum + natAbs e * natAbs reach ⌝ }
-{
-    sum + (e as u64) * (reach as u64)
-}
-
 // e · reach.
 fn errors_of(e: &[i64; 6], reaches: &[i64; 6]) -> u64
-    requires { ⌜ Row (now e) (now reaches) ⌝ }
-    ensures { λ s. ⌜ s ≡ dotℕ 6 (magnitudes (now (e .entry))) (magnitudes (now (reaches .entry))) ⌝ }
+    requires { ⌜ ErrorsWithReach (now e) (now reaches) ⌝ }
+    ensures { λ s. ⌜ s ≡ termErrors (now (e .entry)) (now (reaches .entry)) ⌝ }
 {
     let mut sum: u64 = 0;
     let mut i: usize = 0;
     while i < 6 {
-        sum = error_add(sum, e[i], reaches[i]);
+        sum = sum + (e[i] as u64) * (reaches[i] as u64);
         i += 1;
     }
     sum
 }
 
-// What a set adds to a step: its support at r, and e · reach.
+// What a set adds to a step: its support at r plus e · reach, and e · reach alone.
 struct Terms {
-    support: i64,
+    total: i64,
     errors: u64,
 }
 
@@ -76,20 +64,13 @@ fn terms_of(
     r: &[i64; 6],
     e: &[i64; 6],
 ) -> Terms
-    requires { ⌜ Counted count × Tested (now points) (now r) × Row (now e) (now reaches) ⌝ }
-    ensures { λ t. ⌜ (t .support ≡ supportOf 6 shape count (pointsOf (now (points .entry))) (vector (now (r .entry)))) × (t .errors ≡ dotℕ 6 (magnitudes (now (e .entry))) (magnitudes (now (reaches .entry)))) ⌝ }
+    requires { ⌜ TermsAsk shape count (now points) (now reaches) (now r) (now e) ⌝ }
+    ensures { λ t. ⌜ (t .total ≡ termOf shape count (now (points .entry)) (now (reaches .entry)) (now (r .entry)) (now (e .entry))) × (t .errors ≡ termErrors (now (e .entry)) (now (reaches .entry))) ⌝ }
 {
     let support = support_of(shape, count, points, r);
     let errors = errors_of(e, reaches);
-    Terms { support, errors }
-}
-
-// support + errors + before.
-fn raw_of(support: i64, errors: u64, before: i64) -> i64
-    requires { ⌜ RawParts support errors before ⌝ }
-    ensures { λ s. ⌜ s ≡ (support +ℤ pos errors) +ℤ before ⌝ }
-{
-    support + (errors as i64) + before
+    let total = support + (errors as i64);
+    Terms { total, errors }
 }
 
 // The growth sum of an answer of the stepping arithmetic; 0 for a refusal, which never comes here.
@@ -104,7 +85,7 @@ fn sum_of(a: Stepped) -> u64
 
 // The spare figure of a largest sum from 1 to 1,073,741,824.
 pub(crate) fn spare_of(sum: u64) -> u32
-    requires { ⌜ (1 ≤ sum) × (sum ≤ 1073741824) ⌝ }
+    requires { ⌜ (1 ≤ sum) × (sum ≤ growthLimit) ⌝ }
     ensures { λ h. ⌜ h ≡ spare sum ⌝ }
 {
     match stepping::spare_bits(sum) {
@@ -114,7 +95,7 @@ pub(crate) fn spare_of(sum: u64) -> u32
 }
 
 // What one step gives: its bound and slack, and what the inputs and errors of all steps so far come to.
-struct Line {
+struct StepValues {
     bound: i64,
     slack: i64,
     inputs: i64,
@@ -122,7 +103,7 @@ struct Line {
 }
 
 // One step: r and e are its working direction, `inputs` and `errors` what the steps before it came to.
-fn line_of(
+fn values_of(
     initial_shape: Shape,
     initial_count: usize,
     initial_points: &[i32; 96],
@@ -135,9 +116,9 @@ fn line_of(
     e: &[i64; 6],
     inputs: i64,
     errors: u64,
-) -> Line
-    requires { ⌜ LineAsks «initial_shape» «initial_count» (now «initial_points») (now «initial_reaches») «input_shape» «input_count» (now «input_points») (now «input_reaches») (now r) (now e) inputs errors ⌝ }
-    ensures { λ l. ⌜ LineGives «initial_shape» «initial_count» (now («initial_points» .entry)) (now («initial_reaches» .entry)) «input_shape» «input_count» (now («input_points» .entry)) (now («input_reaches» .entry)) (now (r .entry)) (now (e .entry)) inputs errors (l .bound) (l .slack) (l .inputs) (l .errors) ⌝ }
+) -> StepValues
+    requires { ⌜ StepAsks «initial_shape» «initial_count» (now «initial_points») (now «initial_reaches») «input_shape» «input_count» (now «input_points») (now «input_reaches») (now r) (now e) inputs errors ⌝ }
+    ensures { λ v. ⌜ StepGives «initial_shape» «initial_count» (now («initial_points» .entry)) (now («initial_reaches» .entry)) «input_shape» «input_count» (now («input_points» .entry)) (now («input_reaches» .entry)) (now (r .entry)) (now (e .entry)) inputs errors (v .bound) (v .slack) (v .inputs) (v .errors) ⌝ }
 {
     let here = terms_of(
         initial_shape,
@@ -147,13 +128,16 @@ fn line_of(
         r,
         e,
     );
-    let raw = raw_of(here.support, here.errors, inputs);
     let entering = terms_of(input_shape, input_count, input_points, input_reaches, r, e);
-    Line {
-        bound: bound_of(raw),
-        slack: slack_of(raw, 2 * (here.errors + errors)),
-        inputs: raw_of(entering.support, entering.errors, inputs),
-        errors: errors + entering.errors,
+    let entered = inputs + entering.total;
+    let erred = errors + entering.errors;
+    let raw = here.total + inputs;
+    let rounded = bound_and_slack(raw, 2 * (here.errors + errors));
+    StepValues {
+        bound: rounded.bound,
+        slack: rounded.slack,
+        inputs: entered,
+        errors: erred,
     }
 }
 
@@ -178,7 +162,7 @@ fn fill_rows(
     bounds: &mut [i64; 257],
     slacks: &mut [i64; 257],
 ) -> Filled
-    requires { ⌜ Askable model direction (now bounds) (now slacks) ⌝ }
+    requires { ⌜ FillAsks model direction (now bounds) (now slacks) ⌝ }
     requires { ⌜ Prepared model direction n (now matrix) «initial_shape» «initial_count» (now «initial_points») (now «initial_reaches») «input_shape» «input_count» (now «input_points») (now «input_reaches») (now r) (now e) ⌝ }
     ensures { λ a. ⌜ Fills model direction a (now (bounds .exit)) (now (slacks .exit)) ⌝ }
 {
@@ -191,7 +175,7 @@ fn fill_rows(
         if 1073741824 < sum {
             return Filled::Grown(k);
         }
-        let line = line_of(
+        let values = values_of(
             initial_shape,
             initial_count,
             initial_points,
@@ -205,12 +189,12 @@ fn fill_rows(
             inputs,
             errors,
         );
-        let bound = line.bound;
+        let bound = values.bound;
         bounds[k] = bound;
-        let slack = line.slack;
+        let slack = values.slack;
         slacks[k] = slack;
-        inputs = line.inputs;
-        errors = line.errors;
+        inputs = values.inputs;
+        errors = values.errors;
         most = arrays::larger(most, sum);
         sum = sum_of(stepping::step(6, matrix, r, e));
         k += 1;
@@ -226,7 +210,7 @@ pub(crate) fn fill(
     bounds: &mut [i64; 257],
     slacks: &mut [i64; 257],
 ) -> Filled
-    requires { ⌜ Askable model direction (now bounds) (now slacks) ⌝ }
+    requires { ⌜ FillAsks model direction (now bounds) (now slacks) ⌝ }
     ensures { λ a. ⌜ Fills model direction a (now (bounds .exit)) (now (slacks .exit)) ⌝ }
 {
     let matrix = model.matrix;

@@ -6,14 +6,14 @@ use mathlib.Core.List.{List}
 use borrow.Author.Tests.{not-true, not-false}
 use Rattle.integers.specs.Sums.{vector}
 use Rattle.integers.proofs.Machine.{read-given}
-use Rattle.arrays.proofs.Laws.{and-true, number-cond}
+use Rattle.integers.proofs.Booleans.{and-true, number-cond}
 use Rattle.stepping.specs.Refusals.{dimensionOk}
 use Rattle.reachability.specs.Sets.{points, setOk, directionOk, supportOf, supportOk, supportAnswer, supportNumber, Supports}
 use Rattle.reachability.specs.declared.sets.Set.{Set}
 use Rattle.reachability.specs.declared.sets.Supported.{Supported}
 use Rattle.reachability.specs.declared.sets.Supported.the-variants.{Value, Refused}
-use Rattle.reachability.proofs.SetTests.{SetFacts, set-facts, n-range, direction-small}
-use Rattle.reachability.proofs.SetBounds.{supportOf-six}
+use Rattle.reachability.proofs.sets.Facts.{SetFacts, set-facts, n-range, direction-small}
+use Rattle.reachability.proofs.sets.Bounds.{supportOf-six}
 use Rattle.reachability.proofs.sets.support.Statement.{statement}
 use Rattle.reachability.proofs.sets.support.Tie as tie
 

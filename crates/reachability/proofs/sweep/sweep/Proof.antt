@@ -14,7 +14,7 @@ use Rattle.reachability.specs.declared.model.Model.{Model}
 use Rattle.reachability.specs.declared.sweep.Swept.{Swept}
 use Rattle.reachability.specs.declared.sweep.Swept.the-variants.{Spare, Invalid, NoDirection, WrongLength, Growth}
 use Rattle.reachability.proofs.model.Facts.{ModelFacts, model-facts}
-use Rattle.reachability.proofs.SweepAnswers.{answer-invalid, answer-no-direction, answer-wrong-bounds, answer-wrong-slacks, answer-finished, refuses, grown-only, largest-only, largest-most, largest-least, sweeps}
+use Rattle.reachability.proofs.sweep.Answers.{answer-invalid, answer-no-direction, answer-wrong-bounds, answer-wrong-slacks, answer-finished, refuses, grown-only, largest-only, largest-most, largest-least, sweeps}
 use Rattle.reachability.proofs.sweep.sweep.Statement.{statement}
 use Rattle.reachability.proofs.sweep.sweep.Tie as tie
 

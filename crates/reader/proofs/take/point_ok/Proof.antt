@@ -2,7 +2,7 @@
 use Rattle.integers.proofs.Basics.{_≡_, sym, _∙_, Bool, true, false, needs}
 use mathlib.Core.Bool.{not, _||_}
 use borrow.Author.Tests.{not-true, not-false, eq-eqb, ne-eqb}
-use Rattle.arrays.proofs.Laws.{and-skip, and-stop}
+use Rattle.integers.proofs.Booleans.{and-skip, and-stop}
 use Rattle.reader.specs.Values.{pointOk}
 use Rattle.reader.proofs.take.point_ok.Statement.{statement}
 use Rattle.reader.proofs.take.point_ok.Tie as tie

@@ -5,7 +5,7 @@ use mathlib.Core.Bool.{not}
 use mathlib.Core.List.{List}
 use Rattle.integers.specs.Sums.{allBelow}
 use Rattle.arrays.specs.Tests.{zeroOutside}
-use Rattle.arrays.proofs.Laws.{and-skip, and-stop}
+use Rattle.integers.proofs.Booleans.{and-skip, and-stop}
 use Rattle.reachability.specs.Limits.{allZero}
 use Rattle.reader.specs.Models.{setDirections, sixAt, putRow, withDirection}
 use Rattle.reader.specs.Values.{within, directionOk}

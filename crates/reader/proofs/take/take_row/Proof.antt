@@ -2,7 +2,7 @@
 use Rattle.integers.proofs.Basics.{ℕ, _+_, ℤ, ap₂, sym, ap, _∙_, arith, needs}
 use borrow.Author.Tests.{not-true, not-false, eq-eqb, ne-eqb}
 use mathlib.Core.List.{List}
-use Rattle.arrays.proofs.Laws.{and-skip, and-stop}
+use Rattle.integers.proofs.Booleans.{and-skip, and-stop}
 use Rattle.reader.specs.Models.{firstByte, setMatrix, sixAt, rowPlace, putRow, withRow}
 use Rattle.reader.specs.Values.{within, rowOk}
 use Rattle.reader.specs.Inner.{takenAs}

@@ -1,96 +1,132 @@
 -- `reachability::model::checks::accepts` meets its contract, test by test. Assumes nothing.
-use Rattle.integers.proofs.Basics.{_≡_, sym, ap, _∙_, Bool, true, needs}
+use Rattle.integers.proofs.Basics.{_≡_, sym, ap, ap₂, _∙_, Bool, true, needs}
 use mathlib.Core.Bool.{_&&_}
-use borrow.Author.Tests.{not-true, not-false}
-use Rattle.arrays.proofs.Laws.{and-true, and-skip, and-stop}
-use Rattle.stepping.specs.Refusals.{dimensionOk, matrixOk}
-use Rattle.reachability.specs.Limits.{stepsOk, frameOk, setAccepted, directionsOk, guardsOk}
+use borrow.Author.Tests.{lt-leb, le-leb, not-true, not-false}
+use Rattle.integers.proofs.Booleans.{and-skip, and-stop}
+use Rattle.stepping.specs.Refusals.{dimensionOk}
+use Rattle.reachability.specs.Limits.{stepsOk, frameOk, setAccepted, guardsOk}
 use Rattle.reachability.specs.declared.model.Model.{Model}
 use Rattle.reachability.proofs.model.checks.accepts.Statement.{statement}
 use Rattle.reachability.proofs.model.checks.accepts.Tie as tie
 
-frame-ok-requires : tie.Need-frame-ok-requires
-frame-ok-requires c κs = search needs
-
 returns : tie.Need-returns
-returns c = simp (sym (c .before .frame-ok .ensures) ∙ not-true _ (c .if1 .taken))
-
-set-accepted-requires : tie.Need-set-accepted-requires
-set-accepted-requires c κs = search needs
-
--- the frame passes, and with it n
-module _ (c : tie.Else1) where
-  abbrev m : Model
-  m = c .before .before .before .before .args .model
-
-  frame : frameOk (m .n) (m .steps) (m .matrix) ≡ true
-  frame = sym (c .before .frame-ok .ensures) ∙ not-false _ (c .if1 .left)
-
-  dimension : dimensionOk (m .n) ≡ true
-  dimension = and-true (dimensionOk (m .n)) (stepsOk (m .steps) && matrixOk (m .n) (m .matrix)) frame .0
-
--- a set's own test, once n has passed
-alone : (d s b : Bool) → d ≡ true → b ≡ d && s → s ≡ b
-alone d s b t e = sym (e ∙ ap (λ (x : Bool). x && s) t)
+returns c = simp (lt-leb _ _ (c .if1 .taken))
 
 returns-2 : tie.Need-returns-2
-returns-2 c =
-    let b = c .before .before .before in
-    simp (frame b, alone (dimensionOk (m b .n)) (setAccepted (m b .n) (m b .initial)) _ (dimension b) (c .before .set-accepted .ensures) ∙ not-true _ (c .if2 .taken))
-
-set-accepted-requires-2 : tie.Need-set-accepted-requires-2
-set-accepted-requires-2 c κs = search needs
-
-initial-passes : (c : tie.Else2) → setAccepted (m (c .before .before .before) .n) (m (c .before .before .before) .initial) ≡ true
-initial-passes c =
-    let b = c .before .before .before in
-    alone (dimensionOk (m b .n)) (setAccepted (m b .n) (m b .initial)) _ (dimension b) (c .before .set-accepted .ensures) ∙ not-false _ (c .if2 .left)
+returns-2 c = simp (le-leb _ _ (c .before .if1 .left), lt-leb _ _ (c .if2 .taken))
 
 returns-3 : tie.Need-returns-3
 returns-3 c =
-    let at-initial = c .before .before .before in
-    let b = at-initial .before .before .before in
-    simp (frame b, initial-passes at-initial, alone (dimensionOk (m b .n)) (setAccepted (m b .n) (m b .input)) _ (dimension b) (c .before .set-accepted2 .ensures) ∙ not-true _ (c .if3 .taken))
+    let at-n = c .before .before in
+    simp (le-leb _ _ (at-n .before .if1 .left), le-leb _ _ (at-n .if2 .left), lt-leb _ _ (c .if3 .taken))
+
+returns-4 : tie.Need-returns-4
+returns-4 c =
+    let at-least = c .before .before in
+    let at-n = at-least .before .before in
+    simp (le-leb _ _ (at-n .before .if1 .left), le-leb _ _ (at-n .if2 .left), le-leb _ _ (at-least .if3 .left), lt-leb _ _ (c .if4 .taken))
+
+matrix-ok-requires : tie.Need-matrix-ok-requires
+matrix-ok-requires c κs = search needs
+
+-- n and the steps pass
+module _ (c : tie.Else4) where
+  abbrev m : Model
+  m = c .before .before .before .before .before .before .args .model
+
+  dimension : dimensionOk (m .n) ≡ true
+  dimension = ap₂ _&&_ (le-leb _ _ (c .before .before .before .before .before .if1 .left)) (le-leb _ _ (c .before .before .before .before .if2 .left))
+
+  steps : stepsOk (m .steps) ≡ true
+  steps = ap₂ _&&_ (le-leb _ _ (c .before .before .if3 .left)) (le-leb _ _ (c .if4 .left))
+
+  -- a set's own test, once n has passed
+  alone : (s b : Bool) → b ≡ dimensionOk (m .n) && s → s ≡ b
+  alone s b e = sym (e ∙ ap (λ (x : Bool). x && s) dimension)
+
+returns-5 : tie.Need-returns-5
+returns-5 c =
+    let b = c .before .before .before .before in
+    simp (dimension b, steps b, sym (c .before .matrix-ok .ensures) ∙ not-true _ (c .if5 .taken))
+
+set-ok-requires : tie.Need-set-ok-requires
+set-ok-requires c κs = search needs
+
+frame : (c : tie.Else5) → frameOk (m (c .before .before .before .before) .n) (m (c .before .before .before .before) .steps) (m (c .before .before .before .before) .matrix) ≡ true
+frame c =
+    let b = c .before .before .before .before in
+    ap₂ _&&_ (dimension b) (ap₂ _&&_ (steps b) (sym (c .before .matrix-ok .ensures) ∙ not-false _ (c .if5 .left)))
+
+returns-6 : tie.Need-returns-6
+returns-6 c =
+    let at-frame = c .before .before .before .before .before in
+    let b = at-frame .before .before .before .before in
+    simp (frame at-frame, alone b (setAccepted (m b .n) (m b .initial)) _ (c .before .set-ok .ensures) ∙ not-true _ (c .if6 .taken))
+
+set-ok-requires-2 : tie.Need-set-ok-requires-2
+set-ok-requires-2 c κs = search needs
+
+module _ (c : tie.Else6) where
+  abbrev at-frame : tie.Else5
+  at-frame = c .before .before .before .before .before
+
+  abbrev at-steps : tie.Else4
+  at-steps = at-frame .before .before .before .before
+
+  initial-passes : setAccepted (m at-steps .n) (m at-steps .initial) ≡ true
+  initial-passes = alone at-steps (setAccepted (m at-steps .n) (m at-steps .initial)) _ (c .before .set-ok .ensures) ∙ not-false _ (c .if6 .left)
+
+returns-7 : tie.Need-returns-7
+returns-7 c =
+    let b = c .before .before .before .before .before in
+    let s = at-steps b in
+    simp (frame (at-frame b), initial-passes b, alone s (setAccepted (m s .n) (m s .input)) _ (c .before .set-ok2 .ensures) ∙ not-true _ (c .if7 .taken))
 
 directions-ok-requires : tie.Need-directions-ok-requires
 directions-ok-requires c κs = search needs
 
-input-passes : (c : tie.Else3) → setAccepted (m (c .before .before .before .before .before .before) .n) (m (c .before .before .before .before .before .before) .input) ≡ true
-input-passes c =
-    let b = c .before .before .before .before .before .before in
-    alone (dimensionOk (m b .n)) (setAccepted (m b .n) (m b .input)) _ (dimension b) (c .before .set-accepted2 .ensures) ∙ not-false _ (c .if3 .left)
+module _ (c : tie.Else7) where
+  abbrev at-initial : tie.Else6
+  at-initial = c .before .before .before .before .before
 
-returns-4 : tie.Need-returns-4
-returns-4 c =
-    let at-input = c .before .before .before .before in
-    let at-initial = at-input .before .before .before in
-    let b = at-initial .before .before .before in
-    let guards = guardsOk (m b .directions) (m b .guards) (m b .watched) (m b .levels) in
-    let failed = sym (c .before .directions-ok .ensures) ∙ not-true _ (c .if4 .taken) in
-    sym (and-skip _ (frame b) ∙ and-skip _ (initial-passes at-initial) ∙ and-skip _ (input-passes at-input) ∙ and-stop guards failed)
+  abbrev own : Model
+  own = m (at-steps at-initial)
+
+  input-passes : setAccepted (own .n) (own .input) ≡ true
+  input-passes = alone (at-steps at-initial) (setAccepted (own .n) (own .input)) _ (c .before .set-ok2 .ensures) ∙ not-false _ (c .if7 .left)
+
+returns-8 : tie.Need-returns-8
+returns-8 c =
+    let b = c .before .before .before .before in
+    let guards = guardsOk (own b .directions) (own b .guards) (own b .watched) (own b .levels) in
+    let failed = sym (c .before .directions-ok .ensures) ∙ not-true _ (c .if8 .taken) in
+    sym (and-skip _ (frame (at-frame (at-initial b))) ∙ and-skip _ (initial-passes (at-initial b)) ∙ and-skip _ (input-passes b) ∙ and-stop guards failed)
 
 guards-ok-requires : tie.Need-guards-ok-requires
 guards-ok-requires c κs = search needs
 
-returns-5 : tie.Need-returns-5
-returns-5 c =
+returns-9 : tie.Need-returns-9
+returns-9 c =
     let at-directions = c .before .before .before .before .before in
-    let at-input = at-directions .before .before .before .before in
-    let at-initial = at-input .before .before .before in
-    let directions = sym (at-directions .before .directions-ok .ensures) ∙ not-false _ (at-directions .if4 .left) in
-    c .guards-ok .ensures ∙ sym (and-skip _ (frame (at-initial .before .before .before)) ∙ and-skip _ (initial-passes at-initial) ∙ and-skip _ (input-passes at-input) ∙ and-skip _ directions)
+    let b = at-directions .before .before .before .before in
+    let directions = sym (at-directions .before .directions-ok .ensures) ∙ not-false _ (at-directions .if8 .left) in
+    c .guards-ok .ensures ∙ sym (and-skip _ (frame (at-frame (at-initial b))) ∙ and-skip _ (initial-passes (at-initial b)) ∙ and-skip _ (input-passes b) ∙ and-skip _ directions)
 
 pub accepts-spec : {M : Type 1} → statement M
 accepts-spec =
     tie.close
     (tie.spec
-    frame-ok-requires
     returns
-    set-accepted-requires
     returns-2
-    set-accepted-requires-2
     returns-3
-    directions-ok-requires
     returns-4
+    matrix-ok-requires
+    returns-5
+    set-ok-requires
+    returns-6
+    set-ok-requires-2
+    returns-7
+    directions-ok-requires
+    returns-8
     guards-ok-requires
-    returns-5)
+    returns-9)

@@ -1,10 +1,14 @@
 -- `reachability::sets::checks::set_ok` meets its contract, test by test. Assumes nothing.
-use Rattle.integers.proofs.Basics.{_≡_, sym, _∙_, true, needs}
+use Rattle.integers.proofs.Basics.{_≡_, sym, ap, ap₂, _∙_, true, needs}
+use mathlib.Core.Bool.{_&&_}
 use borrow.Author.Tests.{lt-leb, le-leb, not-true, not-false}
 use lib.Dec.{leb}
 use Rattle.arrays.specs.Tests.{zeroOutside}
-use Rattle.reachability.specs.Sets.{countOk, reachOk, points}
-use Rattle.reachability.proofs.SetTests.{counted-of}
+use Rattle.integers.proofs.Booleans.{and-skip}
+use Rattle.stepping.specs.Refusals.{dimensionOk}
+use Rattle.reachability.specs.Sets.{countOk, orderedOk, reachOk, setOk, points}
+use Rattle.reachability.specs.declared.sets.Shape.{Shape}
+use Rattle.reachability.proofs.sets.Facts.{counted-of}
 use Rattle.reachability.proofs.sets.checks.set_ok.Statement.{statement}
 use Rattle.reachability.proofs.sets.checks.set_ok.Tie as tie
 
@@ -42,28 +46,61 @@ returns-4 c =
 outside : (c : tie.Else4) → zeroOutside (c .before .before .before .before .before .before .before .args .count) (c .before .before .before .before .before .before .before .args .n) (c .before .before .before .before .before .before .before .args .points .now) ≡ true
 outside c = sym (c .before .zero-outside .ensures) ∙ not-false _ (c .if4 .left)
 
-reach-ok-requires : tie.Need-reach-ok-requires
-reach-ok-requires c κs =
-    let at-count = c .before .before .before in
+reach-within-requires : tie.Need-reach-within-requires
+reach-within-requires c κs = search needs
+
+-- the count is from 1 to 16, so `reachWithin` is the test of the reach
+reach-is : (c : tie.After-reach-within) → c .reach-within .result ≡ reachOk (c .before .before .before .before .before .before .before .before .args .shape) (c .before .before .before .before .before .before .before .before .args .count) (points (c .before .before .before .before .before .before .before .before .args .points .now))
+reach-is c =
+    let at-count = c .before .before .before .before in
     let a = at-count .before .before .before .before .args in
-    counted-of (a .shape) (a .count) (counts at-count)
+    let counted = counted-of (a .shape) (a .count) (counts at-count) in
+    c .reach-within .ensures ∙ and-skip _ (ap₂ _&&_ (le-leb _ _ (counted .some)) (le-leb _ _ (counted .most)))
 
 returns-5 : tie.Need-returns-5
 returns-5 c =
     let at-outside = c .before .before in
     let at-count = at-outside .before .before .before in
-    simp (least (at-count .before .before), most (at-count .before .before), counts at-count, outside at-outside, sym (c .before .reach-ok .ensures) ∙ not-true _ (c .if5 .taken))
+    simp (least (at-count .before .before), most (at-count .before .before), counts at-count, outside at-outside, sym (reach-is (c .before)) ∙ not-true _ (c .if5 .taken))
 
-ordered-ok-requires : tie.Need-ordered-ok-requires
-ordered-ok-requires c κs = search needs
+enum-told : tie.Need-enum-told
+enum-told c = search needs
+
+corners-ordered-requires : tie.Need-corners-ordered-requires
+corners-ordered-requires c κs = search needs
+
+enum-told-2 : tie.Need-enum-told-2
+enum-told-2 c = search needs
+
+enum-told-3 : tie.Need-enum-told-3
+enum-told-3 c = search needs
+
+-- all but the order of a box's corners has passed
+ordered-left : (c : tie.Else5) → orderedOk (c .before .before .before .before .before .before .before .before .before .args .n) (c .before .before .before .before .before .before .before .before .before .args .shape) (points (c .before .before .before .before .before .before .before .before .before .args .points .now)) ≡ dimensionOk (c .before .before .before .before .before .before .before .before .before .args .n) && setOk (c .before .before .before .before .before .before .before .before .before .args .n) (c .before .before .before .before .before .before .before .before .before .args .shape) (c .before .before .before .before .before .before .before .before .before .args .count) (c .before .before .before .before .before .before .before .before .before .args .points .now)
+ordered-left c =
+    let at-outside = c .before .before in
+    let at-count = at-outside .before .before .before in
+    let b = at-count .before .before in
+    sym (and-skip _ (ap₂ _&&_ (least b) (most b)) ∙ and-skip _ (counts at-count) ∙ and-skip _ (outside at-outside) ∙ and-skip _ (sym (reach-is (c .before)) ∙ not-false _ (c .if5 .left)))
 
 returns-6 : tie.Need-returns-6
 returns-6 c =
-    let at-reach = c .before in
-    let at-outside = at-reach .before .before in
-    let at-count = at-outside .before .before .before in
-    let reach = sym (at-reach .before .reach-ok .ensures) ∙ not-false _ (at-reach .if5 .left) in
-    simp (least (at-count .before .before), most (at-count .before .before), counts at-count, outside at-outside, reach) (c .ordered-ok .ensures)
+    let at-reach = c .before .before .before in
+    let a = at-reach .before .before .before .before .before .before .before .before .before .args in
+    let b = at-reach .before .before .before .before .before .before .before in
+    c .corners-ordered .ensures ∙ and-skip _ (most b) ∙ ap (λ (s : Shape). orderedOk (a .n) s (points (a .points .now))) (sym (c .before .enum-told .given .1)) ∙ ordered-left at-reach
+
+returns-7 : tie.Need-returns-7
+returns-7 c =
+    let at-reach = c .before .before in
+    let a = at-reach .before .before .before .before .before .before .before .before .before .args in
+    ap (λ (s : Shape). orderedOk (a .n) s (points (a .points .now))) (sym (c .enum-told2 .given .1)) ∙ ordered-left at-reach
+
+returns-8 : tie.Need-returns-8
+returns-8 c =
+    let at-reach = c .before .before in
+    let a = at-reach .before .before .before .before .before .before .before .before .before .args in
+    ap (λ (s : Shape). orderedOk (a .n) s (points (a .points .now))) (sym (c .enum-told3 .given .1)) ∙ ordered-left at-reach
 
 pub set-ok-spec : {M : Type 1} → statement M
 set-ok-spec =
@@ -75,7 +112,12 @@ set-ok-spec =
     returns-3
     zero-outside-requires
     returns-4
-    reach-ok-requires
+    reach-within-requires
     returns-5
-    ordered-ok-requires
-    returns-6)
+    enum-told
+    corners-ordered-requires
+    enum-told-2
+    enum-told-3
+    returns-6
+    returns-7
+    returns-8)

@@ -1,9 +1,8 @@
--- `reachability::sets::reaches::sum_of_sizes` meets its contract: after k turns `sum` is the sum of the first k magnitudes. The
--- measure is what is left of the count. Assumes nothing.
-use Rattle.integers.proofs.Basics.{_≡_, sym, ap, ap₂, _∙_, ℕ, _+_, _*_, _-_, _≤_, arith, add-one, ℤ, natAbs}
+-- `reachability::sets::reaches::sum_of_sizes` meets its contract: `sum` is the running sum of the magnitudes. The measure is what is
+-- left of the count. Assumes nothing.
+use Rattle.integers.proofs.Basics.{ap, ap₂, subst, ℕ, _+_, _-_, _≤_, arith, ℤ, pos, natAbs}
 use mathlib.Core.List.{List}
-use Rattle.integers.specs.Sums.{sumℕ}
-use Rattle.integers.proofs.Sums.{sumℕ-zero, sumℕ-suc}
+use Rattle.integers.proofs.RunningSum.{RunningSum, running-start, running-more, running-doneℕ}
 use Rattle.reachability.specs.Sets.{points as pointsOf}
 use Rattle.reachability.proofs.sets.reaches.sum_of_sizes.Statement.{statement}
 use Rattle.reachability.proofs.sets.reaches.sum_of_sizes.Tie as tie
@@ -11,19 +10,14 @@ use Rattle.reachability.proofs.sets.reaches.sum_of_sizes.Tie as tie
 abbrev sizeAt : List ℤ → ℕ → ℕ → ℕ
 sizeAt xs i k = natAbs (pointsOf xs k i)
 
-record So (count : ℕ) (xs : List ℤ) (i sum k : ℕ) : Type 0 where
-  inside : k ≤ count
-  is : sum ≡ sumℕ k (sizeAt xs i)
-  small : sum ≤ k * 2147483648
-
 abbrev Inv-loop : tie.InvT-loop
-Inv-loop count points i sum₀ k₀ sum k = So count points i sum k
+Inv-loop count points i sum₀ j₀ sum j = RunningSum count (λ k. pos (sizeAt points i k)) 2147483648 j (pos sum)
 
 abbrev μ-loop : tie.MeasureT-loop
-μ-loop count points i sum₀ k₀ sum k = count - k
+μ-loop count points i sum₀ j₀ sum j = count - j
 
 loop-holds : tie.Need-loop-holds Inv-loop μ-loop
-loop-holds c = record { inside = omega arith; is = sym (sumℕ-zero (sizeAt (c .args .points .now) (c .args .i))); small = omega arith }
+loop-holds c = running-start (c .args .count) (λ k. pos (sizeAt (c .args .points .now) (c .args .i) k)) 2147483648
 
 size-requires : tie.Need-size-requires Inv-loop μ-loop
 size-requires c κs = (omega (arith, c .before .before .pre .0 .most, c .loop-test .taken), c .before .before .pre .1)
@@ -31,8 +25,8 @@ size-requires c κs = (omega (arith, c .before .before .pre .0 .most, c .loop-te
 add-sum : tie.Need-add-sum Inv-loop μ-loop
 add-sum c = omega (arith, c .before .before .loop .inv .small, c .size .ensures .1, c .before .before .before .pre .0 .most, c .before .loop-test .taken)
 
-add-k : tie.Need-add-k Inv-loop μ-loop
-add-k c = omega (arith, c .before .before .before .pre .0 .most)
+add-j : tie.Need-add-j Inv-loop μ-loop
+add-j c = omega (arith, c .before .before .before .pre .0 .most)
 
 loop-less : tie.Need-loop-less Inv-loop μ-loop
 loop-less c = omega arith
@@ -40,21 +34,10 @@ loop-less c = omega arith
 loop-again : tie.Need-loop-again Inv-loop μ-loop
 loop-again c =
     let at-loop = c .before .before in
-    let a = at-loop .before .args in
-    let k = at-loop .loop .k in
-    let f = sizeAt (a .points .now) (a .i) in
-    record {
-      inside = omega (arith, c .before .loop-test .taken);
-      is = ap₂ _+_ (at-loop .loop .inv .is) (c .size .ensures .0) ∙ sym (ap (λ (j : ℕ). sumℕ j f) (add-one k) ∙ sumℕ-suc k f);
-      small = omega (arith, at-loop .loop .inv .small, c .size .ensures .1);
-    }
+    running-more (at-loop .loop .inv) (c .before .loop-test .taken) (subst (λ (k : ℕ). k ≤ 2147483648) (c .size .ensures .0) (c .size .ensures .1)) (ap (λ (k : ℕ). pos (at-loop .loop .sum + k)) (c .size .ensures .0))
 
 returns : tie.Need-returns Inv-loop μ-loop
-returns c =
-    let a = c .before .before .args in
-    let inv = c .before .loop .inv in
-    let done : c .before .loop .k ≡ a .count = omega (arith, inv .inside, c .loop-test .left) in
-    inv .is ∙ ap (λ (j : ℕ). sumℕ j (sizeAt (a .points .now) (a .i))) done
+returns c = running-doneℕ (c .before .loop .inv) (omega arith)
 
 pub sum-of-sizes-spec : {M : Type 1} → statement M
 sum-of-sizes-spec =
@@ -65,7 +48,7 @@ sum-of-sizes-spec =
     loop-holds
     size-requires
     add-sum
-    add-k
+    add-j
     loop-less
     loop-again
     returns)

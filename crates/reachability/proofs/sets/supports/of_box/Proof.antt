@@ -1,15 +1,17 @@
--- `reachability::sets::supports::of_box` meets its contract: after i turns `sum` is the sum of the first i products with the
--- corner taken. The measure is what is left of six. Assumes nothing.
-use Rattle.integers.proofs.Basics.{_≡_, sym, ap, ap₂, subst, _∙_, Bool, true, false, ℕ, _+_, _*_, _-_, _≤_, arith, add-one, needs, ℤ, pos, natAbs, _+ℤ_, _*ℤ_, w32, w64, toZ, ofZ}
+-- `reachability::sets::supports::of_box` meets its contract: `sum` is the running sum of the products with the corner taken. The measure is what is
+-- left of six. Assumes nothing.
+use Rattle.integers.proofs.Basics.{_≡_, sym, ap, ap₂, subst, _∙_, Bool, true, false, ℕ, _+_, _*_, _-_, _≤_, arith, needs, ℤ, pos, natAbs, _+ℤ_, _*ℤ_, w32, w64, toZ, ofZ}
 use mathlib.Core.Bool.{cond}
 use mathlib.Core.List.{List}
 use native.Mathlib.Nat.{zero-add}
 use lib.Signed.{ltZ}
-use Rattle.integers.specs.Sums.{vector, sum as sumOf}
-use Rattle.integers.proofs.Order.{natAbs-add, natAbs-mul-le}
-use Rattle.integers.proofs.Sums.{sum-zero, sum-suc}
+use Rattle.integers.specs.Sums.{vector}
+use Rattle.integers.proofs.Order.{natAbs-mul-le}
+use Rattle.integers.proofs.RunningSum.{RunningSum, running-start, running-more, running-done}
 use Rattle.integers.proofs.Machine.{read-given}
-use Rattle.reachability.specs.Sets.{points as pointsOf}
+use Rattle.stepping.specs.Limits.{growthLimit}
+use Rattle.reachability.specs.Sets.{reachLimit, points as pointsOf}
+use Rattle.reachability.specs.SetsInner.{productLimit}
 use Rattle.reachability.proofs.sets.supports.of_box.Statement.{statement}
 use Rattle.reachability.proofs.sets.supports.of_box.Tie as tie
 
@@ -19,20 +21,14 @@ cornerAt xs r i = cond (ltZ (pos 0) (vector r i)) (pointsOf xs 1 i) (pointsOf xs
 abbrev product : List ℤ → List ℤ → ℕ → ℤ
 product xs r i = vector r i *ℤ cornerAt xs r i
 
-record So (xs r : List ℤ) (sum i : ℕ) : Type 0 where
-  inside : i ≤ 6
-  is : toZ w64 sum ≡ sumOf i (product xs r)
-  small : natAbs (toZ w64 sum) ≤ i * (1073741824 * 1048576)
-
 abbrev Inv-loop : tie.InvT-loop
-Inv-loop points r sum₀ i₀ sum i = So points r sum i
+Inv-loop points r sum₀ i₀ sum i = RunningSum 6 (product points r) productLimit i (toZ w64 sum)
 
 abbrev μ-loop : tie.MeasureT-loop
 μ-loop points r sum₀ i₀ sum i = 6 - i
 
 loop-holds : tie.Need-loop-holds Inv-loop μ-loop
-loop-holds c =
-    record { inside = omega arith; is = sym (sum-zero (product (c .args .points .now) (c .args .r .now))); small = omega arith }
+loop-holds c = running-start 6 (product (c .args .points .now) (c .args .r .now)) productLimit
 
 mul-corner : tie.Need-mul-corner Inv-loop μ-loop
 mul-corner c = omega arith
@@ -66,14 +62,17 @@ element-copy-out-times-add c = omega arith
 
 -- the corner and the value of a turn
 module _ (c : tie.After-times-add-arg Inv-loop μ-loop) where
+  abbrev at-loop : tie.At-loop Inv-loop μ-loop
+  at-loop = c .before .before .before .before .before .before
+
   abbrev xs : List ℤ
-  xs = c .before .before .before .before .before .before .before .args .points .now
+  xs = at-loop .before .args .points .now
 
   abbrev r : List ℤ
-  r = c .before .before .before .before .before .before .before .args .r .now
+  r = at-loop .before .args .r .now
 
   abbrev i : ℕ
-  i = c .before .before .before .before .before .before .loop .i
+  i = at-loop .loop .i
 
   value : toZ w64 (ofZ w64 (vector r i)) ≡ vector r i
   value = read-given w64 (vector r i) (c .times-add-arg .given)
@@ -91,27 +90,22 @@ module _ (c : tie.After-times-add-arg Inv-loop μ-loop) where
       ∙ ap₂ (λ (x y : ℤ). cond (ltZ (pos 0) (toZ w64 (ofZ w64 (vector r i)))) x y) high low
       ∙ ap (λ (z : ℤ). cond (ltZ (pos 0) z) (pointsOf xs 1 i) (pointsOf xs 0 i)) value
 
-  value-small : natAbs (vector r i) ≤ 1073741824
-  value-small = c .before .before .before .before .before .before .before .pre .values i (omega arith)
+  value-small : natAbs (vector r i) ≤ growthLimit
+  value-small = at-loop .before .pre .values i (omega arith)
 
-  corner-small : natAbs (cornerAt xs r i) ≤ 1048576
+  corner-small : natAbs (cornerAt xs r i) ≤ reachLimit
   corner-small = either (ltZ (pos 0) (vector r i))
     where
-      either : (b : Bool) → natAbs (cond b (pointsOf xs 1 i) (pointsOf xs 0 i)) ≤ 1048576
-      either true = c .before .before .before .before .before .before .before .pre .coordinates (6 * 1 + i)
-      either false = c .before .before .before .before .before .before .before .pre .coordinates (6 * 0 + i)
-
-  grown : natAbs (toZ w64 (c .before .before .before .before .before .before .loop .sum) +ℤ product xs r i) ≤ (i + 1) * (1073741824 * 1048576)
-  grown =
-      omega (arith, natAbs-add (toZ w64 (c .before .before .before .before .before .before .loop .sum)) (product xs r i), natAbs-mul-le (vector r i) (cornerAt xs r i) value-small corner-small, c .before .before .before .before .before .before .loop .inv .small)
+      either : (b : Bool) → natAbs (cond b (pointsOf xs 1 i) (pointsOf xs 0 i)) ≤ reachLimit
+      either true = at-loop .before .pre .coordinates (6 * 1 + i)
+      either false = at-loop .before .pre .coordinates (6 * 0 + i)
 
 times-add-requires : tie.Need-times-add-requires Inv-loop μ-loop
 times-add-requires c κs =
-    let at-loop = c .before .before .before .before .before .before in
     record {
-      sum-small = omega (arith, at-loop .loop .inv .small, c .before .before .before .before .before .loop-test .taken);
-      value-small = subst (λ (z : ℤ). natAbs z ≤ 1073741824) (sym (value c)) (value-small c);
-      coordinate-small = subst (λ (z : ℤ). natAbs z ≤ 1048576) (sym (taken c)) (corner-small c);
+      sum-small = omega (arith, at-loop c .loop .inv .small, c .before .before .before .before .before .loop-test .taken);
+      value-small = subst (λ (z : ℤ). natAbs z ≤ growthLimit) (sym (value c)) (value-small c);
+      coordinate-small = subst (λ (z : ℤ). natAbs z ≤ reachLimit) (sym (taken c)) (corner-small c);
     }
 
 add-i : tie.Need-add-i Inv-loop μ-loop
@@ -123,21 +117,11 @@ loop-less c = omega arith
 loop-again : tie.Need-loop-again Inv-loop μ-loop
 loop-again c =
     let b = c .before in
-    let at-loop = b .before .before .before .before .before .before in
-    let f = product (xs b) (r b) in
-    let added = read-given w64 (c .times-add .result) (c .times-add .ok) ∙ c .times-add .ensures ∙ ap₂ (λ (x y : ℤ). toZ w64 (at-loop .loop .sum) +ℤ x *ℤ y) (value b) (taken b) in
-    record {
-      inside = omega arith;
-      is = added ∙ ap (λ (z : ℤ). z +ℤ f (i b)) (at-loop .loop .inv .is) ∙ sym (ap (λ (j : ℕ). sumOf j f) (add-one (i b)) ∙ sum-suc (i b) f);
-      small = subst (λ (z : ℤ). natAbs z ≤ (i b + 1) * (1073741824 * 1048576)) (sym added) (grown b);
-    }
+    running-more (at-loop b .loop .inv) (b .before .before .before .before .before .loop-test .taken) (natAbs-mul-le (vector (r b) (i b)) (cornerAt (xs b) (r b) (i b)) (value-small b) (corner-small b))
+    (read-given w64 (c .times-add .result) (c .times-add .ok) ∙ c .times-add .ensures ∙ ap₂ (λ (x y : ℤ). toZ w64 (at-loop b .loop .sum) +ℤ x *ℤ y) (value b) (taken b))
 
 returns : tie.Need-returns Inv-loop μ-loop
-returns c =
-    let a = c .before .before .args in
-    let inv = c .before .loop .inv in
-    let done : c .before .loop .i ≡ 6 = omega (arith, inv .inside, c .loop-test .left) in
-    inv .is ∙ ap (λ (j : ℕ). sumOf j (product (a .points .now) (a .r .now))) done
+returns c = running-done (c .before .loop .inv) (omega arith)
 
 pub of-box-spec : {M : Type 1} → statement M
 of-box-spec =

@@ -1,31 +1,22 @@
--- `reachability::sets::supports::of_zonotope` meets its contract: after the points below k, `sum` is what the centre gives and the
--- magnitudes of k - 1 generators. The measure is what is left of the count. Assumes nothing.
-use Rattle.integers.proofs.Basics.{_≡_, sym, ap, subst, _∙_, ℕ, suc, _+_, _*_, _-_, _≤_, arith, ℤ, pos, natAbs, _+ℤ_, w64, toZ, ofZ}
+-- `reachability::sets::supports::of_zonotope` meets its contract: `sum` is the support of the points passed, the centre first. The
+-- measure is what is left of the count. Assumes nothing.
+use Rattle.integers.proofs.Basics.{_≡_, sym, ap, ap₂, subst, _∙_, ℕ, _+_, _*_, _-_, _≤_, arith, needs, ℤ, pos, natAbs, _+ℤ_, w64, SFits, toZ, ofZ, toZ-ofZ}
 use mathlib.Core.List.{List}
-use Rattle.integers.specs.Sums.{vector, dot as dotOf, sumℕ}
-use Rattle.integers.proofs.Order.{natAbs-add}
-use Rattle.integers.proofs.Sums.{sumℕ-zero, sumℕ-suc}
-use Rattle.integers.proofs.Machine.{read-given}
-use Rattle.reachability.specs.Sets.{points as pointsOf}
-use Rattle.reachability.specs.Inner.{Tested}
-use Rattle.reachability.proofs.SetBounds.{dot-small}
+use native.Mathlib.Nat.{le-trans}
+use mir.Facts.{toZ-pos}
+use lib.Dec.{lit<}
+use Rattle.integers.specs.Sums.{vector, dot as dotOf}
+use Rattle.integers.proofs.Machine.{sfits-of-natAbs, read-given}
+use Rattle.reachability.specs.Sets.{supportOf, points as pointsOf}
+use Rattle.reachability.specs.SetsInner.{termLimit}
+use Rattle.reachability.specs.declared.sets.Shape.the-variants.{Zonotope}
+use Rattle.reachability.proofs.sets.Bounds.{dot-small}
+use Rattle.reachability.proofs.sets.SupportSoFar.{SupportSoFar, zonotope-one, zonotope-more, zonotope-small, support-more, support-done}
 use Rattle.reachability.proofs.sets.supports.of_zonotope.Statement.{statement}
 use Rattle.reachability.proofs.sets.supports.of_zonotope.Tie as tie
 
-abbrev met : List ℤ → List ℤ → ℕ → ℤ
-met xs r k = dotOf 6 (vector r) (pointsOf xs k)
-
-abbrev spread : List ℤ → List ℤ → ℕ → ℕ
-spread xs r k = natAbs (met xs r (suc k))
-
-record So (count : ℕ) (xs r : List ℤ) (sum k : ℕ) : Type 0 where
-  some : 1 ≤ k
-  inside : k ≤ count
-  is : toZ w64 sum ≡ met xs r 0 +ℤ pos (sumℕ (k - 1) (spread xs r))
-  small : natAbs (toZ w64 sum) ≤ k * (6 * (1073741824 * 1048576))
-
 abbrev Inv-loop : tie.InvT-loop
-Inv-loop count points r sum₀ k₀ sum k = So count points r sum k
+Inv-loop count points r sum₀ k₀ sum k = SupportSoFar Zonotope count points r k (toZ w64 sum)
 
 abbrev μ-loop : tie.MeasureT-loop
 μ-loop count points r sum₀ k₀ sum k = count - k
@@ -36,74 +27,63 @@ dot-requires c κs = (omega arith, c .pre .1)
 loop-holds : tie.Need-loop-holds Inv-loop μ-loop
 loop-holds c =
     let a = c .before .args in
-    let read = read-given w64 (c .dot .result) (c .dot .ok) ∙ c .dot .ensures in
-    record {
-      some = omega arith;
-      inside = c .before .pre .0 .some;
-      is = read ∙ sym (ap (λ (s : ℕ). met (a .points .now) (a .r .now) 0 +ℤ pos s) (sumℕ-zero (spread (a .points .now) (a .r .now))) ∙ lib.IntN.+ℤ-idr (met (a .points .now) (a .r .now) 0));
-      small = subst (λ (z : ℤ). natAbs z ≤ 1 * (6 * (1073741824 * 1048576))) (sym read) (dot-small (a .points .now) (a .r .now) 0 (c .before .pre .1));
-    }
+    record { some = omega arith; inside = c .before .pre .0 .some; is = read-given w64 (c .dot .result) (c .dot .ok) ∙ c .dot .ensures ∙ sym (zonotope-one 6 (pointsOf (a .points .now)) (vector (a .r .now))) }
 
 dot-requires-2 : tie.Need-dot-requires-2 Inv-loop μ-loop
 dot-requires-2 c κs =
     let start = c .before .before .before in
     (omega (arith, start .pre .0 .most, c .loop-test .taken), start .pre .1)
 
+magnitude-requires : tie.Need-magnitude-requires Inv-loop μ-loop
+magnitude-requires c κs = search needs
+
 -- what a turn adds
-module _ (c : tie.After-dot2 Inv-loop μ-loop) where
+module _ (c : tie.After-magnitude Inv-loop μ-loop) where
+  abbrev at-loop : tie.At-loop Inv-loop μ-loop
+  at-loop = c .before .before .before
+
+  abbrev start : tie.Start Inv-loop μ-loop
+  start = at-loop .before .before
+
   abbrev xs : List ℤ
-  xs = c .before .before .before .before .args .points .now
+  xs = start .args .points .now
 
   abbrev r : List ℤ
-  r = c .before .before .before .before .args .r .now
+  r = start .args .r .now
 
   abbrev k : ℕ
-  k = c .before .before .loop .k
+  k = at-loop .loop .k
 
-  read-dot : toZ w64 (ofZ w64 (c .dot2 .result)) ≡ met xs r k
-  read-dot = read-given w64 (c .dot2 .result) (c .dot2 .ok) ∙ c .dot2 .ensures
+  size-is : c .magnitude .result ≡ natAbs (dotOf 6 (vector r) (pointsOf xs k))
+  size-is = c .magnitude .ensures ∙ ap natAbs (read-given w64 (c .before .dot2 .result) (c .before .dot2 .ok) ∙ c .before .dot2 .ensures)
 
-  tested : Tested xs r
-  tested = c .before .before .before .before .pre .1
+  size-small : c .magnitude .result ≤ termLimit
+  size-small = subst (λ (s : ℕ). s ≤ termLimit) (sym size-is) (dot-small xs r k (start .pre .1))
 
-magnitude-add-requires : tie.Need-magnitude-add-requires Inv-loop μ-loop
-magnitude-add-requires c κs =
-    record {
-      sum-small = omega (arith, c .before .before .loop .inv .small, c .before .before .before .before .pre .0 .most, c .before .loop-test .taken);
-      dot-small = subst (λ (z : ℤ). natAbs z ≤ 6 * (1073741824 * 1048576)) (sym (read-dot c)) (dot-small (xs c) (r c) (k c) (tested c));
-    }
+  sum-is : toZ w64 (at-loop .loop .sum) +ℤ toZ w64 (c .magnitude .result) ≡ supportOf 6 Zonotope (k + 1) (pointsOf xs) (vector r)
+  sum-is = ap₂ _+ℤ_ (at-loop .loop .inv .is) (toZ-pos w64 {n = c .magnitude .result} (omega (arith, size-small)) ∙ ap pos size-is) ∙ sym (zonotope-more 6 (pointsOf xs) (vector r) k (at-loop .loop .inv .some))
+
+  sum-fits : SFits w64 (supportOf 6 Zonotope (k + 1) (pointsOf xs) (vector r))
+  sum-fits = sfits-of-natAbs w64 {b = 16 * termLimit} (le-trans (zonotope-small xs r (k + 1) (omega arith) (start .pre .1)) (omega (arith, start .pre .0 .most, c .before .before .loop-test .taken))) (lit< tt)
+
+cast-size : tie.Need-cast-size Inv-loop μ-loop
+cast-size c = record { sfits = omega (arith, size-small c) }
+
+add-sum : tie.Need-add-sum Inv-loop μ-loop
+add-sum c = subst (SFits w64) (sym (sum-is c)) (sum-fits c)
 
 add-k : tie.Need-add-k Inv-loop μ-loop
-add-k c = omega (arith, c .before .before .before .before .before .pre .0 .most)
+add-k c = omega (arith, start c .pre .0 .most)
 
 loop-less : tie.Need-loop-less Inv-loop μ-loop
 loop-less c = omega arith
 
 loop-again : tie.Need-loop-again Inv-loop μ-loop
 loop-again c =
-    let b = c .before in
-    let inv = b .before .before .loop .inv in
-    let f = spread (xs b) (r b) in
-    let added = read-given w64 (c .magnitude-add .result) (c .magnitude-add .ok) ∙ c .magnitude-add .ensures ∙ ap (λ (z : ℤ). toZ w64 (b .before .before .loop .sum) +ℤ pos (natAbs z)) (read-dot b) in
-    let last : suc (k b - 1) ≡ k b = omega (arith, inv .some) in
-    let next : k b + 1 - 1 ≡ suc (k b - 1) = omega (arith, inv .some) in
-    let sums = sym (ap (λ (j : ℕ). sumℕ j f) next ∙ sumℕ-suc (k b - 1) f ∙ ap (λ (j : ℕ). sumℕ (k b - 1) f + natAbs (met (xs b) (r b) j)) last) in
-    record {
-      some = omega (arith, inv .some);
-      inside = omega (arith, b .before .loop-test .taken);
-      is = added ∙ ap (λ (z : ℤ). z +ℤ pos (natAbs (met (xs b) (r b) (k b)))) (inv .is) ∙ lib.IntN.+ℤ-assoc (met (xs b) (r b) 0) (pos (sumℕ (k b - 1) f)) (pos (natAbs (met (xs b) (r b) (k b)))) ∙ ap (λ (j : ℕ). met (xs b) (r b) 0 +ℤ pos j) sums;
-      small = subst (λ (z : ℤ). natAbs z ≤ (k b + 1) * (6 * (1073741824 * 1048576))) (sym added) (grown b);
-    }
-  where
-    grown : (b : tie.After-dot2 Inv-loop μ-loop) → natAbs (toZ w64 (b .before .before .loop .sum) +ℤ pos (natAbs (met (xs b) (r b) (k b)))) ≤ (k b + 1) * (6 * (1073741824 * 1048576))
-    grown b = omega (arith, natAbs-add (toZ w64 (b .before .before .loop .sum)) (pos (natAbs (met (xs b) (r b) (k b)))), dot-small (xs b) (r b) (k b) (tested b), b .before .before .loop .inv .small)
+    support-more (at-loop c .loop .inv) (c .before .before .loop-test .taken) (ap (λ (z : ℤ). toZ w64 (ofZ w64 z)) (sum-is c) ∙ toZ-ofZ (sum-fits c))
 
 returns : tie.Need-returns Inv-loop μ-loop
-returns c =
-    let a = c .before .before .before .args in
-    let inv = c .before .loop .inv in
-    let done : c .before .loop .k ≡ a .count = omega (arith, inv .inside, c .loop-test .left) in
-    inv .is ∙ ap (λ (j : ℕ). met (a .points .now) (a .r .now) 0 +ℤ pos (sumℕ (j - 1) (spread (a .points .now) (a .r .now)))) done
+returns c = support-done (c .before .loop .inv) (c .loop-test .left)
 
 pub of-zonotope-spec : {M : Type 1} → statement M
 of-zonotope-spec =
@@ -114,7 +94,9 @@ of-zonotope-spec =
     dot-requires
     loop-holds
     dot-requires-2
-    magnitude-add-requires
+    magnitude-requires
+    cast-size
+    add-sum
     add-k
     loop-less
     loop-again

@@ -1,73 +1,92 @@
--- `reachability::sweep::rows::errors_of` meets its contract: after i turns `sum` is the sum of the first i products. The measure is
--- what is left of six. Assumes nothing.
-use Rattle.integers.proofs.Basics.{_≡_, sym, ap, ap₂, subst, _∙_, ℕ, _+_, _*_, _-_, _≤_, arith, add-one, ℤ, natAbs, w64, toZ, ofZ}
+-- `reachability::sweep::rows::errors_of` meets its contract: `sum` is the running sum of the products. The measure is what is left
+-- of six. Assumes nothing.
+use Rattle.integers.proofs.Basics.{_≡_, sym, ap, ap₂, subst, ℕ, _+_, _*_, _-_, _≤_, _<_, arith, ℤ, pos, natAbs, w64, Fits, toZ, ofZ}
+use Prim.Native.Nat.{_^_}
 use mathlib.Core.List.{List}
 use native.Mathlib.Nat.{mul-le-mul}
-use lib.Dec.{T}
+use lib.Dec.{T, lit<}
 use lib.Signed.{nonNeg}
-use Rattle.integers.specs.Sums.{vector, magnitudes, sumℕ}
-use Rattle.integers.proofs.Sums.{sumℕ-zero, sumℕ-suc}
+use Rattle.integers.specs.Sums.{vector, magnitudes}
 use Rattle.integers.proofs.Machine.{read-given}
+use Rattle.integers.proofs.RunningSum.{RunningSum, running-start, running-more, running-doneℕ}
+use Rattle.stepping.specs.Limits.{errorLimit}
+use Rattle.reachability.specs.Sets.{reachLimit}
 use Rattle.reachability.proofs.sweep.rows.errors_of.Statement.{statement}
 use Rattle.reachability.proofs.sweep.rows.errors_of.Tie as tie
 
 abbrev product : List ℤ → List ℤ → ℕ → ℕ
 product e w i = magnitudes e i * magnitudes w i
 
-record So (e w : List ℤ) (sum i : ℕ) : Type 0 where
-  inside : i ≤ 6
-  is : sum ≡ sumℕ i (product e w)
-  small : sum ≤ i * (1073741824 * 1048576)
-
 abbrev Inv-loop : tie.InvT-loop
-Inv-loop e reaches sum₀ i₀ sum i = So e reaches sum i
+Inv-loop e reaches sum₀ i₀ sum i = RunningSum 6 (λ j. pos (product e reaches j)) (errorLimit * reachLimit) i (pos sum)
 
 abbrev μ-loop : tie.MeasureT-loop
 μ-loop e reaches sum₀ i₀ sum i = 6 - i
 
 loop-holds : tie.Need-loop-holds Inv-loop μ-loop
-loop-holds c = record { inside = omega arith; is = sym (sumℕ-zero (product (c .args .e .now) (c .args .reaches .now))); small = omega arith }
+loop-holds c = running-start 6 (λ j. pos (product (c .args .e .now) (c .args .reaches .now) j)) (errorLimit * reachLimit)
 
-mul-error-add : tie.Need-mul-error-add Inv-loop μ-loop
-mul-error-add c = omega arith
+-- a number from 0 on, read from its bits and cast
+natural-cast : {z : ℤ} {b : ℕ} → toZ w64 (ofZ w64 z) ≡ z → T (nonNeg z) → natAbs z ≤ b → b < 2 ^ 64 → T (nonNeg (toZ w64 (ofZ w64 z))) × Fits w64 (natAbs (toZ w64 (ofZ w64 z)))
+natural-cast {z} {b} e n h k = subst (λ (x : ℤ). T (nonNeg x) × Fits w64 (natAbs x)) (sym e) (n, record { fits = omega (arith, h, k) })
 
-element-copy-out-error-add : tie.Need-element-copy-out-error-add Inv-loop μ-loop
-element-copy-out-error-add c = omega arith
+mul-sum : tie.Need-mul-sum Inv-loop μ-loop
+mul-sum c = omega arith
 
-mul-error-add-2 : tie.Need-mul-error-add-2 Inv-loop μ-loop
-mul-error-add-2 c = omega arith
+element-copy-out-sum : tie.Need-element-copy-out-sum Inv-loop μ-loop
+element-copy-out-sum c = omega arith
 
-element-copy-out-error-add-2 : tie.Need-element-copy-out-error-add-2 Inv-loop μ-loop
-element-copy-out-error-add-2 c = omega arith
+read-e : (c : tie.After-sum Inv-loop μ-loop) → toZ w64 (ofZ w64 (vector (c .before .before .before .args .e .now) (c .before .before .loop .i))) ≡ vector (c .before .before .before .args .e .now) (c .before .before .loop .i)
+read-e c = read-given w64 _ (c .sum .given)
+
+cast-sum : tie.Need-cast-sum Inv-loop μ-loop
+cast-sum c =
+    let pre = c .before .before .before .pre in
+    let turn = c .before .loop-test .taken in
+    natural-cast (read-e c) (pre .natural _ turn) (pre .small _ turn) (lit< tt)
+
+mul-sum-2 : tie.Need-mul-sum-2 Inv-loop μ-loop
+mul-sum-2 c = omega arith
+
+element-copy-out-sum-2 : tie.Need-element-copy-out-sum-2 Inv-loop μ-loop
+element-copy-out-sum-2 c = omega arith
 
 -- the two factors of a turn
-module _ (c : tie.After-error-add-arg2 Inv-loop μ-loop) where
+module _ (c : tie.After-sum2 Inv-loop μ-loop) where
+  abbrev start : tie.Start Inv-loop μ-loop
+  start = c .before .before .before .before
+
   abbrev e : List ℤ
-  e = c .before .before .before .before .args .e .now
+  e = start .args .e .now
 
   abbrev w : List ℤ
-  w = c .before .before .before .before .args .reaches .now
+  w = start .args .reaches .now
 
   abbrev i : ℕ
   i = c .before .before .before .loop .i
 
-  read-e : toZ w64 (ofZ w64 (vector e i)) ≡ vector e i
-  read-e = read-given w64 (vector e i) (c .before .error-add-arg .given)
-
   read-w : toZ w64 (ofZ w64 (vector w i)) ≡ vector w i
-  read-w = read-given w64 (vector w i) (c .error-add-arg2 .given)
+  read-w = read-given w64 (vector w i) (c .sum2 .given)
 
-error-add-requires : tie.Need-error-add-requires Inv-loop μ-loop
-error-add-requires c κs =
-    let pre = c .before .before .before .before .pre in
+  product-is : natAbs (toZ w64 (ofZ w64 (vector e i))) * natAbs (toZ w64 (ofZ w64 (vector w i))) ≡ product e w i
+  product-is = ap₂ (λ (x y : ℤ). natAbs x * natAbs y) (read-e (c .before)) read-w
+
+  product-small : product e w i ≤ errorLimit * reachLimit
+  product-small =
+      let turn = c .before .before .loop-test .taken in
+      mul-le-mul (start .pre .small i turn) (start .pre .reach-small i turn)
+
+cast-sum-2 : tie.Need-cast-sum-2 Inv-loop μ-loop
+cast-sum-2 c =
     let turn = c .before .before .loop-test .taken in
-    record {
-      sum-small = omega (arith, c .before .before .before .loop .inv .small, turn);
-      natural = subst (λ (z : ℤ). T (nonNeg z)) (sym (read-e c)) (pre .natural (i c) turn);
-      small = subst (λ (z : ℤ). natAbs z ≤ 1073741824) (sym (read-e c)) (pre .small (i c) turn);
-      reach-natural = subst (λ (z : ℤ). T (nonNeg z)) (sym (read-w c)) (pre .reach-natural (i c) turn);
-      reach-small = subst (λ (z : ℤ). natAbs z ≤ 1048576) (sym (read-w c)) (pre .reach-small (i c) turn);
-    }
+    natural-cast (read-w c) (start c .pre .reach-natural _ turn) (start c .pre .reach-small _ turn) (lit< tt)
+
+mul-sum-3 : tie.Need-mul-sum-3 Inv-loop μ-loop
+mul-sum-3 c = omega (arith, product-is c, product-small c)
+
+add-sum : tie.Need-add-sum Inv-loop μ-loop
+add-sum c =
+    omega (arith, product-is c, product-small c, c .before .before .before .loop .inv .small, c .before .before .loop-test .taken)
 
 add-i : tie.Need-add-i Inv-loop μ-loop
 add-i c = omega arith
@@ -77,24 +96,11 @@ loop-less c = omega arith
 
 loop-again : tie.Need-loop-again Inv-loop μ-loop
 loop-again c =
-    let b = c .before in
-    let pre = b .before .before .before .before .pre in
-    let turn = b .before .before .loop-test .taken in
-    let inv = b .before .before .before .loop .inv in
-    let f = product (e b) (w b) in
-    let added = c .error-add .ensures ∙ ap₂ (λ (x y : ℤ). b .before .before .before .loop .sum + natAbs x * natAbs y) (read-e b) (read-w b) in
-    record {
-      inside = omega arith;
-      is = added ∙ ap (λ (k : ℕ). k + f (i b)) (inv .is) ∙ sym (ap (λ (j : ℕ). sumℕ j f) (add-one (i b)) ∙ sumℕ-suc (i b) f);
-      small = omega (arith, added, mul-le-mul (pre .small (i b) turn) (pre .reach-small (i b) turn), inv .small);
-    }
+    let at-loop = c .before .before .before in
+    running-more (at-loop .loop .inv) (c .before .before .loop-test .taken) (product-small c) (ap (λ (k : ℕ). pos (at-loop .loop .sum + k)) (product-is c))
 
 returns : tie.Need-returns Inv-loop μ-loop
-returns c =
-    let a = c .before .before .args in
-    let inv = c .before .loop .inv in
-    let done : c .before .loop .i ≡ 6 = omega (arith, inv .inside, c .loop-test .left) in
-    inv .is ∙ ap (λ (j : ℕ). sumℕ j (product (a .e .now) (a .reaches .now))) done
+returns c = running-doneℕ (c .before .loop .inv) (omega arith)
 
 pub errors-of-spec : {M : Type 1} → statement M
 errors-of-spec =
@@ -103,11 +109,14 @@ errors-of-spec =
     Inv-loop
     μ-loop
     loop-holds
-    mul-error-add
-    element-copy-out-error-add
-    mul-error-add-2
-    element-copy-out-error-add-2
-    error-add-requires
+    mul-sum
+    element-copy-out-sum
+    cast-sum
+    mul-sum-2
+    element-copy-out-sum-2
+    cast-sum-2
+    mul-sum-3
+    add-sum
     add-i
     loop-less
     loop-again

@@ -1,14 +1,10 @@
 -- `reachability::sweep::rows::fill` meets its contract: what it hands over is the model's own. Assumes nothing.
-use Rattle.integers.proofs.Basics.{_≡_, refl, ap, _∙_, Bool, ℕ, _≤_, needs, ℤ, pos, negsuc, _*ℤ_}
-use mathlib.Core.Bool.{_&&_}
+use Rattle.integers.proofs.Basics.{_≡_, refl, ap, _∙_, ℕ, needs, ℤ, pos, _*ℤ_}
 use mathlib.Core.List.{List}
-use borrow.Author.Tests.{leb-true}
-use lib.Dec.{leb}
+use native.Mathlib.Nat.{lt-of-lt-of-le}
 use Rattle.integers.specs.Sums.{vector, matrix, tabulate}
 use Rattle.integers.proofs.Machine.{getD-tabulate, tabulate-cong}
-use Rattle.arrays.specs.Tests.{zeroOutside, allBetween}
-use Rattle.arrays.proofs.Laws.{and-true}
-use Rattle.reachability.specs.Limits.{someNonzero}
+use Rattle.stepping.specs.Limits.{directionUnit}
 use Rattle.stepping.specs.Recurrence.{firstR}
 use Rattle.reachability.specs.declared.model.Model.{Model}
 use Rattle.reachability.proofs.model.Facts.{ModelFacts, model-facts}
@@ -28,11 +24,10 @@ reaches-of-requires-2 c κs =
     let f = facts (c .before .before .before .before .before .before .before .before .before) in
     (f .input .counted, f .input .reach-small)
 
--- the rest of the test of the directions
 row-requires : tie.Need-row-requires
 row-requires c κs =
     let start = c .before .before .before .before .before .before .before .before .before .before .before in
-    native.Mathlib.Nat.lt-of-lt-of-le (start .pre .inside) (facts start .directions-most)
+    lt-of-lt-of-le (start .pre .inside) (facts start .directions-most)
 
 first-requires : tie.Need-first-requires
 first-requires c κs = search needs
@@ -40,7 +35,7 @@ first-requires c κs = search needs
 -- the first working direction of the row is that of the direction
 first-own : (m : Model) (k : ℕ) (d r : List ℤ) → d ≡ tabulate 6 (matrix (m .entries) k) → r ≡ tabulate 6 (firstR (vector d)) → r ≡ tabulate 6 (firstR (matrix (m .entries) k))
 first-own m k d r p q =
-    q ∙ tabulate-cong 6 (λ i h. ap (λ (z : ℤ). pos 1048576 *ℤ z) (ap (λ (l : List ℤ). vector l i) p ∙ getD-tabulate 6 (matrix (m .entries) k) i (pos 0) h))
+    q ∙ tabulate-cong 6 (λ i h. ap (λ (z : ℤ). pos directionUnit *ℤ z) (ap (λ (l : List ℤ). vector l i) p ∙ getD-tabulate 6 (matrix (m .entries) k) i (pos 0) h))
 
 fill-rows-requires : tie.Need-fill-rows-requires
 fill-rows-requires c κs =

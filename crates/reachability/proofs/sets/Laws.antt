@@ -14,7 +14,7 @@ use Rattle.integers.specs.Sums.{sum, sumℕ, maxℕ, dot}
 use Rattle.integers.proofs.SignedParts.{v, #, neg, _⊕_, _⊗_, le!, eq!, le?, abs!, abs?, natAbs-parts}
 use Rattle.integers.proofs.Order.{⩽-refl, ⩽-of-eq, ⩽-trans, ⩽-add, ⩽-scale, ⩽-turn, ⩽-of-leZ, lt-of-ltZ, le-of-ltZ-false, ⩽-natAbs, natAbs-mul, natAbs-add}
 use Rattle.integers.proofs.Sums.{sum-cong, sum-scale, sum-⩽, sumℕ-le, sumℕ-scale, sumℕ-cong, natAbs-sum, pos-sumℕ, dot-add, dot-scale, dot-combination, dot-cong, le-maxℕ, unit, sumℕ-unit, sum-unit, allBelow-at}
-use Rattle.arrays.proofs.Laws.{and-true}
+use Rattle.integers.proofs.Booleans.{and-true}
 use Rattle.reachability.specs.Sets.{supportOf, reachOf, largest, InBox, InZonotope, InHull, Member, orderedOk, countOk}
 use Rattle.reachability.specs.declared.sets.Shape.{Shape}
 use Rattle.reachability.specs.declared.sets.Shape.the-variants.{Box, Zonotope, Vertices}

@@ -12,19 +12,21 @@ use lib.IntN.{ℤ, pos, natAbs}
 use Rattle.integers.specs.Sums.{vector, matrix, sumℕ}
 use Rattle.integers.proofs.Sums.{allBelow-at, le-maxℕ, le-sumℕ}
 use Rattle.arrays.specs.Tests.{zeroOutside}
-use Rattle.arrays.proofs.Laws.{and-true, zeroOutside-row}
+use Rattle.integers.proofs.Booleans.{and-true}
+use Rattle.arrays.proofs.Tests.{zeroOutside-row}
+use Rattle.stepping.specs.Limits.{growthLimit}
 use Rattle.stepping.specs.Refusals.{dimensionOk}
-use Rattle.reachability.specs.Sets.{points, reachOf, countOk, orderedOk, reachOk, setOk, directionOk, valueOk, Member, supportOf}
-use Rattle.reachability.specs.Inner.{Counted, Tested, ReachSmall}
+use Rattle.reachability.specs.Sets.{points, reachOf, reachLimit, countOk, orderedOk, reachOk, setOk, directionOk, valueOk, Member, supportOf}
+use Rattle.reachability.specs.SetsInner.{Counted, Tested, ReachSmall}
 use Rattle.reachability.specs.declared.sets.Shape.{Shape}
 use Rattle.reachability.specs.declared.sets.Shape.the-variants.{Box, Zonotope, Vertices}
-use Rattle.reachability.proofs.SetLaws.{SetLaws, set-laws}
+use Rattle.reachability.proofs.sets.Laws.{SetLaws, set-laws}
 
 pub record SetFacts (n : ℕ) (shape : Shape) (count : ℕ) (xs : List ℤ) : Type 0 where
   pub counted : Counted count
   pub outside : zeroOutside count n xs ≡ true
   pub reach-small : ReachSmall shape count xs
-  pub coordinates : (k : ℕ) → natAbs (vector xs k) ≤ 1048576
+  pub coordinates : (k : ℕ) → natAbs (vector xs k) ≤ reachLimit
   pub laws : SetLaws n (Member n shape count (points xs)) (supportOf n shape count (points xs)) (reachOf shape count (points xs))
 
 pub n-range : (n : ℕ) → dimensionOk n ≡ true → (1 ≤ n) × (n ≤ 6)
@@ -59,18 +61,18 @@ place xs j = ap (vector xs) (whole j)
     whole : (j : ℕ) → 6 * (j / 6) + j % 6 ≡ j
     whole j = omega arith
 
-coordinates-of : (n : ℕ) (shape : Shape) (count : ℕ) (xs : List ℤ) → countOk shape count ≡ true → zeroOutside count n xs ≡ true → ReachSmall shape count xs → (j : ℕ) → natAbs (vector xs j) ≤ 1048576
-coordinates-of n shape count xs c o r j = subst (λ (z : ℤ). natAbs z ≤ 1048576) (place xs j) (at (j / 6) (j % 6) (omega arith))
+coordinates-of : (n : ℕ) (shape : Shape) (count : ℕ) (xs : List ℤ) → countOk shape count ≡ true → zeroOutside count n xs ≡ true → ReachSmall shape count xs → (j : ℕ) → natAbs (vector xs j) ≤ reachLimit
+coordinates-of n shape count xs c o r j = subst (λ (z : ℤ). natAbs z ≤ reachLimit) (place xs j) (at (j / 6) (j % 6) (omega arith))
   where
-    at : (k i : ℕ) → i < 6 → natAbs (points xs k i) ≤ 1048576
-    at k i h = elim (decLt k count) [ yes l ↦ le-trans (size-le-reach shape count (points xs) k i c l) (r .small i h) | no f ↦ subst (λ (z : ℤ). natAbs z ≤ 1048576) (sym (zeroOutside-row count n xs o k i h (omega (arith, f)))) (omega arith) ]
+    at : (k i : ℕ) → i < 6 → natAbs (points xs k i) ≤ reachLimit
+    at k i h = elim (decLt k count) [ yes l ↦ le-trans (size-le-reach shape count (points xs) k i c l) (r .small i h) | no f ↦ subst (λ (z : ℤ). natAbs z ≤ reachLimit) (sym (zeroOutside-row count n xs o k i h (omega (arith, f)))) (omega arith) ]
 
 pub set-facts : (n : ℕ) (shape : Shape) (count : ℕ) (xs : List ℤ) → setOk n shape count xs ≡ true → SetFacts n shape count xs
 set-facts n shape count xs t =
     let p = and-true (countOk shape count) (zeroOutside count n xs && (reachOk shape count (points xs) && orderedOk n shape (points xs))) t in
     let q = and-true (zeroOutside count n xs) (reachOk shape count (points xs) && orderedOk n shape (points xs)) (p .1) in
     let r = and-true (reachOk shape count (points xs)) (orderedOk n shape (points xs)) (q .1) in
-    let small : ReachSmall shape count xs = record { small = λ i h. leb-true _ 1048576 (allBelow-at 6 (λ j. leb (reachOf shape count (points xs) j) 1048576) (r .0) i h) } in
+    let small : ReachSmall shape count xs = record { small = λ i h. leb-true _ reachLimit (allBelow-at 6 (λ j. leb (reachOf shape count (points xs) j) reachLimit) (r .0) i h) } in
     record {
       counted = counted-of shape count (p .0);
       outside = q .0;
@@ -80,6 +82,6 @@ set-facts n shape count xs t =
     }
 
 -- a direction that passes is within its limit
-pub direction-small : (n : ℕ) (r : List ℤ) → directionOk n r ≡ true → (i : ℕ) → i < 6 → natAbs (vector r i) ≤ 1073741824
+pub direction-small : (n : ℕ) (r : List ℤ) → directionOk n r ≡ true → (i : ℕ) → i < 6 → natAbs (vector r i) ≤ growthLimit
 direction-small n r t i h =
-    leb-true _ 1073741824 (and-true (leb (natAbs (vector r i)) 1073741824) (ltb i n || eqb (natAbs (vector r i)) 0) (allBelow-at 6 (λ j. valueOk n j (vector r j)) t i h) .0)
+    leb-true _ growthLimit (and-true (leb (natAbs (vector r i)) growthLimit) (ltb i n || eqb (natAbs (vector r i)) 0) (allBelow-at 6 (λ j. valueOk n j (vector r j)) t i h) .0)

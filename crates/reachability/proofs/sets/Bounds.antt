@@ -12,18 +12,18 @@ use Rattle.integers.specs.Sums.{vector, sum, sumℕ, dot}
 use Rattle.integers.proofs.Order.{natAbs-mul-le}
 use Rattle.integers.proofs.Sums.{sum-beyond, sumℕ-bound, sumℕ-cong, natAbs-sum, sum-cong}
 use Rattle.arrays.specs.Tests.{zeroOutside}
-use Rattle.arrays.proofs.Laws.{zeroOutside-column}
+use Rattle.arrays.proofs.Tests.{zeroOutside-column}
 use Rattle.reachability.specs.Sets.{points, largest, supportOf}
-use Rattle.reachability.specs.Inner.{Tested}
+use Rattle.reachability.specs.SetsInner.{Tested, productLimit, termLimit}
 use Rattle.reachability.specs.declared.sets.Shape.{Shape}
 use Rattle.reachability.specs.declared.sets.Shape.the-variants.{Box, Zonotope, Vertices}
 
 -- ---- bounds
 
-pub dot-small : (xs r : List ℤ) (k : ℕ) → Tested xs r → natAbs (dot 6 (vector r) (points xs k)) ≤ 6 * (1073741824 * 1048576)
+pub dot-small : (xs r : List ℤ) (k : ℕ) → Tested xs r → natAbs (dot 6 (vector r) (points xs k)) ≤ termLimit
 dot-small xs r k t =
-    le-trans (natAbs-sum 6 (λ i. vector r i *ℤ points xs k i) (λ i. 1073741824 * 1048576) (λ i h. natAbs-mul-le (vector r i) (points xs k i) (t .values i h) (t .coordinates (6 * k + i))))
-    (sumℕ-bound 6 (1073741824 * 1048576) (λ i h. native.Mathlib.Nat.le-refl (1073741824 * 1048576)))
+    le-trans (natAbs-sum 6 (λ i. vector r i *ℤ points xs k i) (λ i. productLimit) (λ i h. natAbs-mul-le (vector r i) (points xs k i) (t .values i h) (t .coordinates (6 * k + i))))
+    (sumℕ-bound 6 productLimit (λ i h. native.Mathlib.Nat.le-refl productLimit))
 
 -- ---- zeros beyond n
 

@@ -22,13 +22,15 @@ pub record Tested (xs r : List ℤ) : Type 0 where
 pub record ReachSmall (shape : Shape) (count : ℕ) (xs : List ℤ) : Type 0 where
   pub small : (i : ℕ) → i < 6 → reachOf shape count (points xs) i ≤ reachLimit
 
--- A product of a tested value and a tested coordinate can be added to a sum of at most five such.
+-- The most that a product of a tested value and a tested coordinate, and a dot product, can come to.
+abbrev pub productLimit : ℕ
+productLimit = growthLimit * reachLimit
+
+abbrev pub termLimit : ℕ
+termLimit = 6 * productLimit
+
+-- A product can be added to a sum of at most five such.
 pub record TimesAdd (sum a b : ℤ) : Type 0 where
-  pub sum-small : natAbs sum ≤ 5 * (growthLimit * reachLimit)
+  pub sum-small : natAbs sum ≤ 5 * productLimit
   pub value-small : natAbs a ≤ growthLimit
   pub coordinate-small : natAbs b ≤ reachLimit
-
--- A dot product of tested vectors can be added in magnitude to at most fifteen such.
-pub record Added (sum d : ℤ) : Type 0 where
-  pub sum-small : natAbs sum ≤ 15 * (6 * (growthLimit * reachLimit))
-  pub dot-small : natAbs d ≤ 6 * (growthLimit * reachLimit)

@@ -16,7 +16,8 @@ use Rattle.integers.proofs.Order.{natAbs-mul}
 use Rattle.integers.proofs.Sums.{allBelow-at, allBelow-some, maxℕ-le, le-maxℕ}
 use Rattle.integers.proofs.Machine.{tabulate-cong}
 use Rattle.arrays.specs.Tests.{zeroOutside, allBetween}
-use Rattle.arrays.proofs.Laws.{and-true, and-false, zeroOutside-column}
+use Rattle.integers.proofs.Booleans.{and-true, and-false}
+use Rattle.arrays.proofs.Tests.{zeroOutside-column}
 use Rattle.stepping.specs.Limits.{directionUnit, growthLimit}
 use Rattle.stepping.specs.Recurrence.{firstR, firstE, growthSum}
 use Rattle.stepping.proofs.SpareFigure.{spare-is}
@@ -24,7 +25,7 @@ use Rattle.reachability.specs.Limits.{accepted, directionLimit, someNonz
 use Rattle.reachability.specs.Runs.{moves, direction}
 use Rattle.reachability.specs.Recurrence.{Working, first, walk, working, sumAt, growsAt, growthStep, spareFigure, bound, slack}
 use Rattle.reachability.specs.Answers.{sweepAnswer, lengthsOk, boundsOf, slacksOf, sweptNumber, SweepLeaves}
-use Rattle.reachability.specs.Filling.{Fills}
+use Rattle.reachability.specs.SweepInner.{Fills}
 use Rattle.reachability.specs.declared.model.Model.{Model}
 use Rattle.reachability.specs.declared.sweep.Swept.{Swept}
 use Rattle.reachability.specs.declared.sweep.Swept.the-variants.{Spare, Invalid, NoDirection, WrongLength, Growth}
@@ -32,6 +33,7 @@ use Rattle.reachability.specs.declared.sweep.Filled.{Filled}
 use Rattle.reachability.specs.declared.sweep.Filled.the-variants.{Largest, Grown}
 use Rattle.reachability.proofs.FirstPlace.{firstPlace-before}
 use Rattle.reachability.proofs.model.Facts.{ModelFacts}
+use Rattle.reachability.proofs.sweep.SweepStep.{first-working}
 use Rattle.reachability.proofs.AccuracyRule.{rule-of-facts, accurate-lists}
 
 module _ (m : Model) (d lb ls : ℕ) where
@@ -125,15 +127,9 @@ module _ (m : Model) (facts : ModelFacts m) (d : ℕ) (inside : d < m .direction
           vanish : m .n ≤ i → ⊥
           vanish l = omega (arith, positive, ap natAbs (facts .direction-beyond d i l (some-entry .1)))
 
-      walk-start : walk (m .n) (moves m) 0 (first (direction m d)) 0 ≡ first (direction m d)
-      walk-start = start
-        where
-          start : walk (m .n) (moves m) 0 (first (direction m d)) 0 ≡ first (direction m d)
-          start = Rattle.reachability.proofs.Turns.walk-start (m .n) (moves m) (first (direction m d))
-
       first-sum : directionUnit ≤ sumAt m d 0
       first-sum =
-          subst (λ (w : Working). directionUnit ≤ growthSum (m .n) (w .r) (w .e)) (sym walk-start)
+          subst (λ (w : Working). directionUnit ≤ growthSum (m .n) (w .r) (w .e)) (sym (first-working m d))
           (le-trans (omega (arith, natAbs-mul (pos directionUnit) (direction m d i), positive)) (le-maxℕ (m .n) (λ j. natAbs (firstR (direction m d) j) + firstE j) i below-n))
 
   pub largest-least : 1 ≤ maxℕ (suc (m .steps)) (sumAt m d)

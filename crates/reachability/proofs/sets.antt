@@ -1,0 +1,5 @@
+-- Laws of the three sets.
+pub mod Laws
+pub mod Bounds
+pub mod SupportSoFar
+pub mod Facts

@@ -1,0 +1,6 @@
+-- Laws of the sweep.
+pub mod Terms
+pub mod StoredDirection
+pub mod SweepStep
+pub mod SweepLoop
+pub mod Answers

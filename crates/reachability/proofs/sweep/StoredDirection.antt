@@ -1,0 +1,156 @@
+-- A working direction as the code stores it: six elements of r and six of e, zero beyond n. In order: its elements; what the
+-- stepping arithmetic tests of it, and the next one; a set's terms at it. Assumes nothing.
+use mathlib.Core.Path.{_≡_, refl, sym, ap, ap₂, subst, _∙_}
+use mathlib.Core.Bool.{Bool, true, cond}
+use mathlib.Core.List.{List}
+use Prim.Native.Nat.{ℕ, _+_, _*_, _-_, _≤_, _<_}
+use native.Mathlib.Nat.{le-refl, le-trans, lt-of-lt-of-le, mul-le-mul}
+use native.Mathlib.Decide.{decLt}
+use native.Mathlib.Omega.{arith}
+use lib.Dec.{T}
+use lib.IntN.{ℤ, pos, natAbs, _+ℤ_, _*ℤ_}
+use lib.Signed.{nonNeg}
+use Rattle.integers.specs.Sums.{vector, magnitudes, matrix, dotℕ, tabulate}
+use Rattle.integers.proofs.Order.{natAbs-add, natAbs-mul-le}
+use Rattle.integers.proofs.Sums.{sumℕ-cong, sumℕ-beyond, sumℕ-bound, natAbs-sum}
+use Rattle.integers.proofs.Machine.{getD-tabulate, tabulate-cong}
+use Rattle.arrays.specs.Tests.{zeroOutside}
+use Rattle.stepping.specs.Limits.{growthLimit, errorLimit}
+use Rattle.stepping.specs.Recurrence.{nextR, nextE, growthSum}
+use Rattle.stepping.specs.Refusals.{dimensionOk, workingOk, stepOk, steppedR, steppedE, Steps}
+use Rattle.stepping.specs.declared.Stepped.{Stepped}
+use Rattle.stepping.proofs.Recurrence.{nextR-cong, nextE-cong, growthSum-cong, value-le-limit, error-le-limit}
+use Rattle.stepping.proofs.Working.{working-ok}
+use Rattle.stepping.proofs.Beyond.{nextR-beyond, nextE-beyond}
+use Rattle.reachability.specs.Sets.{points, reachOf, reachLimit}
+use Rattle.reachability.specs.Recurrence.{Working, next, supportAt, errorAt}
+use Rattle.reachability.specs.SetsInner.{productLimit, termLimit}
+use Rattle.reachability.specs.SweepInner.{errorsLimit, addedLimit, termSupport, termErrors, termOf, TermsAsk, reachesOf}
+use Rattle.reachability.specs.declared.sets.Set.{Set}
+use Rattle.reachability.proofs.sets.Bounds.{supportOf-six, supportOf-same}
+use Rattle.reachability.proofs.sets.Facts.{SetFacts}
+
+pub record Stored (n : ℕ) (w : Working) (r e : List ℤ) : Type 0 where
+  pub r-is : r ≡ tabulate 6 (w .r)
+  pub e-is : e ≡ tabulate 6 (λ i. pos (w .e i))
+  pub r-zero : (i : ℕ) → n ≤ i → i < 6 → w .r i ≡ pos 0
+  pub e-zero : (i : ℕ) → n ≤ i → i < 6 → w .e i ≡ 0
+
+-- What a set adds to a step at a working direction.
+abbrev pub addedAt : ℕ → Set → Working → ℤ
+addedAt n s w = supportAt n s w +ℤ pos (errorAt n s w)
+
+module _ {n : ℕ} (n≤6 : n ≤ 6) {w : Working} {r e : List ℤ} (stored : Stored n w r e) where
+  r-at : (i : ℕ) → i < 6 → vector r i ≡ w .r i
+  r-at i h = ap (λ (l : List ℤ). vector l i) (stored .r-is) ∙ getD-tabulate 6 (w .r) i (pos 0) h
+
+  e-value : (i : ℕ) → i < 6 → vector e i ≡ pos (w .e i)
+  e-value i h = ap (λ (l : List ℤ). vector l i) (stored .e-is) ∙ getD-tabulate 6 (λ j. pos (w .e j)) i (pos 0) h
+
+  e-at : (i : ℕ) → i < 6 → magnitudes e i ≡ w .e i
+  e-at i h = ap natAbs (e-value i h)
+
+  inside : {i : ℕ} → i < n → i < 6
+  inside h = lt-of-lt-of-le h n≤6
+
+  -- ---- the stepping arithmetic
+
+  pub sum-stored : growthSum n (vector r) (magnitudes e) ≡ growthSum n (w .r) (w .e)
+  sum-stored = growthSum-cong n (λ i h. r-at i (inside h)) (λ i h. e-at i (inside h))
+
+  pub working-passes : dimensionOk n ≡ true → growthSum n (w .r) (w .e) ≤ growthLimit → workingOk n r e ≡ true
+  working-passes dimension calm =
+      working-ok {r = r} {e = e} (record {
+        dimension = dimension;
+        zero-r = λ i l h. ap natAbs (r-at i h ∙ stored .r-zero i l h);
+        zero-e = λ i l h. e-at i h ∙ stored .e-zero i l h;
+        natural = λ i h. ap nonNeg (e-value i h);
+        calm = subst (λ (s : ℕ). s ≤ growthLimit) (sym sum-stored) calm;
+      })
+
+  pub stored-next : (m : List ℤ) → zeroOutside n n m ≡ true → stepOk n m r e ≡ true → {a : Stepped} {r′ e′ : List ℤ} → Steps n m r e a r′ e′ → Stored n (next n (matrix m) w) r′ e′
+  stored-next m around passes st =
+      record {
+        r-is = st .direction ∙ ap (λ (t : Bool). cond t (steppedR n m r) r) passes ∙ tabulate-cong 6 (λ i h. r-same i);
+        e-is = st .errors ∙ ap (λ (t : Bool). cond t (steppedE n m r e) e) passes ∙ tabulate-cong 6 (λ i h. ap pos (e-same i));
+        r-zero = nextR-beyond n n≤6 m around (w .r);
+        e-zero = nextE-beyond n n≤6 m around (w .r) (w .e);
+      }
+    where
+      r-same : (i : ℕ) → nextR n (matrix m) (vector r) i ≡ nextR n (matrix m) (w .r) i
+      r-same = nextR-cong n {m = matrix m} {m′ = matrix m} (λ p j l. refl) (λ p l. r-at p (inside l))
+
+      e-same : (i : ℕ) → nextE n (matrix m) (vector r) (magnitudes e) i ≡ nextE n (matrix m) (w .r) (w .e) i
+      e-same = nextE-cong n {m = matrix m} {m′ = matrix m} (λ p j l. refl) (λ p l. r-at p (inside l)) (λ p l. e-at p (inside l))
+
+  -- ---- a set's terms, below the growth limit
+
+  module _ (calm : growthSum n (w .r) (w .e) ≤ growthLimit) (s : Set) (facts : SetFacts n (s .shape) (s .count) (s .points)) where
+    -- what holds below n holds of all six, since the rest is zero
+    r-small : (i : ℕ) → i < 6 → natAbs (vector r i) ≤ growthLimit
+    r-small i h = subst (λ (z : ℤ). natAbs z ≤ growthLimit) (sym (r-at i h)) (elim (decLt i n) [ yes l ↦ value-le-limit n (w .r) (w .e) calm i l | no f ↦ subst (λ (z : ℤ). natAbs z ≤ growthLimit) (sym (stored .r-zero i (omega (arith, f)) h)) (omega arith) ])
+
+    e-small : (i : ℕ) → i < 6 → natAbs (vector e i) ≤ errorLimit
+    e-small i h = subst (λ (k : ℕ). k ≤ errorLimit) (sym (e-at i h)) (elim (decLt i n) [ yes l ↦ error-le-limit n (w .r) (w .e) calm i l | no f ↦ subst (λ (k : ℕ). k ≤ errorLimit) (sym (stored .e-zero i (omega (arith, f)) h)) (omega arith) ])
+
+    abbrev reachAt : ℕ → ℕ
+    reachAt = reachOf (s .shape) (s .count) (points (s .points))
+
+    reach-at : (i : ℕ) → i < 6 → vector (reachesOf s) i ≡ pos (reachAt i)
+    reach-at i h = getD-tabulate 6 (λ j. pos (reachAt j)) i (pos 0) h
+
+    support-stored : termSupport (s .shape) (s .count) (s .points) r ≡ supportAt n s w
+    support-stored = supportOf-six n n≤6 (s .count) (s .points) (facts .outside) (s .shape) (vector r) ∙ supportOf-same n (s .shape) (s .count) (points (s .points)) (λ i h. r-at i (inside h))
+
+    pub errors-stored : termErrors e (reachesOf s) ≡ errorAt n s w
+    errors-stored =
+        ap (λ (m : ℕ). dotℕ m (magnitudes e) (magnitudes (reachesOf s))) (sym (six n n≤6))
+        ∙ sumℕ-beyond n (6 - n) (λ i. magnitudes e i * magnitudes (reachesOf s) i) (λ i l h. ap (λ (k : ℕ). k * magnitudes (reachesOf s) i) (e-at i (below i h) ∙ stored .e-zero i l (below i h)) ∙ zero-times (magnitudes (reachesOf s) i))
+        ∙ sumℕ-cong n (λ i h. ap₂ _*_ (e-at i (inside h)) (ap natAbs (reach-at i (inside h))))
+      where
+        six : (n : ℕ) → n ≤ 6 → n + (6 - n) ≡ 6
+        six n h = omega arith
+
+        below : (i : ℕ) → i < n + (6 - n) → i < 6
+        below i h = subst (λ (k : ℕ). i < k) (six n n≤6) h
+
+        zero-times : (k : ℕ) → 0 * k ≡ 0
+        zero-times k = omega arith
+
+    pub added-stored : termOf (s .shape) (s .count) (s .points) (reachesOf s) r e ≡ addedAt n s w
+    added-stored = ap₂ (λ (z : ℤ) (k : ℕ). z +ℤ pos k) support-stored errors-stored
+
+    -- a support is at most what the reaches allow: some point attains it
+    support-small : natAbs (supportAt n s w) ≤ termLimit
+    support-small =
+        let a = facts .laws .attained (w .r) in
+        subst (λ (z : ℤ). natAbs z ≤ termLimit) (a .2)
+        (le-trans (natAbs-sum n (λ i. w .r i *ℤ a .0 i) (λ i. productLimit) (λ i h. natAbs-mul-le (w .r i) (a .0 i) (value-le-limit n (w .r) (w .e) calm i h) (point i h)))
+        (le-trans (sumℕ-bound n productLimit (λ i h. le-refl productLimit)) (mul-le-mul n≤6 (le-refl productLimit))))
+      where
+        point : (i : ℕ) → i < n → natAbs (facts .laws .attained (w .r) .0 i) ≤ reachLimit
+        point i h = within (facts .laws .within 1 (facts .laws .attained (w .r) .0) (facts .laws .attained (w .r) .1) i h) (facts .reach-small .small i (inside h))
+          where
+            within : {a b : ℕ} → a ≤ 1 * b → b ≤ reachLimit → a ≤ reachLimit
+            within p q = omega arith
+
+    pub errors-small : errorAt n s w ≤ errorsLimit
+    errors-small =
+        le-trans (sumℕ-bound n (errorLimit * reachLimit) (λ i h. mul-le-mul (error-le-limit n (w .r) (w .e) calm i h) (facts .reach-small .small i (inside h)))) (mul-le-mul n≤6 (le-refl (errorLimit * reachLimit)))
+
+    pub added-small : natAbs (addedAt n s w) ≤ addedLimit
+    added-small = omega (arith, natAbs-add (supportAt n s w) (pos (errorAt n s w)), support-small, errors-small)
+
+    pub terms-ask : TermsAsk (s .shape) (s .count) (s .points) (reachesOf s) r e
+    terms-ask =
+        record {
+          counted = facts .counted;
+          tested = record { coordinates = facts .coordinates; values = r-small };
+          errors = record {
+            natural = λ i h. subst (λ (z : ℤ). T (nonNeg z)) (sym (e-value i h)) tt;
+            small = e-small;
+            reach-natural = λ i h. subst (λ (z : ℤ). T (nonNeg z)) (sym (reach-at i h)) tt;
+            reach-small = λ i h. subst (λ (z : ℤ). natAbs z ≤ reachLimit) (sym (reach-at i h)) (facts .reach-small .small i h);
+          };
+          support-small = subst (λ (z : ℤ). natAbs z ≤ termLimit) (sym support-stored) support-small;
+        }
