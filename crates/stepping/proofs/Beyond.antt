@@ -1,6 +1,6 @@
 -- What lies beyond n is zero, so the loops, which run to six, give what the definitions, which run to n, say.
--- In order: from the tests of number 11 to the zeros; the growth sum; one step; a step that is taken with six for n. Assumes
--- nothing.
+-- In order: the growth sum; one step; a working direction's six coordinates within their limits; a step that is taken with six
+-- for n. Assumes nothing.
 use mathlib.Core.Path.{_≡_, refl, sym, ap, ap₂, subst, _∙_}
 use mathlib.Core.Bool.{Bool, true, cond, _&&_}
 use mathlib.Core.List.{List}
@@ -15,12 +15,13 @@ use Rattle.integers.proofs.Machine.{tabulate-cong, getD-tabulate}
 use Rattle.arrays.specs.Tests.{allBetween, zeroOutside}
 use Rattle.integers.proofs.Booleans.{and-true}
 use Rattle.arrays.proofs.Tests.{zeroOutside-row, zeroOutside-column, zeroOutside-wider}
-use Rattle.stepping.specs.Limits.{matrixUnit, entryLimit, growthLimit}
+use Rattle.stepping.specs.Limits.{matrixUnit, entryLimit, growthLimit, errorLimit}
 use Rattle.stepping.specs.Recurrence.{nextR, nextE, errorSum, growthSum}
 use Rattle.stepping.specs.Refusals.{nonNegative, matrixOk, workingOk, stepOk, steppedR, steppedE, Steps}
 use Rattle.stepping.specs.declared.Stepped.{Stepped}
 use Rattle.stepping.specs.declared.Stepped.the-variants.{Sum, Refused}
 use Rattle.stepping.proofs.Numbers.{steps}
+use Rattle.stepping.proofs.Recurrence.{value-le-limit, error-le-limit}
 use Rattle.stepping.proofs.Working.{WorkingFacts, working-facts, working-ok, dimension-most}
 
 zero-times : (k : ℕ) → 0 * k ≡ 0
@@ -79,6 +80,18 @@ module _ (n : ℕ) (n≤6 : n ≤ 6) where
 pub nonNegative-stepped : (n : ℕ) (m r e : List ℤ) → nonNegative (steppedE n m r e) ≡ true
 nonNegative-stepped n m r e = allBelow-intro 6 (λ i. nonNeg (vector (steppedE n m r e) i)) (λ i h. ap nonNeg (getD-tabulate 6 (λ j. pos (nextE n (matrix m) (vector r) (magnitudes e) j)) i (pos 0) h))
 
+-- ---- a working direction within its limits, all six coordinates
+
+module _ (n : ℕ) (r e : List ℤ) (facts : WorkingFacts n r e) where
+  pub calm-six : growthSum 6 (vector r) (magnitudes e) ≤ growthLimit
+  calm-six = subst (λ (s : ℕ). s ≤ growthLimit) (sym (growthSum-six n (dimension-most (facts .dimension)) (vector r) (magnitudes e) (facts .zero-r) (facts .zero-e))) (facts .calm)
+
+  pub values-six : (i : ℕ) → i < 6 → natAbs (vector r i) ≤ growthLimit
+  values-six = value-le-limit 6 (vector r) (magnitudes e) calm-six
+
+  pub errors-six : (i : ℕ) → i < 6 → magnitudes e i ≤ errorLimit
+  errors-six = error-le-limit 6 (vector r) (magnitudes e) calm-six
+
 -- ---- a step of n coordinates may be taken with six
 
 -- Where a step of n coordinates is not refused, a step that is told six coordinates does the same.
@@ -106,7 +119,7 @@ steps-six n m r e ok {a} {r′} {e′} st =
           zero-r = λ i l h. absurd (omega arith);
           zero-e = λ i l h. absurd (omega arith);
           natural = facts .natural;
-          calm = subst (λ (s : ℕ). s ≤ growthLimit) (sym (growthSum-six n n≤6 (vector r) (magnitudes e) (facts .zero-r) (facts .zero-e))) (facts .calm);
+          calm = calm-six n r e facts;
         }
 
     six-ok : stepOk 6 m r e ≡ true

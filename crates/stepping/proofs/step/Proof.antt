@@ -16,9 +16,8 @@ use Rattle.stepping.specs.Refusals.{workingOk, nonNegative, matrixOk, st
 use Rattle.stepping.specs.Inner.{Bounded, BoundedErrors}
 use Rattle.stepping.specs.declared.Stepped.the-variants.{Sum, Refused}
 use Rattle.stepping.proofs.Numbers.{steps, refused-only, sum-only}
-use Rattle.stepping.proofs.Recurrence.{value-le-limit, error-le-limit}
 use Rattle.stepping.proofs.Working.{WorkingFacts, working-facts, dimension-most}
-use Rattle.stepping.proofs.Beyond.{growthSum-six, growthSum-stepped, nonNegative-stepped, steppedR-six, steppedE-six}
+use Rattle.stepping.proofs.Beyond.{values-six, errors-six, growthSum-stepped, nonNegative-stepped, steppedR-six, steppedE-six}
 use Rattle.stepping.proofs.step.Statement.{statement}
 use Rattle.stepping.proofs.step.Tie as tie
 
@@ -51,10 +50,6 @@ module _ (c : tie.After-enum-told2) where
   n≤6 : n ≤ 6
   n≤6 = dimension-most (facts .dimension)
 
-  -- the growth sum of six, which is that of n
-  calm : growthSum 6 (vector r) (magnitudes e) ≤ growthLimit
-  calm = subst (λ (s : ℕ). s ≤ growthLimit) (sym (growthSum-six n n≤6 (vector r) (magnitudes e) (facts .zero-r) (facts .zero-e))) (facts .calm)
-
 returns-2 : tie.Need-returns-2
 returns-2 c =
     let b = c .before .before in
@@ -73,12 +68,12 @@ module _ (c : tie.Else1) where
   parts = and-true (allBetween (negℤ (pos entryLimit)) (pos entryLimit) (m at)) (zeroOutside (n at) (n at) (m at)) matrix-passed
 
   bounded-r : Bounded growthLimit (m at) (r at)
-  bounded-r = record { entries = allBetween-at entryLimit (m at) (parts .0); values = value-le-limit 6 (vector (r at)) (magnitudes (e at)) (calm at) }
+  bounded-r = record { entries = allBetween-at entryLimit (m at) (parts .0); values = values-six (n at) (r at) (e at) (facts at) }
 
   bounded-e : BoundedErrors (m at) (e at)
   bounded-e =
       record {
-        bounded = record { entries = allBetween-at entryLimit (m at) (parts .0); values = error-le-limit 6 (vector (r at)) (magnitudes (e at)) (calm at) };
+        bounded = record { entries = allBetween-at entryLimit (m at) (parts .0); values = errors-six (n at) (r at) (e at) (facts at) };
         natural = λ i h. subst T (sym (facts at .natural i h)) tt;
       }
 
