@@ -119,7 +119,7 @@ class Trees(helpers.FolderTest):
             "file: src/main.rt\nold: one\nnew: two\n": "its crate has no file src/main.rt",
             "file: ../../crates.txt\nold: one\nnew: b\n": "its crate has no file ../../crates.txt",
             "file: src/lib.rt\nold: one\n": "it has no `old:` and `new:`",
-            "file: src/lib.rt\nold: one\nnew: four\nold: one\nnew: a\n": none,
+            "file: src/lib.rt\nold: one\nnew: x\nold: one\nnew: a\n": none,
         }
         for text, reason in wrong.items():
             self.assertEqual(tryedits.misfit(self.folder, self.edit(text)), reason, text)
