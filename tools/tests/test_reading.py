@@ -102,7 +102,7 @@ class Things:
         return all(part in self.names for part in re.split(r" \.|::", text.removeprefix(".")))
 
     def is_elsewhere(self, one):
-        """Whether a name behind *File* is none of that file. What is in parentheses stands apart."""
+        """Whether a name behind *File* is none of that file. Parentheses stand apart."""
         before = re.sub(r"\([^()]*\)", "", one.before.rpartition(";")[2]).rpartition("(")[2]
         named = re.findall(r"\*([A-Z]\w*)\*", before)
         return named and one.text not in self.specs.get(named[-1], ())
