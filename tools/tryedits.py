@@ -4,13 +4,15 @@
     edits/try                        all of edits/
     edits/try CRATE.. CRATE/NAME..   those of a crate, or one
     edits/try --gate ..              with the gate's own edits, crates/CRATE/must-fail
+    edits/try --fast ..              in seconds for each, by the edit loop's check (`rt dev`)
     edits/try --fits ..              only tell whether each edit fits its file; nothing is proved
 
 The work tree is left alone: edits are tried in a copy, which takes what is proved from target/.
 What the prover said of each is left in target/edits/CRATE/NAME.log. The table tells of each edit
 whether it was refused and what failed first. An error that says only that the proof no longer fits
 the code (a need, a field or a name that is not there) shows nothing, and is NO FACT. The status is
-0 where all were refused for a fact. RT_JOBS says how many are tried at a time.
+0 where all were refused for a fact. RT_JOBS says how many are tried at a time. The verdict is that
+of `rt must-fail`, which checks the whole crate for each edit; `--fast` checks what an edit changes.
 """
 
 from __future__ import annotations
@@ -20,6 +22,7 @@ import re
 import shutil
 import subprocess
 import tempfile
+import time
 from dataclasses import dataclass
 from pathlib import Path
 from typing import Iterable, Iterator
@@ -90,10 +93,10 @@ def chosen(edits: list[Edit], words: list[str]) -> list[Edit]:
     return [edit for edit in edits if not words or edit.crate in words or str(edit) in words]
 
 
-def misfit(root: Path, edit: Edit) -> str | None:
-    """Why an edit doesn't fit its crate: its `old:` must stand once in its `file:`."""
-    name, old, pairs = "", "", 0
-    texts: dict[str, str] = {}
+def applied(root: Path, edit: Edit) -> dict[Path, str]:
+    """The files that an edit changes, as it makes them; its `old:` must stand once in `file:`."""
+    name, old = "", ""
+    texts: dict[Path, str] = {}
     for row in files.read_bytes(str(edit.path)).decode("utf-8").splitlines():
         if row.startswith("file: "):
             name = row[len("file: ") :]
@@ -102,18 +105,27 @@ def misfit(root: Path, edit: Edit) -> str | None:
         elif row.startswith("new:"):
             path = root / "crates" / edit.crate / name
             if not name.startswith(("src/", "specs/", "proofs/")) or not path.is_file():
-                return f"its crate has no file {name or 'named'}"
-            text = texts.setdefault(name, path.read_text(encoding="utf-8"))
+                raise files.Failure(f"its crate has no file {name or 'named'}")
+            text = texts[path] if path in texts else path.read_text(encoding="utf-8")
             if not old or text.count(old) != 1:
-                return f"its `old:` stands {text.count(old) if old else 0} times in {name}"
-            texts[name] = text.replace(old, row[len("new:") :].removeprefix(" "))
-            old, pairs = "", pairs + 1
-    return None if pairs else "it has no `old:` and `new:`"
+                count = text.count(old) if old else 0
+                raise files.Failure(f"its `old:` stands {count} times in {name}")
+            texts[path] = text.replace(old, row[len("new:") :].removeprefix(" "))
+            old = ""
+    if not texts:
+        raise files.Failure("it has no `old:` and `new:`")
+    return texts
 
 
 def misfits(root: Path, edits: list[Edit]) -> list[str]:
     """The edits that don't fit, and why."""
-    return [f"{edit}: {reason}" for edit in edits if (reason := misfit(root, edit))]
+    wrong = []
+    for edit in edits:
+        try:
+            applied(root, edit)
+        except files.Failure as failure:
+            wrong.append(f"{edit}: {failure}")
+    return wrong
 
 
 # ---- what the prover said
@@ -175,14 +187,19 @@ def results(rows: Iterable[str], edits: list[Edit], copy: Path, logs: Path) -> I
         elif verdict == REFUSED:
             where = copy / "target" / "must-fail" / edit.crate / edit.name
             log = (where / ".log").read_text(encoding="utf-8", errors="replace")
-            kept = logs / edit.crate / f"{edit.name}.log"
-            kept.parent.mkdir(parents=True, exist_ok=True)
-            kept.write_text(log.replace(f"{where}/", ""), encoding="utf-8")
-            fact, text = why(log, str(where))
-            verdict = REFUSED if fact else NO_FACT
+            verdict, text = refused(edit, log, where, logs)
         yield Result(edit, verdict, told[3] or "", text)
     for edit in left.values():
         yield Result(edit, NOT_TRIED, "", reason)
+
+
+def refused(edit: Edit, log: str, where: Path, logs: Path) -> tuple[str, str]:
+    """The verdict on an edit that was refused, and why; what the prover said is kept."""
+    kept = logs / edit.crate / f"{edit.name}.log"
+    kept.parent.mkdir(parents=True, exist_ok=True)
+    kept.write_text(log.replace(f"{where}/", ""), encoding="utf-8")
+    fact, text = why(log, str(where))
+    return REFUSED if fact else NO_FACT, text
 
 
 # ---- trying
@@ -198,7 +215,7 @@ def copied(root: Path, copy: Path) -> None:
 
 
 def tried(root: Path, copy: Path, crate: str, edits: list[Edit]) -> Iterator[Result]:
-    """Try the edits of one crate in the copy."""
+    """Try the edits of one crate in the copy, each by a whole check."""
     folder = copy / "crates" / crate / "must-fail"
     folder.mkdir()
     for edit in edits:
@@ -215,6 +232,40 @@ def tried(root: Path, copy: Path, crate: str, edits: list[Edit]) -> Iterator[Res
     shutil.rmtree(folder)
 
 
+def checked(copy: Path, crate: str) -> tuple[int, str, str]:
+    """The status of the edit loop's check of a crate, what it said, and its seconds."""
+    start = time.monotonic()
+    command = ["rt", "dev", crate]
+    done = subprocess.run(command, cwd=copy, capture_output=True, encoding="utf-8")
+    return done.returncode, done.stdout + done.stderr, f"{time.monotonic() - start:.0f}"
+
+
+def tried_fast(root: Path, copy: Path, crate: str, edits: list[Edit]) -> Iterator[Result]:
+    """Try the edits of one crate in the copy, each by a check of what it changes."""
+    status, said, _ = checked(copy, crate)
+    if status != 0:
+        reason = f"{crate} itself is not proved: {why(said, str(copy))[1]}"
+        yield from (Result(edit, NOT_TRIED, "", reason) for edit in edits)
+        return
+    for edit in edits:
+        try:
+            texts = applied(copy, edit)
+        except files.Failure as failure:
+            yield Result(edit, BAD, "", str(failure))
+            continue
+        before = {path: path.read_text(encoding="utf-8") for path in texts}
+        for path, text in texts.items():
+            path.write_text(text, encoding="utf-8")
+        status, said, seconds = checked(copy, crate)
+        for path, text in before.items():
+            path.write_text(text, encoding="utf-8")
+        verdict, text = (NOT_REFUSED, "") if status == 0 else (BAD, "it did not reach the prover")
+        if status == 1 and "\nlogic=not-proved" in said:
+            logs = root / "target" / "edits"
+            verdict, text = refused(edit, said, copy / "crates" / crate, logs)
+        yield Result(edit, verdict, seconds, text)
+
+
 def told(result: Result) -> str:
     """A row of the table."""
     name = f"{result.edit.crate:<13} {result.edit.name:<36}"
@@ -225,6 +276,7 @@ def main() -> int:
     parser = argparse.ArgumentParser(prog="edits/try", description="Try wrong programs.")
     parser.add_argument("words", nargs="*", metavar="CRATE or CRATE/NAME")
     parser.add_argument("--gate", action="store_true", help="with the gate's own edits")
+    parser.add_argument("--fast", action="store_true", help="check only what each edit changes")
     parser.add_argument("--fits", action="store_true", help="only whether each fits its file")
     options = parser.parse_args()
     edits = chosen(edits_of(ROOT, options.gate), options.words)
@@ -239,7 +291,8 @@ def main() -> int:
         copy = Path(name)
         copied(ROOT, copy)
         for crate in dict.fromkeys(edit.crate for edit in edits):
-            for result in tried(ROOT, copy, crate, [one for one in edits if one.crate == crate]):
+            try_all = tried_fast if options.fast else tried
+            for result in try_all(ROOT, copy, crate, [one for one in edits if one.crate == crate]):
                 print(told(result), flush=True)
                 bad += result.verdict != REFUSED
     print(f"{len(edits)} edits, {len(edits) - bad} refused for a fact, {bad} not")

@@ -2,8 +2,9 @@
 
 What stands in backticks is told apart by its look and its column: an edit (the column Must-fail, or
 behind the word "edit"), a file or folder, a test, a heading of what `figures` prints, or a name of
-a definition, law, field, function or type. Texts of more than one word are looked at in the columns
-of tests alone: elsewhere they are code or what a program prints. So are plain words outside tables.
+a definition, law, field, function or type. A name behind *File* must be one of that file in specs/.
+Texts of more than one word are looked at in the columns of tests alone: elsewhere they are code or
+what a program prints. So are plain words outside tables.
 """
 
 import re
@@ -18,7 +19,8 @@ import tryedits
 
 ROOT = Path(helpers.TOOLS).parent
 QUOTED = re.compile(r"`([^`\n]+)`")
-EDITS, TESTS = "Must-fail", ("Test", "Run by `figures`", "Test of the exact program")
+EDITS = ("Must-fail", "Edit", "Edits")
+TESTS = ("Test", "Run by `figures`", "Test of the exact program")
 FILE = re.compile(r"(?!.*\.\.)(?:[\w.-]+/)+[\w.-]*|[\w-]+\.(?:antt|py|rt|md)")
 KEPT = {"requires", "ensures"}  # words of the language
 
@@ -59,7 +61,6 @@ class Things:
         self.folder = root
         self.crates = tryedits.crates(root)
         self.edits = {(one.crate, one.name) for one in tryedits.edits_of(root, gate=True)}
-        antt = [path.read_text(encoding="utf-8") for path in root.glob("crates/*/*/**/*.antt")]
         code = [path.read_text(encoding="utf-8") for path in root.glob("crates/*/src/**/*.rt")]
         tests = [*root.glob("tools/tests/*.py"), *root.glob("tests/*.py")]
         python = "".join(path.read_text(encoding="utf-8") for path in tests)
@@ -69,12 +70,15 @@ class Things:
         self.headings = set(re.findall(r"^\S.*$", figures, re.M))
         self.names = {*KEPT, *self.crates, *self.classes}
         self.names |= {path.name for path in root.glob("crates/*/std*")}
-        for text in antt:
-            for one in source.declarations(text):
-                self.names |= {one.name, *one.also}
-            for one in source.imports(text):
-                self.names |= {item.path[-1] for item in one.items}
-            self.names |= set(re.findall(r"^ +(?:pub )?([^\s:]+) :", text, re.M))
+        self.specs = {}
+        for path in root.glob("crates/*/*/**/*.antt"):
+            text = path.read_text(encoding="utf-8")
+            declared = {name for one in source.declarations(text) for name in (one.name, *one.also)}
+            declared |= set(re.findall(r"^ +(?:pub )?([^\s:]+) :", text, re.M))
+            if path.parent.name == "specs":
+                self.specs.setdefault(path.stem, set()).update(declared)
+            self.names |= declared
+            self.names |= {item.path[-1] for one in source.imports(text) for item in one.items}
         for text in code:
             self.names |= set(re.findall(r"\b(?:fn|struct|enum|const|mod) (\w+)", text))
             self.names |= set(re.findall(r"^ +(?:pub )?([A-Za-z]\w*)[,:({]", text, re.M))
@@ -97,10 +101,18 @@ class Things:
         """A name, or names with a field or member behind them: `Accurate .bounds`, `a::b`."""
         return all(part in self.names for part in re.split(r" \.|::", text.removeprefix(".")))
 
+    def is_elsewhere(self, one):
+        """Whether a name behind *File* is none of that file. Parentheses stand apart."""
+        before = re.sub(r"\([^()]*\)", "", one.before.rpartition(";")[2]).rpartition("(")[2]
+        named = re.findall(r"\*([A-Z]\w*)\*", before)
+        return named and one.text not in self.specs.get(named[-1], ())
+
     def lacks(self, one):
         """Whether what is cited is not there."""
         text = one.text
-        if one.column == EDITS and not one.before.endswith("those of "):
+        if one.column == "Definition" and self.is_elsewhere(one):
+            return True
+        if one.column in EDITS and not one.before.endswith("those of "):
             return not self.has_edit(one)
         if FILE.fullmatch(text):
             return not self.has_file(text)
@@ -133,8 +145,9 @@ TEXT = """Words such as `any` and `a.. b`, the file `Sums.antt` and `Gone.antt`;
 
 | Sentence | Definition | Proof | Must-fail | Test |
 |---|---|---|---|---|
-| one | `support`, `Set .count`, `.gone`, `sets::of_box` | `proofs/sets`, `proofs/gone` | `no_sum`; b `no_sum` | `test_one`, `test_two` |
-| two | `gone` | `support-le`, `Sums.antt` `gone-le` | `gone_edit`; those of `a` | `case 4`, `case 5` |
+| 1 | `Set .count`, `.gone`, `sets::of_box` | `proofs/sets`, `proofs/gone` | | `test_one`, `test_two` |
+| 2 | `gone` | `support-le`, `Sums.antt` `gone-le` | `gone_edit`; those of `a` | `case 4`, `case 5` |
+| 3 | *Sums*: `support` (by `count`), `support-le`; `count` | | `no_sum`; b `no_sum` | |
 """
 
 FILES = {
@@ -153,8 +166,8 @@ class Missing(helpers.FolderTest):
         for name, text in FILES.items():
             self.write(name, text)
         told = [one.rpartition(": ")[2].strip("`") for one in missing(self.folder, TEXT)]
-        expected = ["Gone.antt", "gone-law", ".gone", "proofs/gone", "no_sum", "test_two"]
-        self.assertEqual(told, expected + ["gone", "gone-le", "gone_edit", "case 5"])
+        expected = ["Gone.antt", "gone-law", ".gone", "proofs/gone", "test_two", "gone", "gone-le"]
+        self.assertEqual(told, expected + ["gone_edit", "case 5", "support-le", "no_sum"])
 
 
 if __name__ == "__main__":

@@ -1,5 +1,6 @@
 """Edits fit their files, and what the prover said of one is read as it should be."""
 
+import os
 import unittest
 
 import helpers
@@ -68,13 +69,17 @@ class Reasons(unittest.TestCase):
         self.assertLess(len(self.why(log)[1]), 250)
 
 
-class Trees(helpers.FolderTest):
+class TwoCrates(helpers.FolderTest):
+    """Tests in a tree of two crates."""
+
     def setUp(self):
         super().setUp()
         self.write("crates.txt", "# from the bottom up\nb: # first\na: b\n")
         self.write("crates/a/src/lib.rt", "one two\ntwo three\n")
         self.write("crates/a/must-fail/gate.edit", "file: src/lib.rt\nold: one two\nnew: two two\n")
 
+
+class Trees(TwoCrates):
     def edit(self, text):
         self.write("edits/a/e.edit", text)
         return Edit("a", "e", self.folder / "edits/a/e.edit")
@@ -106,9 +111,12 @@ class Trees(helpers.FolderTest):
 
     def test_fits(self):
         fit = "# why\nfile: src/lib.rt\nold: one\nnew: two\n"
-        self.assertIsNone(tryedits.misfit(self.folder, self.edit(fit)))
+        path = self.folder / "crates/a/src/lib.rt"
+        expected = {path: "two two\ntwo three\n"}
+        self.assertEqual(tryedits.applied(self.folder, self.edit(fit)), expected)
         both = fit + "old: three\nnew:\n"
-        self.assertIsNone(tryedits.misfit(self.folder, self.edit(both)))
+        expected = {path: "two two\ntwo \n"}
+        self.assertEqual(tryedits.applied(self.folder, self.edit(both)), expected)
 
     def test_misfits(self):
         twice, none = (f"its `old:` stands {count} times in src/lib.rt" for count in (2, 0))
@@ -119,10 +127,11 @@ class Trees(helpers.FolderTest):
             "file: src/main.rt\nold: one\nnew: two\n": "its crate has no file src/main.rt",
             "file: ../../crates.txt\nold: one\nnew: b\n": "its crate has no file ../../crates.txt",
             "file: src/lib.rt\nold: one\n": "it has no `old:` and `new:`",
-            "file: src/lib.rt\nold: one\nnew: four\nold: one\nnew: a\n": none,
+            "file: src/lib.rt\nold: one\nnew: x\nold: one\nnew: a\n": none,
         }
         for text, reason in wrong.items():
-            self.assertEqual(tryedits.misfit(self.folder, self.edit(text)), reason, text)
+            found = tryedits.misfits(self.folder, [self.edit(text)])
+            self.assertEqual(found, [f"a/e: {reason}"], text)
 
     def test_results(self):
         names = ("good", "shape", "kept", "bad", "lost")
@@ -158,6 +167,69 @@ class Trees(helpers.FolderTest):
     def test_a_row_of_the_table(self):
         result = Result(Edit("a", "e", self.folder), "refused", "7", "why")
         self.assertEqual(tryedits.told(result).split(), ["a", "e", "refused", "7", "why"])
+
+
+# Refuses a crate in which `two two` stands, and can't read one in which `four` stands.
+RT = """#!/bin/sh
+said="$PWD/crates/a/proofs/Laws.antt:53:72: error: \\`law\\`: it does not follow
+logic=not-proved"
+if [ "$1" = dev ]; then
+    if grep -q four crates/a/src/lib.rt; then echo "$PWD/crates/a/src/lib.rt:1:1: bad"; exit 1; fi
+    if grep -q 'two two' crates/a/src/lib.rt; then echo "rt: a"; echo "$said"; exit 1; fi
+    exit 0
+fi
+for edit in crates/a/must-fail/*.edit; do
+    name=$(basename "$edit" .edit)
+    mkdir -p "target/must-fail/a/$name"
+    echo "$said" > "target/must-fail/a/$name/.log"
+    echo "rt: must-fail a/$name: refused, as it must be (5 s)"
+done
+"""
+
+
+class Trying(TwoCrates):
+    """The whole way, with a stand-in for `rt`."""
+
+    def setUp(self):
+        super().setUp()
+        self.write("bin/rt", RT).chmod(0o755)
+        path = os.environ["PATH"]
+        self.addCleanup(os.environ.__setitem__, "PATH", path)
+        os.environ["PATH"] = f"{self.folder}/bin:{path}"
+        change = "file: src/lib.rt\nold: one\nnew: "
+        for name, new in (("wrong", "two"), ("same", "one"), ("unread", "four")):
+            self.write(f"edits/a/{name}.edit", change + new + "\n")
+        self.write("edits/a/misfit.edit", "file: src/lib.rt\nold: five\nnew: six\n")
+        self.write("target/stamp/a", "proved")
+        self.copy = self.folder / "copy"
+        self.copy.mkdir()
+        tryedits.copied(self.folder, self.copy)
+
+    def verdicts(self, way):
+        edits = tryedits.edits_of(self.folder, gate=False)
+        return {one.edit.name: one.verdict for one in way(self.folder, self.copy, "a", edits)}
+
+    def test_the_copy(self):
+        self.assertFalse((self.copy / "crates/a/must-fail").exists())
+        self.assertTrue((self.copy / "target/stamp/a").is_file())
+
+    def test_fast(self):
+        expected = {"wrong": "refused", "same": "NOT REFUSED"}
+        expected |= {"unread": "BAD EDIT", "misfit": "BAD EDIT"}
+        self.assertEqual(self.verdicts(tryedits.tried_fast), expected)
+        for tree in (self.folder, self.copy):
+            text = (tree / "crates/a/src/lib.rt").read_text(encoding="utf-8")
+            self.assertEqual(text, "one two\ntwo three\n")
+        log = (self.folder / "target/edits/a/wrong.log").read_text(encoding="utf-8")
+        self.assertIn("\nproofs/Laws.antt:53:72: error: `law`", log)
+
+    def test_fast_on_a_crate_that_is_not_proved(self):
+        (self.copy / "crates/a/src/lib.rt").write_text("two two\n", encoding="utf-8")
+        self.assertEqual(set(self.verdicts(tryedits.tried_fast).values()), {"NOT TRIED"})
+
+    def test_whole(self):
+        self.assertEqual(set(self.verdicts(tryedits.tried).values()), {"refused"})
+        self.assertFalse((self.copy / "crates/a/must-fail").exists())
 
 
 class Repository(unittest.TestCase):
