@@ -5,19 +5,18 @@ pub fn word(bytes: &[u8]) {
     io::write_all(STDOUT_FILENO, bytes);
 }
 
-pub fn number(x: i64) {
+// A label, a space and the number.
+pub fn natural(label: &[u8], x: u64) {
+    word(label);
+    word(b" ");
+    io::print_decimal(STDOUT_FILENO, x);
+}
+
+pub fn number(label: &[u8], x: i64) {
+    word(label);
     word(b" ");
     if x < 0 {
         word(b"-");
     }
     io::print_decimal(STDOUT_FILENO, arrays::magnitude(x));
-}
-
-pub fn natural(x: u64) {
-    word(b" ");
-    io::print_decimal(STDOUT_FILENO, x);
-}
-
-pub fn end() {
-    word(b"\n");
 }

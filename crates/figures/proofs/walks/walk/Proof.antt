@@ -1,46 +1,67 @@
 -- `figures::walks::walk` is safe and ends: the measure is what is left of the steps. Assumes nothing.
-use Rattle.integers.proofs.Basics.{_-_, _≤_, arith, needs}
+use Rattle.integers.proofs.Basics.{_+_, _-_, _≤_, arith, needs}
 use Rattle.figures.proofs.walks.walk.Statement.{statement}
 use Rattle.figures.proofs.walks.walk.Tie as tie
 
 abbrev Inv-loop : tie.InvT-loop
-Inv-loop rows n matrix d steps r₀ e₀ most₀ j₀ r e most j = j ≤ steps
+Inv-loop row n steps told matrix r₀ e₀ most₀ j₀ t12 t13 r e most j = j ≤ steps + 1
 
 abbrev μ-loop : tie.MeasureT-loop
-μ-loop rows n matrix d steps r₀ e₀ most₀ j₀ r e most j = steps - j
+μ-loop row n steps told matrix r₀ e₀ most₀ j₀ t12 t13 r e most j = steps + 1 - j
+
+count-requires : tie.Need-count-requires Inv-loop μ-loop
+count-requires c κs = tt
+
+count-requires-2 : tie.Need-count-requires-2 Inv-loop μ-loop
+count-requires-2 c κs = tt
+
+returns : tie.Need-returns Inv-loop μ-loop
+returns c = tt
+
+count-requires-3 : tie.Need-count-requires-3 Inv-loop μ-loop
+count-requires-3 c κs = tt
+
+matrix-of-requires : tie.Need-matrix-of-requires Inv-loop μ-loop
+matrix-of-requires c κs = tt
+
+entry-requires : tie.Need-entry-requires Inv-loop μ-loop
+entry-requires c κs = tt
+
+entry-requires-2 : tie.Need-entry-requires-2 Inv-loop μ-loop
+entry-requires-2 c κs = tt
 
 first-requires : tie.Need-first-requires Inv-loop μ-loop
-first-requires c κs = search needs
-
-growth-requires : tie.Need-growth-requires Inv-loop μ-loop
-growth-requires c κs = search needs
-
-sum-of-requires : tie.Need-sum-of-requires Inv-loop μ-loop
-sum-of-requires c κs = search needs
-
-row-requires : tie.Need-row-requires Inv-loop μ-loop
-row-requires c κs = search needs
+first-requires c κs = tt
 
 loop-holds : tie.Need-loop-holds Inv-loop μ-loop
 loop-holds c = omega arith
 
-step-requires : tie.Need-step-requires Inv-loop μ-loop
-step-requires c κs = search needs
+sum-at-requires : tie.Need-sum-at-requires Inv-loop μ-loop
+sum-at-requires c κs = tt
 
-sum-of-requires-2 : tie.Need-sum-of-requires-2 Inv-loop μ-loop
-sum-of-requires-2 c κs = search needs
+tell-step-requires : tie.Need-tell-step-requires Inv-loop μ-loop
+tell-step-requires c κs = tt
+
+slice-aggregate-natural : tie.Need-slice-aggregate-natural Inv-loop μ-loop
+slice-aggregate-natural c = search needs
+
+natural-requires : tie.Need-natural-requires Inv-loop μ-loop
+natural-requires c κs = tt
+
+slice-aggregate-word : tie.Need-slice-aggregate-word Inv-loop μ-loop
+slice-aggregate-word c = search needs
+
+word-requires : tie.Need-word-requires Inv-loop μ-loop
+word-requires c κs = tt
+
+returns-2 : tie.Need-returns-2 Inv-loop μ-loop
+returns-2 c = tt
+
+larger-requires : tie.Need-larger-requires Inv-loop μ-loop
+larger-requires c κs = tt
 
 add-j : tie.Need-add-j Inv-loop μ-loop
 add-j c = omega arith
-
-row-requires-2 : tie.Need-row-requires-2 Inv-loop μ-loop
-row-requires-2 c κs = search needs
-
-grown-requires : tie.Need-grown-requires Inv-loop μ-loop
-grown-requires c κs = search needs
-
-returns : tie.Need-returns Inv-loop μ-loop
-returns c = search needs
 
 loop-less : tie.Need-loop-less Inv-loop μ-loop
 loop-less c = omega arith
@@ -48,17 +69,11 @@ loop-less c = omega arith
 loop-again : tie.Need-loop-again Inv-loop μ-loop
 loop-again c = omega arith
 
-loop-less-2 : tie.Need-loop-less-2 Inv-loop μ-loop
-loop-less-2 c = omega arith
+tell-spare-requires : tie.Need-tell-spare-requires Inv-loop μ-loop
+tell-spare-requires c κs = tt
 
-loop-again-2 : tie.Need-loop-again-2 Inv-loop μ-loop
-loop-again-2 c = omega arith
-
-result-requires : tie.Need-result-requires Inv-loop μ-loop
-result-requires c κs = search needs
-
-returns-2 : tie.Need-returns-2 Inv-loop μ-loop
-returns-2 c = search needs
+returns-3 : tie.Need-returns-3 Inv-loop μ-loop
+returns-3 c = tt
 
 pub walk-spec : {M : Type 1} → statement M
 walk-spec =
@@ -66,20 +81,25 @@ walk-spec =
     (tie.spec
     Inv-loop
     μ-loop
-    first-requires
-    growth-requires
-    sum-of-requires
-    row-requires
-    loop-holds
-    step-requires
-    sum-of-requires-2
-    add-j
-    row-requires-2
-    grown-requires
+    count-requires
+    count-requires-2
     returns
+    count-requires-3
+    matrix-of-requires
+    entry-requires
+    entry-requires-2
+    first-requires
+    loop-holds
+    sum-at-requires
+    tell-step-requires
+    slice-aggregate-natural
+    natural-requires
+    slice-aggregate-word
+    word-requires
+    returns-2
+    larger-requires
+    add-j
     loop-less
     loop-again
-    loop-less-2
-    loop-again-2
-    result-requires
-    returns-2)
+    tell-spare-requires
+    returns-3)

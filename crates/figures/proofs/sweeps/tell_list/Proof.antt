@@ -1,16 +1,22 @@
--- `figures::sweeps::list` is safe and ends: the measure is what is left of the list. Assumes nothing.
+-- `figures::sweeps::tell_list` is safe and ends: the measure is what is left of the list. Assumes nothing.
 use Rattle.integers.proofs.Basics.{_-_, _≤_, arith, needs, length}
-use Rattle.figures.proofs.sweeps.list.Statement.{statement}
-use Rattle.figures.proofs.sweeps.list.Tie as tie
+use Rattle.figures.proofs.sweeps.tell_list.Statement.{statement}
+use Rattle.figures.proofs.sweeps.tell_list.Tie as tie
 
 abbrev Inv-loop : tie.InvT-loop
-Inv-loop xs k₀ k = k ≤ length xs
+Inv-loop label xs k₀ t4 t5 k = k ≤ length xs
 
 abbrev μ-loop : tie.MeasureT-loop
-μ-loop xs k₀ k = length xs - k
+μ-loop label xs k₀ t4 t5 k = length xs - k
+
+word-requires : tie.Need-word-requires Inv-loop μ-loop
+word-requires c κs = tt
 
 loop-holds : tie.Need-loop-holds Inv-loop μ-loop
 loop-holds c = omega arith
+
+slice-aggregate-number : tie.Need-slice-aggregate-number Inv-loop μ-loop
+slice-aggregate-number c = search needs
 
 mul-number : tie.Need-mul-number Inv-loop μ-loop
 mul-number c = search needs
@@ -19,7 +25,7 @@ shared-slice-copy-out-number : tie.Need-shared-slice-copy-out-number Inv-loop μ
 shared-slice-copy-out-number c = omega arith
 
 number-requires : tie.Need-number-requires Inv-loop μ-loop
-number-requires c κs = search needs
+number-requires c κs = tt
 
 add-k : tie.Need-add-k Inv-loop μ-loop
 add-k c = omega arith
@@ -30,24 +36,30 @@ loop-less c = omega arith
 loop-again : tie.Need-loop-again Inv-loop μ-loop
 loop-again c = omega arith
 
-end-requires : tie.Need-end-requires Inv-loop μ-loop
-end-requires c κs = search needs
+slice-aggregate-word : tie.Need-slice-aggregate-word Inv-loop μ-loop
+slice-aggregate-word c = search needs
+
+word-requires-2 : tie.Need-word-requires-2 Inv-loop μ-loop
+word-requires-2 c κs = tt
 
 returns : tie.Need-returns Inv-loop μ-loop
-returns c = search needs
+returns c = tt
 
-pub list-spec : {M : Type 1} → statement M
-list-spec =
+pub tell-list-spec : {M : Type 1} → statement M
+tell-list-spec =
     tie.close
     (tie.spec
     Inv-loop
     μ-loop
+    word-requires
     loop-holds
+    slice-aggregate-number
     mul-number
     shared-slice-copy-out-number
     number-requires
     add-k
     loop-less
     loop-again
-    end-requires
+    slice-aggregate-word
+    word-requires-2
     returns)
