@@ -1,43 +1,33 @@
-// Numbers of a row. A row has sections between bars, and a section has words between spaces, each of them a number or a name.
-// A cell is given by its section and its place there, both from 0. Numbers are decimal; one that is missing is 0.
+// Numbers of a row. A row has words between spaces: a name, numbers, and bars that part it into sections. A cell's number has
+// the section in its high hexadecimal digit and the place in the low one; a bar stands at place 0 of the section that it opens.
+// Numbers are decimal, and one that is missing is 0.
 
 // The byte at a place of the row, 0 beyond its end.
 pub fn letter(row: &[u8], k: usize) -> u8 {
     if k < row.len() { row[k] } else { 0 }
 }
 
-// The cell at which the byte `b` stands, eight to a section, where the byte before it stands at cell `at`.
-fn cell_after(at: u64, before: u8, b: u8) -> u64 {
-    if 1000 < at {
+// The cell of the byte `b`, where the byte `before` it is of cell `at`.
+fn cell_after(at: u8, before: u8, b: u8) -> u8 {
+    if before != b' ' {
         return at;
     }
-    if b == b'|' {
-        return 8 * (at / 8) + 8;
+    match b {
+        b' ' => at,
+        b'|' => 16 * ((at / 16 + 1) % 16),
+        _ => at % 255 + 1,
     }
-    if b != b' ' {
-        return at;
-    }
-    if before == b' ' {
-        return at;
-    }
-    if before == b'|' {
-        return at;
-    }
-    at + 1
 }
 
 // The number that a digit makes of those before it. Any other byte leaves it as it is.
 fn with_digit(size: u64, b: u8) -> u64 {
-    if 1000000000000000000 < size {
-        return size;
-    }
     if b < b'0' {
         return size;
     }
     if b'9' < b {
         return size;
     }
-    10 * size + (b - b'0') as u64
+    10 * (size % 1000000000000000000) + (b - b'0') as u64
 }
 
 fn signed(negative: bool, size: u64) -> i64 {
@@ -51,11 +41,10 @@ fn signed(negative: bool, size: u64) -> i64 {
     }
 }
 
-pub fn number(row: &[u8], section: u8, place: u8) -> i64 {
-    let cell = 8 * (section as u64) + place as u64;
+pub fn number(row: &[u8], cell: u8) -> i64 {
     let mut size: u64 = 0;
     let mut negative = false;
-    let mut at: u64 = 0;
+    let mut at: u8 = 0;
     let mut before = b' ';
     let mut k: usize = 0;
     while k < row.len() {
@@ -72,8 +61,8 @@ pub fn number(row: &[u8], section: u8, place: u8) -> i64 {
 }
 
 // The same as a number of 32 bits, 0 where it does not fit.
-pub fn entry(row: &[u8], section: u8, place: u8) -> i32 {
-    let x = number(row, section, place);
+pub fn entry(row: &[u8], cell: u8) -> i32 {
+    let x = number(row, cell);
     if x < -2147483648 {
         return 0;
     }
@@ -84,6 +73,6 @@ pub fn entry(row: &[u8], section: u8, place: u8) -> i32 {
 }
 
 // The same without its sign.
-pub fn count(row: &[u8], section: u8, place: u8) -> usize {
-    arrays::magnitude(number(row, section, place)) as usize
+pub fn count(row: &[u8], cell: u8) -> usize {
+    arrays::magnitude(number(row, cell)) as usize
 }

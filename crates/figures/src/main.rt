@@ -8,6 +8,7 @@ mod sweeps;
 mod text;
 mod walks;
 
+use text::end;
 use text::word;
 
 // Runs one row. A row that starts with # is a comment, and one that starts with any other byte than a space a heading.
@@ -28,7 +29,7 @@ fn run(row: &[u8]) {
         },
         _ => {
             word(row);
-            word(b"\n");
+            end();
         }
     }
 }

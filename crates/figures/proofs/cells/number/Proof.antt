@@ -4,16 +4,10 @@ use Rattle.figures.proofs.cells.number.Statement.{statement}
 use Rattle.figures.proofs.cells.number.Tie as tie
 
 abbrev Inv-loop : tie.InvT-loop
-Inv-loop row section place cell size₀ negative₀ at₀ before₀ k₀ size negative at before k = k ≤ length row
+Inv-loop row cell size₀ negative₀ at₀ before₀ k₀ size negative at before k = k ≤ length row
 
 abbrev μ-loop : tie.MeasureT-loop
-μ-loop row section place cell size₀ negative₀ at₀ before₀ k₀ size negative at before k = length row - k
-
-mul-cell : tie.Need-mul-cell Inv-loop μ-loop
-mul-cell c = search needs
-
-add-cell : tie.Need-add-cell Inv-loop μ-loop
-add-cell c = search needs
+μ-loop row cell size₀ negative₀ at₀ before₀ k₀ size negative at before k = length row - k
 
 loop-holds : tie.Need-loop-holds Inv-loop μ-loop
 loop-holds c = omega arith
@@ -48,8 +42,6 @@ number-spec =
     (tie.spec
     Inv-loop
     μ-loop
-    mul-cell
-    add-cell
     loop-holds
     shared-slice-read-b
     cell-after-requires

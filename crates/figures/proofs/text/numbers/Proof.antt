@@ -1,13 +1,13 @@
--- `figures::sweeps::tell_list` is safe and ends: the measure is what is left of the list. Assumes nothing.
+-- `figures::text::numbers` is safe and ends: the measure is what is left of the list. Assumes nothing.
 use Rattle.integers.proofs.Basics.{_-_, _≤_, arith, needs, length}
-use Rattle.figures.proofs.sweeps.tell_list.Statement.{statement}
-use Rattle.figures.proofs.sweeps.tell_list.Tie as tie
+use Rattle.figures.proofs.text.numbers.Statement.{statement}
+use Rattle.figures.proofs.text.numbers.Tie as tie
 
 abbrev Inv-loop : tie.InvT-loop
-Inv-loop label xs k₀ t4 t5 k = k ≤ length xs
+Inv-loop label xs most k₀ k = k ≤ length xs
 
 abbrev μ-loop : tie.MeasureT-loop
-μ-loop label xs k₀ t4 t5 k = length xs - k
+μ-loop label xs most k₀ k = length xs - k
 
 word-requires : tie.Need-word-requires Inv-loop μ-loop
 word-requires c κs = tt
@@ -15,8 +15,8 @@ word-requires c κs = tt
 loop-holds : tie.Need-loop-holds Inv-loop μ-loop
 loop-holds c = omega arith
 
-slice-aggregate-number : tie.Need-slice-aggregate-number Inv-loop μ-loop
-slice-aggregate-number c = search needs
+returns : tie.Need-returns Inv-loop μ-loop
+returns c = tt
 
 mul-number : tie.Need-mul-number Inv-loop μ-loop
 mul-number c = search needs
@@ -36,30 +36,22 @@ loop-less c = omega arith
 loop-again : tie.Need-loop-again Inv-loop μ-loop
 loop-again c = omega arith
 
-slice-aggregate-word : tie.Need-slice-aggregate-word Inv-loop μ-loop
-slice-aggregate-word c = search needs
+returns-2 : tie.Need-returns-2 Inv-loop μ-loop
+returns-2 c = tt
 
-word-requires-2 : tie.Need-word-requires-2 Inv-loop μ-loop
-word-requires-2 c κs = tt
-
-returns : tie.Need-returns Inv-loop μ-loop
-returns c = tt
-
-pub tell-list-spec : {M : Type 1} → statement M
-tell-list-spec =
+pub numbers-spec : {M : Type 1} → statement M
+numbers-spec =
     tie.close
     (tie.spec
     Inv-loop
     μ-loop
     word-requires
     loop-holds
-    slice-aggregate-number
+    returns
     mul-number
     shared-slice-copy-out-number
     number-requires
     add-k
     loop-less
     loop-again
-    slice-aggregate-word
-    word-requires-2
-    returns)
+    returns-2)
