@@ -52,7 +52,7 @@ pub fn number(row: &[u8], cell: u8) -> i64 {
         at = cell_after(at, before, b);
         if at == cell {
             size = with_digit(size, b);
-            negative = negative || b == b'-';
+            negative = negative | (b == b'-');
         }
         before = b;
         k += 1;

@@ -8,8 +8,7 @@ mod sweeps;
 mod text;
 mod walks;
 
-use text::end;
-use text::word;
+use libc::STDOUT_FILENO;
 
 // Runs one row. A row that starts with # is a comment, and one that starts with any other byte than a space a heading.
 fn run(row: &[u8]) {
@@ -17,6 +16,7 @@ fn run(row: &[u8]) {
         b'#' => {}
         b' ' => match cells::letter(row, 1) {
             b'w' => walks::walk(row),
+            b'l' => walks::last(row),
             b'g' => walks::growth(row),
             b'r' => sets::reach(row),
             b'j' => sweeps::run(row),
@@ -28,8 +28,8 @@ fn run(row: &[u8]) {
             },
         },
         _ => {
-            word(row);
-            end();
+            io::write_all(STDOUT_FILENO, row);
+            text::end();
         }
     }
 }
@@ -41,7 +41,7 @@ fn run_argument(i: usize) {
 }
 
 fn main() {
-    for i in 1..os::arg_count() {
+    for i in 17..os::arg_count() {
         run_argument(i);
     }
 }

@@ -1,11 +1,13 @@
 // The three sets: support and reach through the public routines.
 use crate::cells::count;
 use crate::cells::entry;
+use crate::text;
+use crate::text::answer;
 use crate::text::end;
 use crate::text::natural;
 use crate::text::number;
-use crate::text::numbers;
-use crate::text::refused;
+use crate::text::pair;
+use crate::text::tell;
 use crate::text::word;
 use crate::walks::r_of;
 use reachability::sets::Reached;
@@ -45,11 +47,11 @@ pub fn set_of(row: &[u8], section: u8) -> Set {
 fn tell_support(a: Supported) {
     match a {
         Supported::Value(v) => {
-            word(b" support");
+            word(text::SUPPORT);
             number(v);
             end();
         }
-        Supported::Refused => refused(11),
+        Supported::Refused => tell(answer(text::REFUSED, 11)),
     }
 }
 
@@ -60,9 +62,10 @@ pub fn support(row: &[u8]) {
 
 // The number, and the reach in the first two coordinates.
 fn tell_reach(a: Reached) {
+    word(text::NUMBER);
+    natural(a.number as u64);
     let reaches = a.reaches;
-    natural(b" number", a.number as u64);
-    numbers(b" reach", &reaches, 2);
+    pair(text::REACH, reaches);
     end();
 }
 

@@ -4,12 +4,10 @@ use crate::cells::entry;
 use crate::cells::letter;
 use crate::cells::number;
 use crate::sets::set_of;
-use crate::text::end;
-use crate::text::numbers;
-use crate::text::refused;
-use crate::text::refused_at;
-use crate::text::told;
-use crate::text::word;
+use crate::text;
+use crate::text::answer;
+use crate::text::list;
+use crate::text::tell;
 use crate::walks::matrix_of;
 use reachability::judge::Judged;
 use reachability::model::Model;
@@ -70,66 +68,60 @@ fn length_of(row: &[u8], cell: u8, xs: &[i64]) -> usize
     if asked < xs.len() { asked } else { xs.len() }
 }
 
-fn tell_swept(a: Swept) {
+fn of_swept(a: Swept) -> usize {
     match a {
-        Swept::Spare(h) => told(b" spare", h as usize),
-        Swept::Invalid => refused(11),
-        Swept::NoDirection => refused(12),
-        Swept::WrongLength => refused(13),
-        Swept::Growth(k) => refused_at(k),
+        Swept::Spare(h) => answer(text::SPARE, h as usize),
+        Swept::Invalid => answer(text::REFUSED, 11),
+        Swept::NoDirection => answer(text::REFUSED, 12),
+        Swept::WrongLength => answer(text::REFUSED, 13),
+        Swept::Growth(k) => answer(text::REFUSED_14, k),
     }
 }
 
-fn tell_judged(a: Judged) {
+fn of_judged(a: Judged) -> usize {
     match a {
-        Judged::Hit(k) => told(b" HIT", k),
-        Judged::Unknown(k) => told(b" UNKNOWN", k),
-        Judged::Clear => word(b" CLEAR\n"),
-        Judged::Invalid => refused(11),
-        Judged::NoGuard => refused(12),
-        Judged::WrongLength => refused(13),
-        Judged::Growth(k) => refused_at(k),
+        Judged::Hit(k) => answer(text::HIT, k),
+        Judged::Unknown(k) => answer(text::UNKNOWN, k),
+        Judged::Clear => answer(text::CLEAR, 999),
+        Judged::Invalid => answer(text::REFUSED, 11),
+        Judged::NoGuard => answer(text::REFUSED, 12),
+        Judged::WrongLength => answer(text::REFUSED, 13),
+        Judged::Growth(k) => answer(text::REFUSED_14, k),
     }
 }
 
-// Both lists, as they are left.
-fn tell_lists(bounds: &[i64], slacks: &[i64]) {
-    numbers(b" bounds", bounds, 258);
-    end();
-    numbers(b" slacks", slacks, 258);
-    end();
+fn sweep(row: &[u8], bounds: &mut [i64], slacks: &mut [i64]) -> usize {
+    of_swept(reachability::sweep::sweep(model_of(row), count(row, 0x61), bounds, slacks))
 }
 
-fn sweep(row: &[u8], bounds: &mut [i64], slacks: &mut [i64]) {
-    tell_swept(reachability::sweep::sweep(model_of(row), count(row, 0x61), bounds, slacks));
-    tell_lists(bounds, slacks);
-}
-
-fn judge(row: &[u8], bounds: &mut [i64], slacks: &mut [i64]) {
-    tell_judged(reachability::judge::judge(model_of(row), count(row, 0x61), bounds, slacks));
-    tell_lists(bounds, slacks);
+fn judge(row: &[u8], bounds: &mut [i64], slacks: &mut [i64]) -> usize {
+    of_judged(reachability::judge::judge(model_of(row), count(row, 0x61), bounds, slacks))
 }
 
 // The verdict on a level, by lists that no sweep filled.
-fn verdict(row: &[u8], bounds: &[i64], slacks: &[i64]) {
-    tell_judged(reachability::judge::verdict(Swept::Spare(0), number(row, 0x53), bounds, slacks));
+fn verdict(row: &[u8], bounds: &[i64], slacks: &[i64]) -> usize {
+    of_judged(reachability::judge::verdict(Swept::Spare(0), number(row, 0x53), bounds, slacks))
 }
 
-fn lend(row: &[u8], bounds: &mut [i64], slacks: &mut [i64]) {
+fn asked(row: &[u8], bounds: &mut [i64], slacks: &mut [i64]) -> usize {
     match letter(row, 1) {
         b's' => {
-            sweep(row, bounds, slacks);
-            return;
+            return sweep(row, bounds, slacks);
         }
         b'j' => {
-            judge(row, bounds, slacks);
-            return;
+            return judge(row, bounds, slacks);
         }
         _ => {
-            verdict(row, bounds, slacks);
-            return;
+            return verdict(row, bounds, slacks);
         }
     }
+}
+
+// The answer, and the lists as they are left.
+fn lend(row: &[u8], bounds: &mut [i64], slacks: &mut [i64]) {
+    tell(asked(row, bounds, slacks));
+    list(text::BOUNDS, bounds);
+    list(text::SLACKS, slacks);
 }
 
 // A sweep, a judge or a verdict, by lists with 7 in each bound and 9 in each slack.

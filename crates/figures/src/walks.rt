@@ -2,13 +2,23 @@
 use crate::cells::count;
 use crate::cells::entry;
 use crate::cells::number;
+use crate::text;
+use crate::text::answer;
 use crate::text::end;
 use crate::text::natural;
-use crate::text::numbers;
-use crate::text::told;
+use crate::text::pair;
+use crate::text::tell;
 use crate::text::word;
 use stepping::Spare;
 use stepping::Stepped;
+
+// A working direction with the answer that led to it: its growth sum, or a refusal.
+struct State {
+    r: [i64; 6],
+    e: [i64; 6],
+    sum: u64,
+    refused: bool,
+}
 
 // The matrix of a row: the first two entries of its first two rows.
 pub fn matrix_of(row: &[u8]) -> [i32; 36] {
@@ -29,104 +39,132 @@ fn e_of(row: &[u8]) -> [i64; 6] {
     [number(row, 0x23), number(row, 0x24), 0, 0, 0, 0]
 }
 
-fn tell_sum(a: Stepped) {
+fn made(a: Stepped, r: [i64; 6], e: [i64; 6]) -> State {
     match a {
-        Stepped::Sum(s) => natural(b" sum", s),
-        Stepped::Refused => natural(b" refused", 11),
+        Stepped::Sum(sum) => State {
+            r,
+            e,
+            sum,
+            refused: false,
+        },
+        Stepped::Refused => State {
+            r,
+            e,
+            sum: 0,
+            refused: true,
+        },
     }
 }
 
-fn tell_spare(most: u64) {
-    match stepping::spare_bits(most) {
-        Spare::Bits(h) => told(b" spare", h as usize),
-        Spare::NoSpare => word(b" no spare\n"),
-    }
+// r and e with their growth sum.
+fn state_of(n: usize, r: [i64; 6], e: [i64; 6]) -> State {
+    let a = stepping::growth(n, &r, &e);
+    made(a, r, e)
 }
 
-// The growth sum of an answer, 0 where it is a refusal.
-fn sum_of(a: Stepped) -> u64 {
-    match a {
-        Stepped::Sum(s) => s,
-        Stepped::Refused => 0,
-    }
+// r and e one step on.
+fn stepped(n: usize, matrix: [i32; 36], mut r: [i64; 6], mut e: [i64; 6]) -> State {
+    let a = stepping::step(n, &matrix, &mut r, &mut e);
+    made(a, r, e)
 }
 
-// The step, the first two coordinates of r, those of e, and the growth sum.
-fn tell_step(j: usize, r: &[i64], e: &[i64], sum: u64) {
-    natural(b"", j as u64);
-    numbers(b" r", r, 2);
-    numbers(b" e", e, 2);
-    natural(b" sum", sum);
-    end();
-}
-
-// A direction's walk from r and e on: each step where `all` is 1, then the spare figure, or growth and its step.
-fn walk_from(
-    all: usize,
-    n: usize,
-    steps: usize,
-    matrix: &[i32; 36],
-    r: &mut [i64; 6],
-    e: &mut [i64; 6],
-) {
-    let mut sum = sum_of(stepping::growth(n, r, e));
-    let mut most: u64 = 0;
-    let mut j: usize = 0;
-    while j <= steps % 257 {
-        if all == 1 {
-            tell_step(j, r, e, sum);
-        }
-        if 1073741824 < sum {
-            told(b" growth", j);
-            return;
-        }
-        most = arrays::larger(most, sum);
-        sum = sum_of(stepping::step(n, matrix, r, e));
-        j += 1;
-    }
-    tell_spare(most);
-}
-
-pub fn walk(row: &[u8]) {
+fn first_of(row: &[u8]) -> State {
     let d = [entry(row, 0x21), entry(row, 0x22), 0, 0, 0, 0];
     let mut r = [0i64; 6];
     let mut e = [0i64; 6];
     stepping::first(&d, &mut r, &mut e);
-    let matrix = matrix_of(row);
-    walk_from(
-        count(row, 0x04),
-        count(row, 0x02),
-        count(row, 0x03),
-        &matrix,
-        &mut r,
-        &mut e,
-    );
+    state_of(count(row, 0x02), r, e)
 }
 
-// One step: the answer, and what r and e hold after it.
-fn step_from(n: usize, matrix: &[i32; 36], r: &mut [i64; 6], e: &mut [i64; 6]) {
-    tell_sum(stepping::step(n, matrix, r, e));
-    numbers(b" r", r, 2);
-    numbers(b" e", e, 1);
+fn next_of(row: &[u8], s: State) -> State {
+    let r = s.r;
+    let e = s.e;
+    stepped(count(row, 0x02), matrix_of(row), r, e)
+}
+
+// The state after so many steps from a row's direction.
+fn walked(row: &[u8], steps: usize) -> State {
+    let mut s = first_of(row);
+    for _ in 0..steps {
+        s = next_of(row, s);
+    }
+    s
+}
+
+// The step, the first two coordinates of r, those of e, and the growth sum.
+pub fn walk(row: &[u8]) {
+    let steps = count(row, 0x03);
+    let s = walked(row, steps);
+    let r = s.r;
+    let e = s.e;
+    natural(steps as u64);
+    pair(text::R, r);
+    pair(text::E, e);
+    word(text::SUM);
+    natural(s.sum);
     end();
 }
 
+fn spare_of(most: u64) -> usize {
+    match stepping::spare_bits(most) {
+        Spare::Bits(h) => answer(text::SPARE, h as usize),
+        Spare::NoSpare => answer(text::NO_SPARE, 999),
+    }
+}
+
+fn sum_at(row: &[u8], steps: usize) -> u64 {
+    walked(row, steps).sum
+}
+
+// The spare figure of the steps below K + 1, or growth and its step.
+fn ended(row: &[u8], size: usize) -> usize {
+    let mut most: u64 = 0;
+    for j in 0..size {
+        let sum = sum_at(row, j);
+        if 1073741824 < sum {
+            return answer(text::GROWTH, j);
+        }
+        most = arrays::larger(most, sum);
+    }
+    spare_of(most)
+}
+
+pub fn last(row: &[u8]) {
+    tell(ended(row, count(row, 0x03) % 257 + 1));
+}
+
+fn tell_sum(s: State) {
+    if s.refused {
+        word(text::REFUSED);
+        natural(11);
+    } else {
+        word(text::SUM);
+        natural(s.sum);
+    }
+}
+
+fn tell_step(s: State) {
+    let r = s.r;
+    let e = s.e;
+    tell_sum(s);
+    pair(text::R, r);
+    word(text::E);
+    text::number(e[0]);
+    end();
+}
+
+// One step: the answer, and what r and e hold after it.
 pub fn step(row: &[u8]) {
-    let matrix = matrix_of(row);
-    let mut r = r_of(row);
-    let mut e = e_of(row);
-    step_from(count(row, 0x02), &matrix, &mut r, &mut e);
+    tell_step(stepped(count(row, 0x02), matrix_of(row), r_of(row), e_of(row)));
 }
 
 pub fn growth(row: &[u8]) {
-    let r = r_of(row);
-    let e = e_of(row);
-    tell_sum(stepping::growth(count(row, 0x02), &r, &e));
+    tell_sum(state_of(count(row, 0x02), r_of(row), e_of(row)));
     end();
 }
 
 pub fn spare(row: &[u8]) {
     let most = count(row, 0x02) as u64;
-    natural(b"", most);
-    tell_spare(most);
+    natural(most);
+    tell(spare_of(most));
 }
