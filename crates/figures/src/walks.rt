@@ -1,189 +1,170 @@
 // The stepping arithmetic: working directions step by step, growth, spare, and the refusals of `step`.
+use crate::cells::count;
+use crate::cells::entry;
+use crate::cells::number;
+use crate::text;
+use crate::text::answer;
 use crate::text::end;
 use crate::text::natural;
-use crate::text::number;
+use crate::text::pair;
+use crate::text::tell;
 use crate::text::word;
 use stepping::Spare;
 use stepping::Stepped;
 
-// One row and one column.
-pub fn single(entry: i32) -> [i32; 36] {
+// A working direction with the answer that led to it: its growth sum, or a refusal.
+struct State {
+    r: [i64; 6],
+    e: [i64; 6],
+    sum: u64,
+    refused: bool,
+}
+
+// The matrix of a row: the first two entries of its first two rows.
+pub fn matrix_of(row: &[u8]) -> [i32; 36] {
     let mut m = [0i32; 36];
-    m[0] = entry;
+    m[0] = entry(row, 0x11);
+    m[1] = entry(row, 0x12);
+    m[6] = entry(row, 0x13);
+    m[7] = entry(row, 0x14);
     m
 }
 
-fn direction(first: i32) -> [i32; 6] {
-    [first, 0, 0, 0, 0, 0]
+// The working direction of a row, and its errors.
+pub fn r_of(row: &[u8]) -> [i64; 6] {
+    [number(row, 0x21), number(row, 0x22), 0, 0, 0, 0]
 }
 
-// The growth sum of an answer, 0 where it is a refusal.
-fn sum_of(a: Stepped) -> u64 {
+fn e_of(row: &[u8]) -> [i64; 6] {
+    [number(row, 0x23), number(row, 0x24), 0, 0, 0, 0]
+}
+
+fn made(a: Stepped, r: [i64; 6], e: [i64; 6]) -> State {
     match a {
-        Stepped::Sum(s) => s,
-        Stepped::Refused => 0,
+        Stepped::Sum(sum) => State {
+            r,
+            e,
+            sum,
+            refused: false,
+        },
+        Stepped::Refused => State {
+            r,
+            e,
+            sum: 0,
+            refused: true,
+        },
     }
+}
+
+// r and e with their growth sum.
+fn state_of(n: usize, r: [i64; 6], e: [i64; 6]) -> State {
+    let a = stepping::growth(n, &r, &e);
+    made(a, r, e)
+}
+
+// r and e one step on.
+fn stepped(n: usize, matrix: [i32; 36], mut r: [i64; 6], mut e: [i64; 6]) -> State {
+    let a = stepping::step(n, &matrix, &mut r, &mut e);
+    made(a, r, e)
+}
+
+fn first_of(row: &[u8]) -> State {
+    let d = [entry(row, 0x21), entry(row, 0x22), 0, 0, 0, 0];
+    let mut r = [0i64; 6];
+    let mut e = [0i64; 6];
+    stepping::first(&d, &mut r, &mut e);
+    state_of(count(row, 0x02), r, e)
+}
+
+fn next_of(row: &[u8], s: State) -> State {
+    let r = s.r;
+    let e = s.e;
+    stepped(count(row, 0x02), matrix_of(row), r, e)
+}
+
+// The state after so many steps from a row's direction.
+fn walked(row: &[u8], steps: usize) -> State {
+    let mut s = first_of(row);
+    for _ in 0..steps {
+        s = next_of(row, s);
+    }
+    s
 }
 
 // The step, the first two coordinates of r, those of e, and the growth sum.
-fn row(j: u64, r: &[i64; 6], e: &[i64; 6], sum: u64) {
-    natural(j);
-    word(b" r");
-    number(r[0]);
-    number(r[1]);
-    word(b" e");
-    number(e[0]);
-    number(e[1]);
-    word(b" sum");
-    natural(sum);
+pub fn walk(row: &[u8]) {
+    let steps = count(row, 0x03);
+    let s = walked(row, steps);
+    let r = s.r;
+    let e = s.e;
+    natural(steps as u64);
+    pair(text::R, r);
+    pair(text::E, e);
+    word(text::SUM);
+    natural(s.sum);
     end();
 }
 
-fn result(most: u64) {
+fn spare_of(most: u64) -> usize {
     match stepping::spare_bits(most) {
-        Spare::Bits(h) => {
-            word(b" spare");
-            natural(h as u64);
-        }
-        Spare::NoSpare => word(b" no spare"),
+        Spare::Bits(h) => answer(text::SPARE, h as usize),
+        Spare::NoSpare => answer(text::NO_SPARE, 999),
     }
-    end();
 }
 
-fn grown(j: u64) {
-    word(b" growth");
-    natural(j);
-    end();
+fn sum_at(row: &[u8], steps: usize) -> u64 {
+    walked(row, steps).sum
 }
 
-// A direction's walk: a row for each step where `rows`, then the spare figure, or growth and its step.
-fn walk(rows: bool, n: usize, matrix: &[i32; 36], d: &[i32; 6], steps: u64) {
-    let mut r = [0i64; 6];
-    let mut e = [0i64; 6];
-    stepping::first(d, &mut r, &mut e);
-    let mut most = sum_of(stepping::growth(n, &r, &e));
-    if rows {
-        row(0, &r, &e, most);
-    }
-    let mut j: u64 = 0;
-    while j < steps {
-        let sum = sum_of(stepping::step(n, matrix, &mut r, &mut e));
-        j += 1;
-        if rows {
-            row(j, &r, &e, sum);
-        }
+// The spare figure of the steps below K + 1, or growth and its step.
+fn ended(row: &[u8], size: usize) -> usize {
+    let mut most: u64 = 0;
+    for j in 0..size {
+        let sum = sum_at(row, j);
         if 1073741824 < sum {
-            grown(j);
-            return;
+            return answer(text::GROWTH, j);
         }
-        if most < sum {
-            most = sum;
-        }
+        most = arrays::larger(most, sum);
     }
-    result(most);
+    spare_of(most)
 }
 
-// Cases 4 to 8 and 12 of document 01.
-pub fn marked() {
-    word(b"case 4\n");
-    walk(true, 1, &single(32768), &direction(1), 3);
-    word(b"case 5\n");
-    walk(true, 1, &single(1), &direction(1), 2);
-    word(b"case 6\n");
-    walk(true, 1, &single(1), &direction(-1), 2);
-    word(b"case 7\n");
-    walk(true, 1, &single(131072), &direction(1), 10);
-    word(b"case 8\n");
-    walk(false, 1, &single(131072), &direction(1), 11);
-    word(b"case 12\n");
-    let mut shift = [0i32; 36];
-    shift[1] = 65536;
-    walk(true, 2, &shift, &direction(1), 1);
+pub fn last(row: &[u8]) {
+    tell(ended(row, count(row, 0x03) % 257 + 1));
 }
 
-// Figures that the list of document 01 lacks.
-pub fn further() {
-    word(b"growth by e alone\n");
-    walk(false, 1, &single(75922), &direction(763), 2);
-    word(b"spare with e\n");
-    walk(false, 1, &single(81325), &direction(87), 5);
-    word(b"errors rounded up\n");
-    walk(true, 1, &single(3), &direction(1), 3);
-}
-
-// One step of r and e in their first coordinate and `beyond` in their second: the answer, and what r and e hold after it.
-fn answer(n: usize, matrix: &[i32; 36], first: i64, error: i64, beyond: i64) {
-    let mut r = [first, beyond, 0, 0, 0, 0];
-    let mut e = [error, 0, 0, 0, 0, 0];
-    match stepping::step(n, matrix, &mut r, &mut e) {
-        Stepped::Sum(s) => {
-            word(b" sum");
-            natural(s);
-        }
-        Stepped::Refused => word(b" refused 11"),
+fn tell_sum(s: State) {
+    if s.refused {
+        word(text::REFUSED);
+        natural(11);
+    } else {
+        word(text::SUM);
+        natural(s.sum);
     }
-    word(b" r");
-    number(r[0]);
-    number(r[1]);
-    word(b" e");
-    number(e[0]);
+}
+
+fn tell_step(s: State) {
+    let r = s.r;
+    let e = s.e;
+    tell_sum(s);
+    pair(text::R, r);
+    word(text::E);
+    text::number(e[0]);
     end();
 }
 
-fn growth(first: i64, error: i64) {
-    let r = [first, 0, 0, 0, 0, 0];
-    let e = [error, 0, 0, 0, 0, 0];
-    match stepping::growth(1, &r, &e) {
-        Stepped::Sum(s) => {
-            word(b" sum");
-            natural(s);
-        }
-        Stepped::Refused => word(b" refused 11"),
-    }
+// One step: the answer, and what r and e hold after it.
+pub fn step(row: &[u8]) {
+    tell_step(stepped(count(row, 0x02), matrix_of(row), r_of(row), e_of(row)));
+}
+
+pub fn growth(row: &[u8]) {
+    tell_sum(state_of(count(row, 0x02), r_of(row), e_of(row)));
     end();
 }
 
-fn spare(sum: u64) {
-    natural(sum);
-    result(sum);
-}
-
-// Each condition of number 11, beside the last value that is taken.
-pub fn refusals() {
-    word(b"dimension\n");
-    answer(0, &single(65536), 5, 0, 0);
-    answer(1, &single(65536), 5, 0, 0);
-    answer(6, &single(65536), 5, 0, 0);
-    answer(7, &single(65536), 5, 0, 0);
-    word(b"matrix entry\n");
-    answer(1, &single(131072), 5, 0, 0);
-    answer(1, &single(131073), 5, 0, 0);
-    answer(1, &single(-131072), 5, 0, 0);
-    answer(1, &single(-131073), 5, 0, 0);
-    answer(1, &single(-2147483648), 5, 0, 0);
-    word(b"beyond n\n");
-    let mut outside = single(65536);
-    outside[7] = 1;
-    answer(1, &outside, 5, 0, 0);
-    answer(2, &outside, 5, 0, 7);
-    answer(1, &single(65536), 5, 0, 7);
-    word(b"error below 0\n");
-    answer(1, &single(65536), 5, -1, 0);
-    word(b"growth sum\n");
-    answer(1, &single(65536), 1073741823, 1, 0);
-    answer(1, &single(65536), 1073741824, 1, 0);
-    answer(1, &single(65536), -1073741825, 0, 0);
-    word(b"growth of any value\n");
-    growth(-9223372036854775808, 9223372036854775807);
-    growth(9223372036854775807, 0);
-    growth(0, -1);
-    word(b"spare\n");
-    spare(0);
-    spare(1);
-    spare(1048576);
-    spare(1048577);
-    spare(536870912);
-    spare(536870913);
-    spare(1073741824);
-    spare(1073741825);
+pub fn spare(row: &[u8]) {
+    let most = count(row, 0x02) as u64;
+    natural(most);
+    tell(spare_of(most));
 }

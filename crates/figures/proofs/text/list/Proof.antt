@@ -1,13 +1,16 @@
--- `figures::sweeps::list` is safe and ends: the measure is what is left of the list. Assumes nothing.
+-- `figures::text::list` is safe and ends: the measure is what is left of the list. Assumes nothing.
 use Rattle.integers.proofs.Basics.{_-_, _≤_, arith, needs, length}
-use Rattle.figures.proofs.sweeps.list.Statement.{statement}
-use Rattle.figures.proofs.sweeps.list.Tie as tie
+use Rattle.figures.proofs.text.list.Statement.{statement}
+use Rattle.figures.proofs.text.list.Tie as tie
 
 abbrev Inv-loop : tie.InvT-loop
-Inv-loop xs k₀ k = k ≤ length xs
+Inv-loop i xs k₀ k = k ≤ length xs
 
 abbrev μ-loop : tie.MeasureT-loop
-μ-loop xs k₀ k = length xs - k
+μ-loop i xs k₀ k = length xs - k
+
+word-requires : tie.Need-word-requires Inv-loop μ-loop
+word-requires c κs = tt
 
 loop-holds : tie.Need-loop-holds Inv-loop μ-loop
 loop-holds c = omega arith
@@ -19,7 +22,7 @@ shared-slice-copy-out-number : tie.Need-shared-slice-copy-out-number Inv-loop μ
 shared-slice-copy-out-number c = omega arith
 
 number-requires : tie.Need-number-requires Inv-loop μ-loop
-number-requires c κs = search needs
+number-requires c κs = tt
 
 add-k : tie.Need-add-k Inv-loop μ-loop
 add-k c = omega arith
@@ -31,10 +34,10 @@ loop-again : tie.Need-loop-again Inv-loop μ-loop
 loop-again c = omega arith
 
 end-requires : tie.Need-end-requires Inv-loop μ-loop
-end-requires c κs = search needs
+end-requires c κs = tt
 
 returns : tie.Need-returns Inv-loop μ-loop
-returns c = search needs
+returns c = tt
 
 pub list-spec : {M : Type 1} → statement M
 list-spec =
@@ -42,6 +45,7 @@ list-spec =
     (tie.spec
     Inv-loop
     μ-loop
+    word-requires
     loop-holds
     mul-number
     shared-slice-copy-out-number

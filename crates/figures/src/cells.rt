@@ -1,0 +1,78 @@
+// Numbers of a row. A row has words between spaces: a name, numbers, and bars that part it into sections. A cell's number has
+// the section in its high hexadecimal digit and the place in the low one; a bar stands at place 0 of the section that it opens.
+// Numbers are decimal, and one that is missing is 0.
+
+// The byte at a place of the row, 0 beyond its end.
+pub fn letter(row: &[u8], k: usize) -> u8 {
+    if k < row.len() { row[k] } else { 0 }
+}
+
+// The cell of the byte `b`, where the byte `before` it is of cell `at`.
+fn cell_after(at: u8, before: u8, b: u8) -> u8 {
+    if before != b' ' {
+        return at;
+    }
+    match b {
+        b' ' => at,
+        b'|' => 16 * ((at / 16 + 1) % 16),
+        _ => at % 255 + 1,
+    }
+}
+
+// The number that a digit makes of those before it. Any other byte leaves it as it is.
+fn with_digit(size: u64, b: u8) -> u64 {
+    if b < b'0' {
+        return size;
+    }
+    if b'9' < b {
+        return size;
+    }
+    10 * (size % 1000000000000000000) + (b - b'0') as u64
+}
+
+fn signed(negative: bool, size: u64) -> i64 {
+    if size == 0 {
+        return 0;
+    }
+    if negative {
+        -1 - (((size - 1) % 0x8000_0000_0000_0000) as i64)
+    } else {
+        (size % 0x8000_0000_0000_0000) as i64
+    }
+}
+
+pub fn number(row: &[u8], cell: u8) -> i64 {
+    let mut size: u64 = 0;
+    let mut negative = false;
+    let mut at: u8 = 0;
+    let mut before = b' ';
+    let mut k: usize = 0;
+    while k < row.len() {
+        let b = row[k];
+        at = cell_after(at, before, b);
+        if at == cell {
+            size = with_digit(size, b);
+            negative = negative | (b == b'-');
+        }
+        before = b;
+        k += 1;
+    }
+    signed(negative, size)
+}
+
+// The same as a number of 32 bits, 0 where it does not fit.
+pub fn entry(row: &[u8], cell: u8) -> i32 {
+    let x = number(row, cell);
+    if x < -2147483648 {
+        return 0;
+    }
+    if 2147483647 < x {
+        return 0;
+    }
+    x as i32
+}
+
+// The same without its sign.
+pub fn count(row: &[u8], cell: u8) -> usize {
+    arrays::magnitude(number(row, cell)) as usize
+}
