@@ -1,6 +1,6 @@
 -- What each part of a state that the reader reaches satisfies, and that one record more of the part keeps it. In order: the six
 -- numbers of a body; n, the steps and the matrix; a set; directions; guards. The place is the one in the order of records. Not
--- here: the whole state (`Good`). Assumes nothing.
+-- here: the whole state (`AcceptedSoFar`). Assumes nothing.
 use mathlib.Core.Path.{_≡_, refl, sym, ap, ap₂, subst, _∙_}
 use mathlib.Core.Bool.{Bool, true, false, not, cond, _&&_, _||_}
 use mathlib.Core.List.{List}
@@ -24,9 +24,9 @@ use Rattle.reachability.specs.Limits.{stepsOk, setAccepted, allZero}
 use Rattle.reader.specs.Order.{shapeOf, isUpper, mostOf}
 use Rattle.reader.specs.Models.{entryAt, sixAt, putRow, rowPlace, withPoint}
 use Rattle.reader.specs.Values.{within, pointOk, directionOk, unless}
-use Rattle.reader.proofs.Rows.{length-putRow}
-use Rattle.reader.proofs.Taking.{lt-of-mostOf}
-use Rattle.reader.proofs.Blocks.{Zeros, zeros-putRow, zeroOutside-of, Small, small-putRow, Nonzero, nonzero-putRow, Guarded}
+use Rattle.reader.proofs.store.PutRow.{length-putRow}
+use Rattle.reader.proofs.order.KindNumbers.{lt-of-mostOf}
+use Rattle.reader.proofs.RowsOfSix.{Zeros, zeros-putRow, zeroOutside-of, Small, small-putRow, Nonzero, nonzero-putRow, Guarded}
 use Rattle.reader.proofs.OrderFacts.{isDone, pointMay, isDone-early}
 
 -- ---- the six numbers of a body are zero beyond n

@@ -1,5 +1,5 @@
 // The numbers of a body, and where they are stored.
-use crate::parts::shape_of;
+use crate::order::shape_of;
 use reachability::model::Model;
 use reachability::sets::Set;
 ghost use mathlib.Core.Path.{_≡_};

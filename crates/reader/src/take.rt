@@ -1,6 +1,6 @@
 // Taking a whole record: its value test, number 4 to 8, and the state behind it.
-use crate::parts::Part;
-use crate::parts::part_of;
+use crate::order::Part;
+use crate::order::part_of;
 use crate::state::State;
 use crate::store::default_steps;
 use crate::store::first_byte;

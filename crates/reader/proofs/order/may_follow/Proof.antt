@@ -2,7 +2,7 @@
 -- the start the table is the list of `order`, which antt computes. The measure is the number of pairs left. Assumes nothing.
 use Rattle.integers.proofs.Basics.{_-_, refl, sym, _∙_, arith, needs}
 use Rattle.reader.specs.Order.{mayFollow}
-use Rattle.reader.proofs.OrderTable.{found, Sought, sought-found, sought-next, sought-none}
+use Rattle.reader.proofs.order.Search.{found, Sought, sought-found, sought-next, sought-none}
 use Rattle.reader.proofs.order.may_follow.Statement.{statement}
 use Rattle.reader.proofs.order.may_follow.Tie as tie
 

@@ -1,6 +1,6 @@
 -- `reader::store::with_matrix_row` meets its contract: a row beyond the sixth changes nothing. Assumes nothing.
 use Rattle.integers.proofs.Basics.{sym, arith, needs}
-use Rattle.reader.proofs.Rows.{putRow-beyond}
+use Rattle.reader.proofs.store.PutRow.{putRow-beyond}
 use Rattle.reader.proofs.store.with_matrix_row.Statement.{statement}
 use Rattle.reader.proofs.store.with_matrix_row.Tie as tie
 

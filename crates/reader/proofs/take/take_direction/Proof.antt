@@ -10,7 +10,7 @@ use Rattle.reachability.specs.Limits.{allZero}
 use Rattle.reader.specs.Models.{setDirections, sixAt, putRow, withDirection}
 use Rattle.reader.specs.Values.{within, directionOk}
 use Rattle.reader.specs.Inner.{takenAs}
-use Rattle.reader.proofs.Taking.{takes-refused, takes-passed}
+use Rattle.reader.proofs.take.Taking.{takes-refused, takes-passed}
 use Rattle.reader.proofs.take.take_direction.Statement.{statement}
 use Rattle.reader.proofs.take.take_direction.Tie as tie
 

@@ -4,7 +4,7 @@ use borrow.Author.Tests.{lt-ltb, le-ltb}
 use lib.Dec.{ltb}
 use Rattle.reader.specs.Models.{setGuards, withGuard}
 use Rattle.reader.specs.Inner.{takenAs}
-use Rattle.reader.proofs.Taking.{takes-refused, takes-passed}
+use Rattle.reader.proofs.take.Taking.{takes-refused, takes-passed}
 use Rattle.reader.proofs.take.take_guard.Statement.{statement}
 use Rattle.reader.proofs.take.take_guard.Tie as tie
 

@@ -4,7 +4,7 @@ use borrow.Author.Tests.{not-true, not-false}
 use Rattle.reader.specs.Models.{setHead, defaultSteps, withHead}
 use Rattle.reader.specs.Values.{headValuesOk}
 use Rattle.reader.specs.Inner.{takenAs}
-use Rattle.reader.proofs.Taking.{takes-refused, takes-passed}
+use Rattle.reader.proofs.take.Taking.{takes-refused, takes-passed}
 use Rattle.reader.proofs.take.take_head.Statement.{statement}
 use Rattle.reader.proofs.take.take_head.Tie as tie
 

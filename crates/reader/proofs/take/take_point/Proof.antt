@@ -7,7 +7,7 @@ use Rattle.reader.specs.declared.state.State.{State}
 use Rattle.reader.specs.Models.{setOf, setSet, withPoint, withSetPoint}
 use Rattle.reader.specs.Values.{pointOk}
 use Rattle.reader.specs.Inner.{takenAs}
-use Rattle.reader.proofs.Taking.{takes-refused, takes-passed}
+use Rattle.reader.proofs.take.Taking.{takes-refused, takes-passed}
 use Rattle.reader.proofs.take.take_point.Statement.{statement}
 use Rattle.reader.proofs.take.take_point.Tie as tie
 

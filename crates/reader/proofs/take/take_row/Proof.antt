@@ -6,7 +6,7 @@ use Rattle.arrays.proofs.Laws.{and-skip, and-stop}
 use Rattle.reader.specs.Models.{firstByte, setMatrix, sixAt, rowPlace, putRow, withRow}
 use Rattle.reader.specs.Values.{within, rowOk}
 use Rattle.reader.specs.Inner.{takenAs}
-use Rattle.reader.proofs.Taking.{takes-refused, takes-passed}
+use Rattle.reader.proofs.take.Taking.{takes-refused, takes-passed}
 use Rattle.reader.proofs.take.take_row.Statement.{statement}
 use Rattle.reader.proofs.take.take_row.Tie as tie
 

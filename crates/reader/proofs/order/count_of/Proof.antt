@@ -1,9 +1,9 @@
--- `reader::parts::count_of` meets its contract, part by part. Assumes nothing.
+-- `reader::order::count_of` meets its contract, part by part. Assumes nothing.
 use Rattle.integers.proofs.Basics.{sym, ap, needs}
-use Rattle.reader.specs.declared.parts.Part.{Part}
+use Rattle.reader.specs.declared.order.Part.{Part}
 use Rattle.reader.specs.Refusals.{countOf}
-use Rattle.reader.proofs.parts.count_of.Statement.{statement}
-use Rattle.reader.proofs.parts.count_of.Tie as tie
+use Rattle.reader.proofs.order.count_of.Statement.{statement}
+use Rattle.reader.proofs.order.count_of.Tie as tie
 
 enum-told : tie.Need-enum-told
 enum-told c = search needs

@@ -1,7 +1,7 @@
--- `reader::parts::most_of` meets its contract. Assumes nothing.
+-- `reader::order::most_of` meets its contract. Assumes nothing.
 use borrow.Author.Tests.{eq-eqb, ne-eqb}
-use Rattle.reader.proofs.parts.most_of.Statement.{statement}
-use Rattle.reader.proofs.parts.most_of.Tie as tie
+use Rattle.reader.proofs.order.most_of.Statement.{statement}
+use Rattle.reader.proofs.order.most_of.Tie as tie
 
 returns : tie.Need-returns
 returns c = simp (eq-eqb _ _ (c .if1 .taken))

@@ -1,7 +1,7 @@
--- `reader::parts::shape_of` meets its contract. Assumes nothing.
+-- `reader::order::shape_of` meets its contract. Assumes nothing.
 use borrow.Author.Tests.{le-leb, lt-leb}
-use Rattle.reader.proofs.parts.shape_of.Statement.{statement}
-use Rattle.reader.proofs.parts.shape_of.Tie as tie
+use Rattle.reader.proofs.order.shape_of.Statement.{statement}
+use Rattle.reader.proofs.order.shape_of.Tie as tie
 
 returns : tie.Need-returns
 returns c = simp (le-leb _ _ (c .if1 .taken))

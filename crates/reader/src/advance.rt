@@ -1,38 +1,39 @@
-// One turn of the reader: the record at an offset.
-use crate::parts::kind_number;
+// Reading the record at an offset: refused, the end, or reading goes on behind it.
+use crate::order::kind_number;
 use crate::state::State;
 use crate::take::take;
 ghost use mathlib.Core.Path.{_≡_};
 ghost use Rattle.records.specs.Records.{recordAt, whole};
 ghost use Rattle.reader.specs.Refusals.{kindNumber};
-ghost use Rattle.reader.specs.Inner.{Turns};
+ghost use Rattle.reader.specs.Inner.{Advances};
 
-// What a turn comes to: reading goes on at an offset, the file has ended, or it is refused, with the number and its offset.
+// What a record comes to: reading goes on at an offset, the file has ended, or it is refused, with the number and its offset.
 pub enum Outcome {
     Next(usize),
     Ended,
     Stopped(u8, usize),
 }
 
-pub struct Turn {
+// The outcome, and the state behind the record.
+pub struct Advanced {
     pub outcome: Outcome,
     pub state: State,
 }
 
-fn stop(number: u8, offset: usize, state: State) -> Turn
+fn stop(number: u8, offset: usize, state: State) -> Advanced
     ensures { λ r. ⌜ (r .outcome ≡ Outcome.Stopped number offset) ⌝ }
 {
-    Turn {
+    Advanced {
         outcome: Outcome::Stopped(number, offset),
         state,
     }
 }
 
 // A whole record whose kind has passed 3 and 9.
-fn take_whole(file: &[u8], at: usize, state: State, kind: u8, body: &[u8]) -> Turn
+fn advance_whole(file: &[u8], at: usize, state: State, kind: u8, body: &[u8]) -> Advanced
     requires { ⌜ recordAt (now file) at ≡ whole kind (now body) ⌝ }
     requires { ⌜ kindNumber state kind ≡ 0 ⌝ }
-    ensures { λ r. ⌜ Turns (now (file .entry)) at state r ⌝ }
+    ensures { λ r. ⌜ Advances (now (file .entry)) at state r ⌝ }
 {
     let start = at + 1;
     let taken = take(state, kind, body);
@@ -44,21 +45,21 @@ fn take_whole(file: &[u8], at: usize, state: State, kind: u8, body: &[u8]) -> Tu
         if start < file.len() {
             return stop(10, start, state);
         }
-        return Turn {
+        return Advanced {
             outcome: Outcome::Ended,
             state,
         };
     }
     let next = taken.state;
-    Turn {
+    Advanced {
         outcome: Outcome::Next(start + body.len()),
         state: next,
     }
 }
 
 // The record at the offset. The kind's numbers stand above a short body's.
-pub(crate) fn turn_at(file: &[u8], at: usize, state: State) -> Turn
-    ensures { λ r. ⌜ Turns (now (file .entry)) at state r ⌝ }
+pub(crate) fn advance(file: &[u8], at: usize, state: State) -> Advanced
+    ensures { λ r. ⌜ Advances (now (file .entry)) at state r ⌝ }
 {
     let mut kind: u8 = 0;
     let mut found: u8 = 0;
@@ -76,5 +77,5 @@ pub(crate) fn turn_at(file: &[u8], at: usize, state: State) -> Turn
     if found != 0 {
         return stop(1, at, state);
     }
-    take_whole(file, at, state, kind, body)
+    advance_whole(file, at, state, kind, body)
 }

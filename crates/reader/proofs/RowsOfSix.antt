@@ -21,7 +21,7 @@ use Rattle.arrays.specs.Tests.{between, allBetween, zeroUnless, zeroOutside}
 use Rattle.arrays.proofs.Laws.{or-true, allBetween-at}
 use Rattle.reachability.specs.Limits.{allZero, someNonzero, guardOk, guardsOk}
 use Rattle.reader.specs.Models.{zeros, putRow}
-use Rattle.reader.proofs.Rows.{putRow-other, putRow-same}
+use Rattle.reader.proofs.store.PutRow.{putRow-other, putRow-same}
 
 -- ---- blank blocks
 

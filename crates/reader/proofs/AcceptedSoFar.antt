@@ -12,21 +12,21 @@ use Rattle.arrays.proofs.Laws.{and-true}
 use Rattle.stepping.specs.Refusals.{dimensionOk}
 use Rattle.records.specs.Numbers.{littleEndian, signedAt}
 use Rattle.reachability.specs.Limits.{stepsOk}
-use Rattle.reader.specs.declared.parts.Part.{Part}
-use Rattle.reader.specs.declared.parts.Part.the-variants.{Head, Row, Initial, Input, Direction, Guard, End}
+use Rattle.reader.specs.declared.order.Part.{Part}
+use Rattle.reader.specs.declared.order.Part.the-variants.{Head, Row, Initial, Input, Direction, Guard, End}
 use Rattle.reader.specs.declared.state.State.{State}
 use Rattle.reader.specs.Order.{partOf, mostOf}
 use Rattle.reader.specs.Models.{zeros, blankSet, blankModel, start, firstByte, defaultSteps, rowPlace, withHead, withRow, withPoint, withSetPoint, withDirection, withGuard}
 use Rattle.reader.specs.Values.{headOk, rowOk, pointOk, directionOk, guardOk, valueNumber}
 use Rattle.reader.specs.Refusals.{countOf, kindNumber, storedIn, stored}
-use Rattle.reader.proofs.Taking.{kindNumber-zero, lt-of-mostOf}
-use Rattle.reader.proofs.Blocks.{vector-zeros, getD-zeros, zeros-blank, small-blank, nonzero-none, guarded-more, guarded-set}
+use Rattle.reader.proofs.order.KindNumbers.{kindNumber-zero, lt-of-mostOf}
+use Rattle.reader.proofs.RowsOfSix.{vector-zeros, getD-zeros, zeros-blank, small-blank, nonzero-none, guarded-more, guarded-set}
 use Rattle.reader.proofs.OrderFacts.{isDone, pointMay, fact, order-fact, isDone-late, isDone-early}
 use Rattle.reader.proofs.PartsSoFar.{passed, FrameAt, n-least, frame-on, frame-row, SetAt, set-early, set-late, point-low, point-high, set-point, DirectionsAt, directions-early, directions-late, directions-more, GuardsAt}
 
 -- ---- the whole state
 
-pub record Good (s : State) : Type 0 where
+pub record AcceptedSoFar (s : State) : Type 0 where
   pub first : s .last ≡ 0 → s ≡ start
   pub frame : FrameAt (s .last) (s .rows) (s .model .n) (s .model .steps) (s .model .matrix)
   pub initial : SetAt 0x10 (s .last) (s .model .n) (s .model .initial)
@@ -65,9 +65,9 @@ blank-guards =
       guarded = record { on = λ g h. absurd (omega arith); none = λ g h. getD-zeros 16 g; level = λ g h. vector-zeros 16 g };
     }
 
-pub good-start : Good start
+pub acceptedSoFar-start : AcceptedSoFar start
 unfolding zeros start blankModel
-good-start =
+acceptedSoFar-start =
     record {
       first = λ e. refl;
       frame =
@@ -95,9 +95,9 @@ default-ok k h = split (eqb k 0) refl
     split true e = refl
     split false e = ap₂ _&&_ (le-leb 1 k (omega (arith, eqb-false k 0 e))) h
 
-good-head : (body : List ℕ) → headOk body ≡ true → Good (withHead start body)
+so-far-head : (body : List ℕ) → headOk body ≡ true → AcceptedSoFar (withHead start body)
 unfolding zeros start blankModel withHead
-good-head body ok =
+so-far-head body ok =
     let n = firstByte body in
     let both = and-true (dimensionOk n) (leb (littleEndian 2 body 1) 256) ok in
     record {
@@ -125,10 +125,10 @@ row-place-range rows n = split (ltb rows n)
     split true = (omega arith, omega arith)
     split false = (omega arith, omega arith)
 
-module _ (s : State) (kind : ℕ) (body : List ℕ) (g : Good s) where
-  good-row : s .last ≡ 1 → rowOk s body ≡ true → Good (withRow s body)
+module _ (s : State) (kind : ℕ) (body : List ℕ) (g : AcceptedSoFar s) where
+  so-far-row : s .last ≡ 1 → rowOk s body ≡ true → AcceptedSoFar (withRow s body)
   unfolding rowOk withRow
-  good-row e ok =
+  so-far-row e ok =
       let r = row-place-range (s .rows + 1) (s .model .n) in
       let p = rowPlace (s .rows + 1) (s .model .n) in
       record {
@@ -140,9 +140,9 @@ module _ (s : State) (kind : ℕ) (body : List ℕ) (g : Good s) where
         guards = g .guards;
       }
 
-  good-initial : pointMay 0x10 (s .last) kind ≡ true → leb 0x02 (s .last) ≡ true → ltb (s .last) 0x20 ≡ true → s .model .initial .count < mostOf kind → pointOk (s .model .n) kind (withPoint (s .model .n) (s .model .initial) kind body) ≡ true → Good (withSetPoint false s kind body)
+  so-far-initial : pointMay 0x10 (s .last) kind ≡ true → leb 0x02 (s .last) ≡ true → ltb (s .last) 0x20 ≡ true → s .model .initial .count < mostOf kind → pointOk (s .model .n) kind (withPoint (s .model .n) (s .model .initial) kind body) ≡ true → AcceptedSoFar (withSetPoint false s kind body)
   unfolding withSetPoint
-  good-initial may late early few ok =
+  so-far-initial may late early few ok =
       let l = leb-true 0x02 (s .last) late in
       let h = ltb-true (s .last) 0x20 early in
       let p = set-point 0x10 (s .last) (s .model .n) (s .model .initial) kind body (g .initial) refl may few ok in
@@ -157,9 +157,9 @@ module _ (s : State) (kind : ℕ) (body : List ℕ) (g : Good s) where
         guards = g .guards;
       }
 
-  good-input : pointMay 0x20 (s .last) kind ≡ true → isDone 0x10 (s .last) ≡ true → leb 0x02 (s .last) ≡ true → s .model .input .count < mostOf kind → pointOk (s .model .n) kind (withPoint (s .model .n) (s .model .input) kind body) ≡ true → Good (withSetPoint true s kind body)
+  so-far-input : pointMay 0x20 (s .last) kind ≡ true → isDone 0x10 (s .last) ≡ true → leb 0x02 (s .last) ≡ true → s .model .input .count < mostOf kind → pointOk (s .model .n) kind (withPoint (s .model .n) (s .model .input) kind body) ≡ true → AcceptedSoFar (withSetPoint true s kind body)
   unfolding withSetPoint
-  good-input may done late few ok =
+  so-far-input may done late few ok =
       let l = leb-true 0x02 (s .last) late in
       let p = set-point 0x20 (s .last) (s .model .n) (s .model .input) kind body (g .input) refl may few ok in
       let a = point-low 0x20 (s .last) (s .model .n) (s .model .input) kind body (g .input) refl may few ok in
@@ -173,9 +173,9 @@ module _ (s : State) (kind : ℕ) (body : List ℕ) (g : Good s) where
         guards = g .guards;
       }
 
-  good-direction : kind ≡ 0x30 → isDone 0x20 (s .last) ≡ true → 0x20 ≤ s .last → s .model .directions < 16 → directionOk (s .model .n) body ≡ true → Good (withDirection s kind body)
+  so-far-direction : kind ≡ 0x30 → isDone 0x20 (s .last) ≡ true → 0x20 ≤ s .last → s .model .directions < 16 → directionOk (s .model .n) body ≡ true → AcceptedSoFar (withDirection s kind body)
   unfolding withDirection
-  good-direction k done late few ok =
+  so-far-direction k done late few ok =
       record {
         first = λ z. absurd (omega arith);
         frame = frame-on (g .frame) kind (omega arith) (omega arith);
@@ -185,9 +185,9 @@ module _ (s : State) (kind : ℕ) (body : List ℕ) (g : Good s) where
         guards = record { watched-length = g .guards .watched-length; few = g .guards .few; guarded = guarded-more _ _ _ _ (g .guards .guarded) };
       }
 
-  good-guard : kind ≡ 0x40 → 0x30 ≤ s .last → s .model .guards < 16 → guardOk s body ≡ true → Good (withGuard s kind body)
+  so-far-guard : kind ≡ 0x40 → 0x30 ≤ s .last → s .model .guards < 16 → guardOk s body ≡ true → AcceptedSoFar (withGuard s kind body)
   unfolding withGuard
-  good-guard k late few ok =
+  so-far-guard k late few ok =
       record {
         first = λ z. absurd (omega arith);
         frame = frame-on (g .frame) kind (omega arith) (omega arith);
@@ -206,33 +206,33 @@ module _ (s : State) (kind : ℕ) (body : List ℕ) (g : Good s) where
             };
       }
 
-  good-part : (p : Part) → fact p (s .last) kind ≡ true → countOf p s < mostOf kind → valueNumber p s kind body ≡ 0 → Good (storedIn p s kind body)
+  so-far-part : (p : Part) → fact p (s .last) kind ≡ true → countOf p s < mostOf kind → valueNumber p s kind body ≡ 0 → AcceptedSoFar (storedIn p s kind body)
   unfolding fact
-  good-part Head f few z =
-      subst (λ (x : State). Good (withHead x body)) (sym (g .first (eqb-true (s .last) 0x00 f))) (good-head body (passed (headOk body) 4 (omega arith) z))
-  good-part Row f few z = good-row (eqb-true (s .last) 0x01 f) (passed (rowOk s body) 5 (omega arith) z)
-  good-part Initial f few z =
+  so-far-part Head f few z =
+      subst (λ (x : State). AcceptedSoFar (withHead x body)) (sym (g .first (eqb-true (s .last) 0x00 f))) (so-far-head body (passed (headOk body) 4 (omega arith) z))
+  so-far-part Row f few z = so-far-row (eqb-true (s .last) 0x01 f) (passed (rowOk s body) 5 (omega arith) z)
+  so-far-part Initial f few z =
       let a = and-true (pointMay 0x10 (s .last) kind) (leb 0x02 (s .last) && ltb (s .last) 0x20) f in
       let b = and-true (leb 0x02 (s .last)) (ltb (s .last) 0x20) (a .1) in
-      good-initial (a .0) (b .0) (b .1) few (passed _ 6 (omega arith) z)
-  good-part Input f few z =
+      so-far-initial (a .0) (b .0) (b .1) few (passed _ 6 (omega arith) z)
+  so-far-part Input f few z =
       let a = and-true (pointMay 0x20 (s .last) kind) (isDone 0x10 (s .last) && leb 0x02 (s .last)) f in
       let b = and-true (isDone 0x10 (s .last)) (leb 0x02 (s .last)) (a .1) in
-      good-input (a .0) (b .0) (b .1) few (passed _ 6 (omega arith) z)
-  good-part Direction f few z =
+      so-far-input (a .0) (b .0) (b .1) few (passed _ 6 (omega arith) z)
+  so-far-part Direction f few z =
       let a = and-true (eqb kind 0x30) (isDone 0x20 (s .last) && leb 0x20 (s .last)) f in
       let b = and-true (isDone 0x20 (s .last)) (leb 0x20 (s .last)) (a .1) in
-      good-direction (eqb-true kind 0x30 (a .0)) (b .0) (leb-true 0x20 (s .last) (b .1)) (lt-of-mostOf kind few) (passed _ 7 (omega arith) z)
-  good-part Guard f few z =
+      so-far-direction (eqb-true kind 0x30 (a .0)) (b .0) (leb-true 0x20 (s .last) (b .1)) (lt-of-mostOf kind few) (passed _ 7 (omega arith) z)
+  so-far-part Guard f few z =
       let a = and-true (eqb kind 0x40) (leb 0x30 (s .last)) f in
-      good-guard (eqb-true kind 0x40 (a .0)) (leb-true 0x30 (s .last) (a .1)) (lt-of-mostOf kind few) (passed _ 8 (omega arith) z)
-  good-part End f few z = g
+      so-far-guard (eqb-true kind 0x40 (a .0)) (leb-true 0x30 (s .last) (a .1)) (lt-of-mostOf kind few) (passed _ 8 (omega arith) z)
+  so-far-part End f few z = g
 
-  pub good-stored : kindNumber s kind ≡ 0 → valueNumber (partOf kind) s kind body ≡ 0 → Good (stored s kind body)
+  pub acceptedSoFar-stored : kindNumber s kind ≡ 0 → valueNumber (partOf kind) s kind body ≡ 0 → AcceptedSoFar (stored s kind body)
   unfolding stored
-  good-stored k z =
+  acceptedSoFar-stored k z =
       let both = kindNumber-zero s kind k in
-      good-part (partOf kind) (order-fact (s .last) kind (both .0)) (fewer (countOf (partOf kind) s) (mostOf kind) (both .1)) z
+      so-far-part (partOf kind) (order-fact (s .last) kind (both .0)) (fewer (countOf (partOf kind) s) (mostOf kind) (both .1)) z
     where
       fewer : (a b : ℕ) → leb b a ≡ false → a < b
       fewer a b e = omega (arith, leb-false b a e)

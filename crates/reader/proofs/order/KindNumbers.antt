@@ -1,32 +1,15 @@
--- What a value test makes of a record that is taken: refused with the test's number, or passed. Then what a kind that passes 3
--- and 9 is known to satisfy. Assumes nothing.
+-- Laws of `kindNumber`: 3 where the order does not allow the kind, 9 where its part is full, and what a kind that passes both is
+-- known to satisfy. Assumes nothing.
 use mathlib.Core.Path.{_≡_, refl, sym, ap, ap₂, _∙_}
 use mathlib.Core.Bool.{Bool, true, false, cond}
 use Prim.Native.Nat.{ℕ, _%_, _≤_, _<_}
 use native.Mathlib.Omega.{arith}
 use borrow.Author.Tests.{leb-false}
 use lib.Dec.{eqb, leb}
-use Rattle.reader.specs.declared.parts.Part.{Part}
+use Rattle.reader.specs.declared.order.Part.{Part}
 use Rattle.reader.specs.declared.state.State.{State}
-use Rattle.reader.specs.declared.take.Taken.{Taken}
 use Rattle.reader.specs.Order.{mayFollow, partOf, mostOf}
-use Rattle.reader.specs.Values.{unless}
 use Rattle.reader.specs.Refusals.{countOf, oneTooMany, kindNumber}
-use Rattle.reader.specs.Inner.{Takes}
-
-pub takes-refused : {ok : Bool} (number : ℕ) {next s : State} → ok ≡ false → 0 < number → Takes (unless ok number) next (record { number = number; state = s })
-takes-refused {ok} number e h =
-    let is : unless ok number ≡ number = ap (λ (b : Bool). unless b number) e in
-    record { number-is = sym is; state-is = λ z. absurd (omega (arith, sym is ∙ z)) }
-
-pub takes-passed : {ok : Bool} (number : ℕ) {next : State} {r : Taken} → ok ≡ true → r ≡ record { number = 0; state = next } → Takes (unless ok number) next r
-takes-passed {ok} number e is =
-    record {
-      number-is = ap (λ (t : Taken). t .number) is ∙ sym (ap (λ (b : Bool). unless b number) e);
-      state-is = λ z. ap (λ (t : Taken). t .state) is;
-    }
-
--- ---- 3 and 9
 
 -- the tests of a program, as numbers, are the tests of the definition
 pub oneTooMany-is : (s : State) (kind : ℕ) {m n : ℕ} {p : Part} → m ≡ mostOf kind → p ≡ partOf kind → n ≡ countOf p s → leb m n ≡ oneTooMany s kind

@@ -1,8 +1,8 @@
--- `reader::parts::part_of` meets its contract, test by test. Assumes nothing.
+-- `reader::order::part_of` meets its contract, test by test. Assumes nothing.
 use borrow.Author.Tests.{le-leb, lt-leb}
 use Rattle.reader.specs.Order.{partOf}
-use Rattle.reader.proofs.parts.part_of.Statement.{statement}
-use Rattle.reader.proofs.parts.part_of.Tie as tie
+use Rattle.reader.proofs.order.part_of.Statement.{statement}
+use Rattle.reader.proofs.order.part_of.Tie as tie
 
 returns : tie.Need-returns
 unfolding partOf

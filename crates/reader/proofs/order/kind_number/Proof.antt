@@ -1,9 +1,9 @@
--- `reader::parts::kind_number` meets its contract: the order first, then the count. Assumes nothing.
+-- `reader::order::kind_number` meets its contract: the order first, then the count. Assumes nothing.
 use Rattle.integers.proofs.Basics.{sym, _∙_, needs}
 use borrow.Author.Tests.{not-true, not-false, le-leb, lt-leb}
-use Rattle.reader.proofs.Taking.{oneTooMany-is, kindNumber-order, kindNumber-many, kindNumber-none}
-use Rattle.reader.proofs.parts.kind_number.Statement.{statement}
-use Rattle.reader.proofs.parts.kind_number.Tie as tie
+use Rattle.reader.proofs.order.KindNumbers.{oneTooMany-is, kindNumber-order, kindNumber-many, kindNumber-none}
+use Rattle.reader.proofs.order.kind_number.Statement.{statement}
+use Rattle.reader.proofs.order.kind_number.Tie as tie
 
 may-follow-requires : tie.Need-may-follow-requires
 may-follow-requires c κs = search needs
