@@ -9,14 +9,15 @@ use borrow.Author.Tests.{le-leb, leb-true, ltb-true, eqb-true, eqb-false, leb-fa
 use lib.Dec.{leb, ltb, eqb}
 use lib.ListN.{length-set, replicate}
 use Rattle.arrays.proofs.Laws.{and-true}
+use Rattle.stepping.specs.Limits.{entryLimit}
 use Rattle.stepping.specs.Refusals.{dimensionOk}
 use Rattle.records.specs.Numbers.{littleEndian, signedAt}
-use Rattle.reachability.specs.Limits.{stepsOk}
+use Rattle.reachability.specs.Limits.{directionLimit, stepsOk}
 use Rattle.reader.specs.declared.order.Part.{Part}
 use Rattle.reader.specs.declared.order.Part.the-variants.{Head, Row, Initial, Input, Direction, Guard, End}
 use Rattle.reader.specs.declared.state.State.{State}
 use Rattle.reader.specs.Order.{partOf, mostOf}
-use Rattle.reader.specs.Models.{zeros, blankSet, blankModel, start, firstByte, defaultSteps, rowPlace, withHead, withRow, withPoint, withSetPoint, withDirection, withGuard}
+use Rattle.reader.specs.Models.{zeros, blankSet, blankModel, start, firstByte, usualSteps, defaultSteps, rowPlace, withHead, withRow, withPoint, withSetPoint, withDirection, withGuard}
 use Rattle.reader.specs.Values.{headOk, rowOk, pointOk, directionOk, guardOk, valueNumber}
 use Rattle.reader.specs.Refusals.{countOf, kindNumber, storedIn, stored}
 use Rattle.reader.proofs.order.KindNumbers.{kindNumber-zero, lt-of-mostOf}
@@ -51,7 +52,7 @@ blank-directions place n h =
     record {
       entries-length = refl;
       entries-zeros = zeros-blank 96 0 n;
-      entries-small = small-blank 1000 96;
+      entries-small = small-blank directionLimit 96;
       nonzero = nonzero-none (zeros 96);
       few = omega arith;
       some = λ l. absurd (omega arith);
@@ -78,7 +79,7 @@ acceptedSoFar-start =
             all = λ h. absurd (omega arith);
             matrix-length = refl;
             matrix-zeros = zeros-blank 36 0 0;
-            matrix-small = small-blank 131072 36;
+            matrix-small = small-blank entryLimit 36;
           };
       initial = blank-set 0x10 0 0 (omega arith);
       input = blank-set 0x20 0 0 (omega arith);
@@ -91,7 +92,7 @@ acceptedSoFar-start =
 default-ok : (k : ℕ) → leb k 256 ≡ true → stepsOk (defaultSteps k) ≡ true
 default-ok k h = split (eqb k 0) refl
   where
-    split : (b : Bool) → eqb k 0 ≡ b → stepsOk (cond b 60 k) ≡ true
+    split : (b : Bool) → eqb k 0 ≡ b → stepsOk (cond b usualSteps k) ≡ true
     split true e = refl
     split false e = ap₂ _&&_ (le-leb 1 k (omega (arith, eqb-false k 0 e))) h
 
@@ -110,7 +111,7 @@ so-far-head body ok =
             all = λ h. absurd (omega arith);
             matrix-length = refl;
             matrix-zeros = zeros-blank 36 0 n;
-            matrix-small = small-blank 131072 36;
+            matrix-small = small-blank entryLimit 36;
           };
       initial = blank-set 0x10 1 n (omega arith);
       input = blank-set 0x20 1 n (omega arith);

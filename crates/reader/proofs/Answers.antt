@@ -14,12 +14,12 @@ use Rattle.reader.specs.declared.order.Part.{Part}
 use Rattle.reader.specs.declared.order.Part.the-variants.{Head, Row, Initial, Input, Direction, Guard, End}
 use Rattle.reader.specs.declared.Status.the-variants.{Refused}
 use Rattle.reader.specs.declared.state.State.{State}
-use Rattle.reader.specs.Order.{mayFollow, partOf}
+use Rattle.reader.specs.Order.{partOf}
 use Rattle.reader.specs.Models.{start, withPoint}
 use Rattle.reader.specs.Values.{headOk, rowOk, pointOk, directionOk, guardOk, unless, valueNumber}
-use Rattle.reader.specs.Refusals.{oneTooMany, kindNumber, firstOf, refusal}
+use Rattle.reader.specs.Refusals.{kindNumber, firstOf, refusal}
 use Rattle.reader.specs.Reading.{Stop, stopFrom, numberAt, offsetAt, refused, readAs, readingAt, readFrom, readModel}
-use Rattle.reader.proofs.order.KindNumbers.{kindNumber-order, kindNumber-many, kindNumber-none}
+use Rattle.reader.proofs.order.KindNumbers.{kindNumber-le}
 use Rattle.reader.proofs.ReadingOn.{firstOf-none, stopFor-ind}
 
 -- ---- the numbers of one record
@@ -37,14 +37,6 @@ valueNumber-le Direction s kind body = unless-le (directionOk (s .model .n) body
 valueNumber-le Guard s kind body = unless-le (guardOk s body) 8 (omega arith)
 valueNumber-le End s kind body = omega arith
 
-kindNumber-le : (s : State) (kind : ℕ) → kindNumber s kind ≤ 10
-kindNumber-le s kind = split (mayFollow (s .last) kind) refl (oneTooMany s kind) refl
-  where
-    split : (a : Bool) → mayFollow (s .last) kind ≡ a → (b : Bool) → oneTooMany s kind ≡ b → kindNumber s kind ≤ 10
-    split false e b f = omega (arith, kindNumber-order s kind e)
-    split true e true f = omega (arith, kindNumber-many s kind e f)
-    split true e false f = omega (arith, kindNumber-none s kind e f)
-
 firstOf-le : (a b : ℕ) → a ≤ 10 → b ≤ 10 → firstOf a b ≤ 10
 firstOf-le a b h k = split (eqb a 0)
   where
@@ -56,8 +48,8 @@ refusal-le : (s : State) (r : Record) → refusal s r ≤ 10
 unfolding refusal
 refusal-le s nothing = omega arith
 refusal-le s (unknown kind) = omega arith
-refusal-le s (short kind) = firstOf-le (kindNumber s kind) 1 (kindNumber-le s kind) (omega arith)
-refusal-le s (whole kind body) = firstOf-le (kindNumber s kind) (valueNumber (partOf kind) s kind body) (kindNumber-le s kind) (valueNumber-le (partOf kind) s kind body)
+refusal-le s (short kind) = firstOf-le (kindNumber s kind) 1 (omega (arith, kindNumber-le s kind)) (omega arith)
+refusal-le s (whole kind body) = firstOf-le (kindNumber s kind) (valueNumber (partOf kind) s kind body) (omega (arith, kindNumber-le s kind)) (valueNumber-le (partOf kind) s kind body)
 
 -- ---- the number and the offset where reading stops
 

@@ -12,6 +12,7 @@ use lib.ListN.{length, take, length-take}
 use lib.Seq.{take-all}
 use Rattle.records.specs.Records.{Record, whole, recordAt, recordKind, recordBody}
 use Rattle.records.proofs.RecordAt.{whole-of, whole-length, recordAt-take, reaches-of-le}
+use Rattle.arrays.proofs.Introduction.{Zeros, zeroOutside-of, allBetween-of}
 use Rattle.stepping.specs.Limits.{entryLimit}
 use Rattle.reachability.specs.Limits.{accepted, frameOk, directionsOk, directionLimit}
 use Rattle.reader.specs.declared.Status.{Status}
@@ -24,7 +25,7 @@ use Rattle.reader.specs.Refusals.{firstOf, refusal, stored}
 use Rattle.reader.specs.Reading.{Stop, stopHere, goesOn, behind, storedRecord, stopFor, stopFrom, numberAt, offsetAt, refused, readAs, readingAt, readFrom, readModel, readNumber, readOffset, statusNumber, statusOffset, Reads}
 use Rattle.reader.proofs.order.KindNumbers.{kindNumber-zero}
 use Rattle.reader.proofs.ReadingOn.{firstOf-zero, refusal-zero, whole-of-refusal, GoesOn, goesOn-true, stopFor-ind, stopFor-enough, stopFor-stops}
-use Rattle.reader.proofs.RowsOfSix.{zeroOutside-of, allBetween-of, someNonzero-of, guardsOk-of, Zeros}
+use Rattle.reader.proofs.RowsOfSix.{someNonzero-of, guardsOk-of}
 use Rattle.reader.proofs.OrderFacts.{fact, order-fact, isDone-late}
 use Rattle.reader.proofs.AcceptedSoFar.{AcceptedSoFar, acceptedSoFar-start, acceptedSoFar-stored}
 use Rattle.reader.proofs.Sizes.{used, used-stored, used-le}

@@ -11,14 +11,11 @@ use lib.Dec.{ltb, eqb}
 use lib.ListN.{length, getD, set, replicate}
 use lib.Seq.{getD-set-same, getD-set-other}
 use lib.IntN.{ℤ, pos, negℤ, natAbs}
-use lib.Signed.{leZ}
-use Rattle.integers.specs.Whole.{_⩽_}
-use Rattle.integers.specs.Sums.{vector, matrix, allBelow}
-use Rattle.integers.proofs.SignedParts.{v, #, neg, le!, le?, abs?, _⊕_}
-use Rattle.integers.proofs.Order.{lt-of-leZ-false}
+use Rattle.integers.specs.Sums.{vector, matrix}
 use Rattle.integers.proofs.Sums.{allBelow-intro}
-use Rattle.arrays.specs.Tests.{between, allBetween, zeroUnless, zeroOutside}
-use Rattle.arrays.proofs.Laws.{or-true, allBetween-at}
+use Rattle.arrays.specs.Tests.{allBetween}
+use Rattle.arrays.proofs.Laws.{allBetween-at}
+use Rattle.arrays.proofs.Introduction.{Zeros, Small, allBelow-cong}
 use Rattle.reachability.specs.Limits.{allZero, someNonzero, guardOk, guardsOk}
 use Rattle.reader.specs.Models.{zeros, putRow}
 use Rattle.reader.proofs.store.PutRow.{putRow-other, putRow-same}
@@ -57,11 +54,6 @@ module _ (xs : List ℤ) (row : ℕ) (six : List ℤ) where
 
 -- ---- zeros
 
--- Zero in the rows from `rows` on, and in the columns from `columns` on.
-pub record Zeros (rows columns : ℕ) (xs : List ℤ) : Type 0 where
-  pub row : (p i : ℕ) → i < 6 → rows ≤ p → matrix xs p i ≡ pos 0
-  pub column : (p i : ℕ) → i < 6 → columns ≤ i → matrix xs p i ≡ pos 0
-
 pub zeros-blank : (n rows columns : ℕ) → Zeros rows columns (zeros n)
 zeros-blank n rows columns = record { row = λ p i l h. vector-zeros n (6 * p + i); column = λ p i l h. vector-zeros n (6 * p + i) }
 
@@ -72,23 +64,7 @@ zeros-putRow n xs row six h beyond z =
       column = matrix-putRow-ind xs row six (λ p i x. n ≤ i → x ≡ pos 0) h (λ i l k. beyond i k) (λ p i l ne k. z .column p i l k);
     }
 
-pub zeroOutside-of : (rows columns : ℕ) (xs : List ℤ) → Zeros rows columns xs → zeroOutside rows columns xs ≡ true
-zeroOutside-of rows columns xs z = allBelow-intro (length xs) (λ k. zeroUnless rows columns k (vector xs k)) (λ k h. here k)
-  where
-    whole : (k : ℕ) → 6 * (k / 6) + k % 6 ≡ k
-    whole k = omega arith
-
-    outside : (k : ℕ) → vector xs k ≡ pos 0 → zeroUnless rows columns k (vector xs k) ≡ true
-    outside k e = ap (λ (x : ℤ). (ltb (k / 6) rows && ltb (k % 6) columns) || eqb (natAbs x) 0) e ∙ or-true (ltb (k / 6) rows && ltb (k % 6) columns)
-
-    here : (k : ℕ) → zeroUnless rows columns k (vector xs k) ≡ true
-    here k =
-        elim (decLt (k / 6) rows) [ yes r ↦ elim (decLt (k % 6) columns) [ yes c ↦ simp (lt-ltb (k / 6) rows r, lt-ltb (k % 6) columns c) | no g ↦ outside k (sym (ap (vector xs) (whole k)) ∙ z .column (k / 6) (k % 6) (omega arith) (omega (arith, g))) ] | no g ↦ outside k (sym (ap (vector xs) (whole k)) ∙ z .row (k / 6) (k % 6) (omega arith) (omega (arith, g))) ]
-
 -- ---- limits
-
-pub record Small (limit : ℕ) (xs : List ℤ) : Type 0 where
-  pub at : (p i : ℕ) → i < 6 → natAbs (matrix xs p i) ≤ limit
 
 pub small-blank : (limit n : ℕ) → Small limit (zeros n)
 small-blank limit n = record { at = λ p i l. subst (λ (x : ℤ). natAbs x ≤ limit) (sym (vector-zeros n (6 * p + i))) (omega arith) }
@@ -97,30 +73,7 @@ pub small-putRow : (limit : ℕ) (xs : List ℤ) (row : ℕ) (six : List ℤ) �
 small-putRow limit xs row six h new s =
     record { at = matrix-putRow-ind xs row six (λ p i x. natAbs x ≤ limit) h (λ i l. allBetween-at limit six new i) (λ p i l ne. s .at p i l) }
 
-leZ-of : (a b : ℤ) → a ⩽ b → leZ a b ≡ true
-leZ-of a b h = split (leZ a b) refl
-  where
-    split : (t : Bool) → leZ a b ≡ t → leZ a b ≡ true
-    split true e = e
-    split false e = absurd (omega (arith, le? (v b ⊕ # 1) (v a) (lt-of-leZ-false a b e), le? (v a) (v b) h))
-
-between-of : (limit : ℕ) (x : ℤ) → natAbs x ≤ limit → between (negℤ (pos limit)) (pos limit) x ≡ true
-between-of limit x h =
-    let both = abs? (v x) limit h in
-    ap₂ _&&_ (leZ-of (negℤ (pos limit)) x (le! (neg (# limit)) (v x) (omega (arith, both .0, both .1)))) (leZ-of x (pos limit) (le! (v x) (# limit) (omega (arith, both .0, both .1))))
-
-pub allBetween-of : (limit : ℕ) (xs : List ℤ) → Small limit xs → allBetween (negℤ (pos limit)) (pos limit) xs ≡ true
-allBetween-of limit xs s = allBelow-intro (length xs) (λ k. between (negℤ (pos limit)) (pos limit) (vector xs k)) (λ k h. between-of limit (vector xs k) (subst (λ (j : ℕ). natAbs (vector xs j) ≤ limit) (whole k) (s .at (k / 6) (k % 6) (omega arith))))
-  where
-    whole : (k : ℕ) → 6 * (k / 6) + k % 6 ≡ k
-    whole k = omega arith
-
 -- ---- directions that are not zero
-
-allBelow-cong : (n : ℕ) (f g : ℕ → Bool) → ((i : ℕ) → i < n → f i ≡ g i) → allBelow n f ≡ allBelow n g
-unfolding allBelow
-allBelow-cong zero f g e = refl
-allBelow-cong (suc n) f g e = ap₂ _&&_ (allBelow-cong n f g (λ i l. e i (omega arith))) (e n (omega arith))
 
 pub record Nonzero (count : ℕ) (xs : List ℤ) : Type 0 where
   pub at : (k : ℕ) → k < count → allZero xs k ≡ false

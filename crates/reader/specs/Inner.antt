@@ -3,24 +3,18 @@ use mathlib.Core.Path.{_≡_}
 use mathlib.Core.List.{List}
 use Prim.Native.Nat.{ℕ, _≤_, _<_}
 use lib.ListN.{length}
-use Rattle.reachability.specs.declared.model.Model.{Model}
 use Rattle.reader.specs.declared.Reading.{Reading}
 use Rattle.reader.specs.declared.state.State.{State}
 use Rattle.reader.specs.declared.take.Taken.{Taken}
 use Rattle.reader.specs.declared.advance.Outcome.{Outcome}
 use Rattle.reader.specs.declared.advance.Outcome.the-variants.{Next, Ended, Stopped}
 use Rattle.reader.specs.declared.advance.Advanced.{Advanced}
-use Rattle.reader.specs.Models.{stateOf}
 use Rattle.reader.specs.Reading.{refused, readAs, readFrom}
 
 -- What taking a record gives: its number and, where that is 0, the state behind it.
 pub record Takes (number : ℕ) (next : State) (r : Taken) : Type 0 where
   pub number-is : r .number ≡ number
   pub state-is : number ≡ 0 → r .state ≡ next
-
--- What taking a record gives that passes its value test: no number, and the state of this place, these rows and this model.
-abbrev pub takenAs : ℕ → ℕ → Model → Taken
-takenAs last rows m = record { number = 0; state = stateOf last rows m }
 
 -- The reading of a file, of which a record has this outcome and leaves this state.
 abbrev pub followed : List ℕ → Outcome → State → Reading

@@ -20,15 +20,6 @@ pub struct Advanced {
     pub state: State,
 }
 
-fn stop(number: u8, offset: usize, state: State) -> Advanced
-    ensures { λ r. ⌜ (r .outcome ≡ Outcome.Stopped number offset) ⌝ }
-{
-    Advanced {
-        outcome: Outcome::Stopped(number, offset),
-        state,
-    }
-}
-
 // A whole record whose kind has passed 3 and 9.
 fn advance_whole(file: &[u8], at: usize, state: State, kind: u8, body: &[u8]) -> Advanced
     requires { ⌜ recordAt (now file) at ≡ whole kind (now body) ⌝ }
@@ -39,11 +30,17 @@ fn advance_whole(file: &[u8], at: usize, state: State, kind: u8, body: &[u8]) ->
     let taken = take(state, kind, body);
     let failed = taken.number;
     if failed != 0 {
-        return stop(failed, at, state);
+        return Advanced {
+            outcome: Outcome::Stopped(failed, at),
+            state,
+        };
     }
     if kind == 0xFF {
         if start < file.len() {
-            return stop(10, start, state);
+            return Advanced {
+                outcome: Outcome::Stopped(10, start),
+                state,
+            };
         }
         return Advanced {
             outcome: Outcome::Ended,
@@ -65,17 +62,29 @@ pub(crate) fn advance(file: &[u8], at: usize, state: State) -> Advanced
     let mut found: u8 = 0;
     let body = records::record_at(file, at, &mut kind, &mut found);
     if found == 2 {
-        return stop(2, at, state);
+        return Advanced {
+            outcome: Outcome::Stopped(2, at),
+            state,
+        };
     }
     if kind == 0 {
-        return stop(1, file.len(), state);
+        return Advanced {
+            outcome: Outcome::Stopped(1, file.len()),
+            state,
+        };
     }
     let number = kind_number(state, kind);
     if number != 0 {
-        return stop(number, at, state);
+        return Advanced {
+            outcome: Outcome::Stopped(number, at),
+            state,
+        };
     }
     if found != 0 {
-        return stop(1, at, state);
+        return Advanced {
+            outcome: Outcome::Stopped(1, at),
+            state,
+        };
     }
     advance_whole(file, at, state, kind, body)
 }

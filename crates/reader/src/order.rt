@@ -3,9 +3,7 @@
 use crate::state::State;
 use reachability::sets::Shape;
 ghost use mathlib.Core.Path.{_≡_};
-ghost use mathlib.Core.Bool.{_&&_};
-ghost use lib.Dec.{eqb};
-ghost use Rattle.reader.specs.Order.{mayFollow, partOf, shapeOf, mostOf};
+ghost use Rattle.reader.specs.Order.{mayFollow, partOf, shapeOf};
 ghost use Rattle.reader.specs.Refusals.{countOf, kindNumber};
 
 // A part of a model, as document 01's table of kinds has them.
@@ -56,15 +54,6 @@ const ORDER: [Pair; 30] = [
     Pair(0x40, 0xFF),
 ];
 
-fn is_pair(pair: Pair, place: u8, kind: u8) -> bool
-    ensures { λ b. ⌜ b ≡ eqb (pair .0) place && eqb (pair .1) kind ⌝ }
-{
-    if pair.0 == place {
-        return pair.1 == kind;
-    }
-    false
-}
-
 // The kind may stand at the place, by a search of the table.
 fn may_follow(place: u8, kind: u8) -> bool
     ensures { λ b. ⌜ b ≡ mayFollow place kind ⌝ }
@@ -73,8 +62,10 @@ fn may_follow(place: u8, kind: u8) -> bool
     let mut i: usize = 0;
     while i < 30 {
         let pair = table[i];
-        if is_pair(pair, place, kind) {
-            return true;
+        if pair.0 == place {
+            if pair.1 == kind {
+                return true;
+            }
         }
         i += 1;
     }
@@ -120,14 +111,6 @@ pub(crate) fn shape_of(kind: u8) -> Shape
     Shape::Vertices
 }
 
-// The most that the kind's part may have.
-fn most_of(kind: u8) -> usize
-    ensures { λ r. ⌜ r ≡ mostOf kind ⌝ }
-{
-    let which = kind % 16;
-    if which == 3 { 9 } else { 16 }
-}
-
 // How many the part has so far.
 fn count_of(part: Part, state: State) -> usize
     ensures { λ r. ⌜ r ≡ countOf part state ⌝ }
@@ -155,14 +138,14 @@ pub(crate) fn kind_number(state: State, kind: u8) -> u8
     ensures { λ r. ⌜ r ≡ kindNumber state kind ⌝ }
 {
     let place = state.last;
-    if !may_follow(place, kind) {
-        return 3;
-    }
+    let misplaced: u8 = if may_follow(place, kind) { 0 } else { 3 };
     let part = part_of(kind);
-    let most = most_of(kind);
     let count = count_of(part, state);
-    if most <= count {
-        return 9;
+    let which = kind % 16;
+    let most: usize = if which == 3 { 9 } else { 16 };
+    let many: u8 = if most <= count { 9 } else { 0 };
+    if misplaced != 0 {
+        return misplaced;
     }
-    0
+    many
 }

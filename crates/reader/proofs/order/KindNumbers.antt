@@ -34,21 +34,33 @@ count-lt s kind {p} few e = within (countOf p s) (mostOf kind) (mostOf-le kind) 
     within : (n m : ℕ) → m ≤ 16 → leb m n ≡ false → n < 16
     within n m h f = omega (arith, leb-false m n f)
 
-abbrev pick : Bool → Bool → ℕ
-pick a b = cond a (cond b 9 0) 3
-
 module _ (s : State) (kind : ℕ) where
-  pub kindNumber-order : mayFollow (s .last) kind ≡ false → kindNumber s kind ≡ 3
-  unfolding kindNumber
-  kindNumber-order e = simp e
+  -- by the two tests of a program, each a number
+  module _ {misplaced : ℕ} (e : misplaced ≡ cond (mayFollow (s .last) kind) 0 3) where
+    pub kindNumber-misplaced : (misplaced ≡ 0 → ⊥) → misplaced ≡ kindNumber s kind
+    unfolding kindNumber
+    kindNumber-misplaced ne = by (mayFollow (s .last) kind) e
+      where
+        by : (a : Bool) → misplaced ≡ cond a 0 3 → misplaced ≡ cond a (cond (oneTooMany s kind) 9 0) 3
+        by true f = absurd (ne f)
+        by false f = f
 
-  pub kindNumber-many : mayFollow (s .last) kind ≡ true → oneTooMany s kind ≡ true → kindNumber s kind ≡ 9
-  unfolding kindNumber
-  kindNumber-many e m = ap (λ (b : Bool). pick b (oneTooMany s kind)) e ∙ ap (λ (b : Bool). pick true b) m
+    pub kindNumber-placed : {many : ℕ} → misplaced ≡ 0 → many ≡ cond (oneTooMany s kind) 9 0 → many ≡ kindNumber s kind
+    unfolding kindNumber
+    kindNumber-placed {many} z m = by (mayFollow (s .last) kind) e
+      where
+        by : (a : Bool) → misplaced ≡ cond a 0 3 → many ≡ cond a (cond (oneTooMany s kind) 9 0) 3
+        by true f = m
+        by false f = absurd (omega arith)
 
-  pub kindNumber-none : mayFollow (s .last) kind ≡ true → oneTooMany s kind ≡ false → kindNumber s kind ≡ 0
+  pub kindNumber-le : kindNumber s kind ≤ 9
   unfolding kindNumber
-  kindNumber-none e m = ap (λ (b : Bool). pick b (oneTooMany s kind)) e ∙ ap (λ (b : Bool). pick true b) m
+  kindNumber-le = by (mayFollow (s .last) kind) (oneTooMany s kind)
+    where
+      by : (a b : Bool) → cond a (cond b 9 0) 3 ≤ 9
+      by true true = omega arith
+      by true false = omega arith
+      by false b = omega arith
 
   -- back
   pub kindNumber-zero : kindNumber s kind ≡ 0 → (mayFollow (s .last) kind ≡ true) × (oneTooMany s kind ≡ false)

@@ -12,23 +12,17 @@ add-start c = omega (arith, whole-of _ _ _ _ (c .before .before .pre .0) .within
 take-requires : tie.Need-take-requires
 take-requires c κs = kindNumber-zero _ _ (c .before .before .pre .1) .1
 
-stop-requires : tie.Need-stop-requires
-stop-requires c κs = search needs
-
 returns : tie.Need-returns
-returns c = advances-value (c .before .before .before .before .before .pre .1) (c .before .before .before .before .before .pre .0) (c .before .before .take .ensures .number-is) (c .before .if1 .taken) (c .stop .ensures)
-
-stop-requires-2 : tie.Need-stop-requires-2
-stop-requires-2 c κs = search needs
+returns c = advances-value (c .before .before .before .before .pre .1) (c .before .before .before .before .pre .0) (c .before .take .ensures .number-is) (c .if1 .taken) refl
 
 returns-2 : tie.Need-returns-2
-returns-2 c = advances-more (c .before .before .before .before .before .before .before .pre .1) (c .before .before .before .before .before .before .before .pre .0) (sym (c .before .before .before .before .take .ensures .number-is) ∙ c .before .before .before .if1 .left) (c .before .before .if2 .taken) (c .before .if3 .taken) (c .stop2 .ensures)
+returns-2 c = advances-more (c .before .before .before .before .before .before .pre .1) (c .before .before .before .before .before .before .pre .0) (sym (c .before .before .before .take .ensures .number-is) ∙ c .before .before .if1 .left) (c .before .if2 .taken) (c .if3 .taken) refl
 
 returns-3 : tie.Need-returns-3
 returns-3 c = advances-ended (c .before .before .before .before .before .before .pre .1) (c .before .before .before .before .before .before .pre .0) (sym (c .before .before .before .take .ensures .number-is) ∙ c .before .before .if1 .left) (c .before .if2 .taken) (c .if3 .left) refl refl
 
-add-t15 : tie.Need-add-t15
-add-t15 c = omega (arith, whole-of _ _ _ _ (c .before .before .before .before .before .before .pre .0) .within)
+add-t17 : tie.Need-add-t17
+add-t17 c = omega (arith, whole-of _ _ _ _ (c .before .before .before .before .before .before .pre .0) .within)
 
 returns-4 : tie.Need-returns-4
 returns-4 c =
@@ -41,10 +35,8 @@ advance-whole-spec =
     (tie.spec
     add-start
     take-requires
-    stop-requires
     returns
-    stop-requires-2
     returns-2
     returns-3
-    add-t15
+    add-t17
     returns-4)
