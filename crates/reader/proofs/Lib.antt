@@ -1,13 +1,9 @@
-pub mod OrderTable
-pub mod Rows
-pub mod Taking
-pub mod Turning
-pub mod Turns
-pub mod Standing
-pub mod Blocks
+pub mod ReadingOn
+pub mod RecordInPlace
+pub mod RowsOfSix
 pub mod OrderFacts
 pub mod PartsSoFar
-pub mod Good
+pub mod AcceptedSoFar
 pub mod Sizes
 pub mod ReadModels
 pub mod Answers

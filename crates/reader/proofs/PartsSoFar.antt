@@ -1,6 +1,6 @@
 -- What each part of a state that the reader reaches satisfies, and that one record more of the part keeps it. In order: the six
 -- numbers of a body; n, the steps and the matrix; a set; directions; guards. The place is the one in the order of records. Not
--- here: the whole state (`Good`). Assumes nothing.
+-- here: the whole state (`AcceptedSoFar`). Assumes nothing.
 use mathlib.Core.Path.{_≡_, refl, sym, ap, ap₂, subst, _∙_}
 use mathlib.Core.Bool.{Bool, true, false, not, cond, _&&_, _||_}
 use mathlib.Core.List.{List}
@@ -14,19 +14,21 @@ use lib.IntN.{ℤ, pos}
 use Rattle.integers.specs.Sums.{vector, tabulate}
 use Rattle.integers.proofs.Machine.{getD-tabulate}
 use Rattle.integers.proofs.Booleans.{and-true}
+use Rattle.arrays.proofs.Introduction.{Zeros, Small, zeroOutside-of}
+use Rattle.stepping.specs.Limits.{entryLimit}
 use Rattle.stepping.specs.Refusals.{dimensionOk}
 use Rattle.records.specs.Numbers.{signedAt}
 use Rattle.reachability.specs.declared.sets.Shape.{Shape}
 use Rattle.reachability.specs.declared.sets.Shape.the-variants.{Box, Zonotope, Vertices}
 use Rattle.reachability.specs.declared.sets.Set.{Set}
 use Rattle.reachability.specs.Sets.{points, countOk, orderedOk, reachOk, setOk, reachWithin}
-use Rattle.reachability.specs.Limits.{stepsOk, setAccepted, allZero}
+use Rattle.reachability.specs.Limits.{directionLimit, stepsOk, setAccepted, allZero}
 use Rattle.reader.specs.Order.{shapeOf, isUpper, mostOf}
 use Rattle.reader.specs.Models.{entryAt, sixAt, putRow, rowPlace, withPoint}
 use Rattle.reader.specs.Values.{within, pointOk, directionOk, unless}
-use Rattle.reader.proofs.Rows.{length-putRow}
-use Rattle.reader.proofs.Taking.{lt-of-mostOf}
-use Rattle.reader.proofs.Blocks.{Zeros, zeros-putRow, zeroOutside-of, Small, small-putRow, Nonzero, nonzero-putRow, Guarded}
+use Rattle.reader.proofs.store.PutRow.{length-putRow}
+use Rattle.reader.proofs.order.KindNumbers.{lt-of-mostOf}
+use Rattle.reader.proofs.RowsOfSix.{zeros-putRow, small-putRow, Nonzero, nonzero-putRow, Guarded}
 use Rattle.reader.proofs.OrderFacts.{isDone, pointMay, isDone-early}
 
 -- ---- the six numbers of a body are zero beyond n
@@ -48,7 +50,7 @@ pub record FrameAt (place rows n steps : ℕ) (matrix : List ℤ) : Type 0 where
   pub all : 1 < place → rows ≡ n
   pub matrix-length : length matrix ≡ 36
   pub matrix-zeros : Zeros rows n matrix
-  pub matrix-small : Small 131072 matrix
+  pub matrix-small : Small entryLimit matrix
 
 pub n-most : (n : ℕ) → dimensionOk n ≡ true → n ≤ 6
 n-most n t = leb-true n 6 (and-true (leb 1 n) (leb n 6) t .1)
@@ -71,7 +73,7 @@ module _ {place rows n steps : ℕ} {matrix : List ℤ} (f : FrameAt place rows 
       }
 
   -- one row more
-  pub frame-row : (body : List ℕ) → place ≡ 1 → within 131072 (sixAt n body 1) ≡ true → FrameAt (rowPlace (rows + 1) n) (rows + 1) n steps (putRow matrix rows (sixAt n body 1))
+  pub frame-row : (body : List ℕ) → place ≡ 1 → within entryLimit (sixAt n body 1) ≡ true → FrameAt (rowPlace (rows + 1) n) (rows + 1) n steps (putRow matrix rows (sixAt n body 1))
   frame-row body e small =
       let room : 6 * rows + 6 ≤ length matrix = omega (arith, f .few e, n-most n (f .dimension (omega arith)), f .matrix-length) in
       record {
@@ -81,7 +83,7 @@ module _ {place rows n steps : ℕ} {matrix : List ℤ} (f : FrameAt place rows 
         all = λ p. full (ltb (rows + 1) n) refl p;
         matrix-length = length-putRow rows (sixAt n body 1) matrix ∙ f .matrix-length;
         matrix-zeros = zeros-putRow n matrix rows (sixAt n body 1) room (λ i h. sixAt-beyond n body 1 i h) (f .matrix-zeros);
-        matrix-small = small-putRow 131072 matrix rows (sixAt n body 1) room small (f .matrix-small);
+        matrix-small = small-putRow entryLimit matrix rows (sixAt n body 1) room small (f .matrix-small);
       }
     where
       left : (b : Bool) → ltb (rows + 1) n ≡ b → _≡_ {A = ℕ} (cond b 0x01 0x02) 1 → rows + 1 < n
@@ -231,7 +233,7 @@ module _ (base place n : ℕ) (set : Set) (kind : ℕ) (body : List ℕ) (s : Se
 pub record DirectionsAt (place n count : ℕ) (entries : List ℤ) : Type 0 where
   pub entries-length : length entries ≡ 96
   pub entries-zeros : Zeros count n entries
-  pub entries-small : Small 1000 entries
+  pub entries-small : Small directionLimit entries
   pub nonzero : Nonzero count entries
   pub few : count ≤ 16
   pub some : 0x30 ≤ place → 1 ≤ count
@@ -247,12 +249,12 @@ module _ {place n count : ℕ} {entries : List ℤ} (d : DirectionsAt place n co
   pub directions-more : (kind : ℕ) (body : List ℕ) → count < 16 → directionOk n body ≡ true → DirectionsAt kind n (count + 1) (putRow entries count (sixAt n body 0))
   unfolding directionOk
   directions-more kind body h ok =
-      let both = and-true (within 1000 (sixAt n body 0)) _ ok in
+      let both = and-true (within directionLimit (sixAt n body 0)) _ ok in
       let room : 6 * count + 6 ≤ length entries = omega (arith, d .entries-length) in
       record {
         entries-length = length-putRow count (sixAt n body 0) entries ∙ d .entries-length;
         entries-zeros = zeros-putRow n entries count (sixAt n body 0) room (λ i l. sixAt-beyond n body 0 i l) (d .entries-zeros);
-        entries-small = small-putRow 1000 entries count (sixAt n body 0) room (both .0) (d .entries-small);
+        entries-small = small-putRow directionLimit entries count (sixAt n body 0) room (both .0) (d .entries-small);
         nonzero = nonzero-putRow entries count (sixAt n body 0) room (turned (allZero (sixAt n body 0) 0) (both .1)) (d .nonzero);
         few = omega arith;
         some = λ l. omega arith;

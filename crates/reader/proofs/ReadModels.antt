@@ -1,98 +1,131 @@
--- Laws of `readModel`. In order: where a file is read, a state that the reader has reached; a model that was read is accepted;
--- an accepted file has at most 1,521 bytes; reading looks only at the first 2,048 bytes. Assumes nothing.
+-- Laws of `readModel`. In order: its number and offset; where a file is read, a state that the reader has reached; a model that was
+-- read is accepted; an accepted file has at most 1,521 bytes; reading looks only at the first 2,048 bytes. Assumes nothing.
 use mathlib.Core.Path.{_≡_, refl, sym, ap, ap₂, subst, _∙_}
-use mathlib.Core.Bool.{Bool, true, false, cond, _&&_}
+use mathlib.Core.Bool.{Bool, true, false, cond, not, _&&_}
 use mathlib.Core.List.{List}
-use Prim.Native.Nat.{ℕ, zero, suc, _+_, _-_, _≤_}
+use Prim.Native.Nat.{ℕ, zero, suc, _+_, _-_, _≤_, _<_}
 use native.Mathlib.Decide.{decLt}
 use native.Mathlib.Omega.{arith}
-use borrow.Author.Tests.{le-leb, leb-true, eqb-true, eqb-false, lt-ltb, le-ltb}
+use borrow.Author.Tests.{le-leb, leb-true, eq-eqb, eqb-true, eqb-false, lt-ltb, le-ltb, ltb-false}
 use lib.Dec.{eqb, ltb}
 use lib.ListN.{length, take, length-take}
 use lib.Seq.{take-all}
-use Rattle.records.specs.Records.{Record, whole, short, unknown, nothing, recordAt}
-use Rattle.records.proofs.RecordAt.{whole-length, nothing-of, recordAt-take, reaches-of-le}
-use Rattle.reachability.specs.declared.model.Model.{Model}
-use Rattle.reachability.specs.Limits.{accepted, frameOk, directionsOk}
+use Rattle.records.specs.Records.{Record, whole, recordAt, recordKind, recordBody}
+use Rattle.records.proofs.RecordAt.{whole-of, whole-length, recordAt-take, reaches-of-le}
+use Rattle.arrays.proofs.Introduction.{Zeros, zeroOutside-of, allBetween-of}
+use Rattle.stepping.specs.Limits.{entryLimit}
+use Rattle.reachability.specs.Limits.{accepted, frameOk, directionsOk, directionLimit}
+use Rattle.reader.specs.declared.Status.{Status}
 use Rattle.reader.specs.declared.Status.the-variants.{Read}
 use Rattle.reader.specs.declared.Reading.{Reading}
 use Rattle.reader.specs.declared.state.State.{State}
 use Rattle.reader.specs.Order.{mayFollow, partOf}
-use Rattle.reader.specs.Models.{start}
-use Rattle.reader.specs.Refusals.{refusal, stored}
-use Rattle.reader.specs.Reading.{refused, ended, readRecord, readFor, readModel}
-use Rattle.reader.proofs.Taking.{kindNumber-zero}
-use Rattle.reader.proofs.Turning.{refusal-zero, readRecord-refused, readRecord-end, readRecord-next, ended-more, ended-here}
-use Rattle.reader.proofs.Turns.{readRecord-agree, readFor-enough}
-use Rattle.reader.proofs.Blocks.{zeroOutside-of, allBetween-of, someNonzero-of, guardsOk-of, Zeros}
+use Rattle.reader.specs.Models.{blankModel, start}
+use Rattle.reader.specs.Refusals.{firstOf, refusal, stored}
+use Rattle.reader.specs.Reading.{Stop, stopHere, goesOn, behind, storedRecord, stopFor, stopFrom, numberAt, offsetAt, refused, readAs, readingAt, readFrom, readModel, readNumber, readOffset, statusNumber, statusOffset, Reads}
+use Rattle.reader.proofs.order.KindNumbers.{kindNumber-zero}
+use Rattle.reader.proofs.ReadingOn.{firstOf-zero, refusal-zero, whole-of-refusal, GoesOn, goesOn-true, stopFor-ind, stopFor-enough, stopFor-stops}
+use Rattle.reader.proofs.RowsOfSix.{someNonzero-of, guardsOk-of}
 use Rattle.reader.proofs.OrderFacts.{fact, order-fact, isDone-late}
-use Rattle.reader.proofs.Good.{Good, good-start, good-stored}
-use Rattle.reader.proofs.Sizes.{used, used-start, used-stored, used-le}
+use Rattle.reader.proofs.AcceptedSoFar.{AcceptedSoFar, acceptedSoFar-start, acceptedSoFar-stored}
+use Rattle.reader.proofs.Sizes.{used, used-stored, used-le}
+
+-- ---- the number and the offset of a file
+
+-- What a reading tells of its number and offset.
+record Tells (r : Reading) (number offset : ℕ) : Type 0 where
+  number-is : statusNumber (r .status) ≡ number
+  offset-is : statusOffset (r .status) ≡ cond (eqb number 0) 0 offset
+  blank : 0 < number → r .model ≡ blankModel
+
+readingAt-tells : (file : List ℕ) (p : Stop) → Tells (readingAt file p) (numberAt file p) (offsetAt file p)
+unfolding readingAt
+readingAt-tells file p = split (numberAt file p) (offsetAt file p) (eqb (numberAt file p) 0) refl
+  where
+    split : (n o : ℕ) (b : Bool) → eqb n 0 ≡ b → Tells (cond (eqb n 0) (readAs (p .state .model)) (refused n o)) n o
+    split n o true e =
+        let z = eqb-true n 0 e in
+        subst (λ (m : ℕ). Tells (cond (eqb m 0) (readAs (p .state .model)) (refused m o)) m o) (sym z) (record { number-is = refl; offset-is = refl; blank = λ h. absurd (omega arith) })
+    split n o false e = rw e (record { number-is = refl; offset-is = rw e refl; blank = λ h. refl })
+
+pub reads-of : (file : List ℕ) {r : Reading} → r ≡ readModel file → Reads file r
+unfolding readModel readFrom readNumber readOffset
+reads-of file {r} e =
+    subst (Reads file) (sym e)
+    (let t = readingAt-tells file (stopFrom file 0 start) in
+    record { answer = refl; number = t .number-is; offset = t .offset-is; blank = t .blank })
 
 -- ---- where a file is read
 
+-- A state that the reader reaches at an offset.
+pub record Reachable (p : Stop) : Type 0 where
+  pub so-far : AcceptedSoFar (p .state)
+  pub within : p .at ≤ used (p .state)
+
+reachable-next : (file : List ℕ) (at : ℕ) (s : State) (kind : ℕ) (body : List ℕ) → Reachable (stopHere at s) → GoesOn file at s kind body → Reachable (stopHere (at + 1 + length body) (stored s kind body))
+reachable-next file at s kind body r g =
+    record {
+      so-far = acceptedSoFar-stored s kind body (r .so-far) (g .allowed) (g .passes);
+      within = omega (arith, r .within, used-stored s kind body (r .so-far) (kindNumber-zero s kind (g .allowed) .0) (g .other) (whole-length file at kind body (g .stands)));
+    }
+
+reachable-start : Reachable (stopHere 0 start)
+reachable-start = record { so-far = acceptedSoFar-start; within = omega arith }
+
 -- The state before the end record, at the offset of that record.
-pub record Reached (file : List ℕ) (m : Model) : Type 0 where
-  pub state : State
-  pub good : Good state
-  pub ends : mayFollow (state .last) 0xFF ≡ true
-  pub within : length file ≤ used state + 1
-  pub model-is : m ≡ state .model
+pub record Reached (file : List ℕ) (r : Reading) : Type 0 where
+  pub last : Stop
+  pub reachable : Reachable last
+  pub ends : mayFollow (last .state .last) 0xFF ≡ true
+  pub length-le : length file ≤ last .at + 1
+  pub model-is : r .model ≡ last .state .model
 
--- a refusal is no reading
-not-read : {C : Type 0} (number offset : ℕ) → refused number offset .status ≡ Read → C
-not-read number offset e = let z : _≡_ {A = ℕ} 0 1 = cc in absurd (omega arith)
+module _ (file : List ℕ) (p : Stop) where
+  abbrev here : Record
+  here = recordAt file (p .at)
 
-Reads : List ℕ → Reading → Type 0
-Reads file r = r .status ≡ Read → Reached file (r .model)
+  -- not refused, the record that reading stops at is the end
+  end-here : goesOn (p .state) here ≡ false → refusal (p .state) here ≡ 0 → (b : Bool) → eqb (recordKind here) 0xFF ≡ b → recordKind here ≡ 0xFF
+  end-here stops z true t = eqb-true (recordKind here) 0xFF t
+  end-here stops z false t =
+      let u : _≡_ {A = ℕ} 0 1 = cc (sym stops ∙ ap₂ (λ (a b : Bool). a && not b) (eq-eqb (refusal (p .state) here) 0 z) t) in
+      absurd (omega arith)
 
-reads-refused : (file : List ℕ) (number offset : ℕ) → Reads file (refused number offset)
-unfolding Reads
-reads-refused file number offset e = not-read number offset e
+  no-more : (b : Bool) → ltb (p .at + 1) (length file) ≡ b → _≡_ {A = ℕ} (cond b 10 0) 0 → length file ≤ p .at + 1
+  no-more true t z = absurd (omega arith)
+  no-more false t z = omega (arith, ltb-false (p .at + 1) (length file) t)
 
-module _ (file : List ℕ) (at : ℕ) (s : State) (g : Good s) (placed : at ≡ used s) (on : ℕ → State → Reading) where
-  reads-ended : mayFollow (s .last) 0xFF ≡ true → Reads file (ended file (at + 1) (s .model))
-  unfolding Reads
-  reads-ended ends = elim (decLt (at + 1) (length file)) [ yes h ↦ subst (Reads file) (sym (ended-more file (at + 1) s h)) (reads-refused file 10 (at + 1)) | no k ↦ subst (Reads file) (sym (ended-here file (at + 1) s (omega (arith, k)))) (λ e. record { state = s; good = g; ends = ends; within = omega (arith, k); model-is = refl }) ]
+  readingAt-model : numberAt file p ≡ 0 → readingAt file p .model ≡ p .state .model
+  unfolding readingAt
+  readingAt-model n = ap (λ (b : Bool). cond b (readAs (p .state .model)) (refused (numberAt file p) (offsetAt file p)) .model) (eq-eqb (numberAt file p) 0 n)
 
-  reads-record : (r : Record) → recordAt file at ≡ r → ((next : ℕ) (s′ : State) → Good s′ → next ≡ used s′ → Reads file (on next s′)) → Reads file (readRecord file at s r on)
-  unfolding readRecord
-  reads-record nothing is go = reads-refused file (refusal s nothing) (length file)
-  reads-record (unknown kind) is go = reads-refused file (refusal s (unknown kind)) at
-  reads-record (short kind) is go = reads-refused file (refusal s (short kind)) at
-  reads-record (whole kind body) is go = split (eqb (refusal s (whole kind body)) 0) refl
-    where
-      taken : refusal s (whole kind body) ≡ 0 → (b : Bool) → eqb kind 0xFF ≡ b → Reads file (readRecord file at s (whole kind body) on)
-      taken z true t =
-          let k = eqb-true kind 0xFF t in
-          let m = kindNumber-zero s kind (refusal-zero s kind body z .0) .0 in
-          subst (Reads file) (sym (readRecord-end file at s kind body on z k)) (reads-ended (ap (mayFollow (s .last)) (sym k) ∙ m))
-      taken z false t =
-          let ne = eqb-false kind 0xFF t in
-          let both = refusal-zero s kind body z in
-          let m = kindNumber-zero s kind (both .0) .0 in
-          let more = used-stored s kind body g m ne (whole-length file at kind body is) in
-          subst (Reads file) (sym (readRecord-next file at s kind body on z ne))
-          (go (at + 1 + length body) (stored s kind body) (good-stored s kind body g (both .0) (both .1)) (omega arith))
+  readingAt-reached : Reachable p → goesOn (p .state) here ≡ false → readingAt file p .status ≡ Read → Reached file (readingAt file p)
+  unfolding numberAt
+  readingAt-reached r stops e =
+      let n : numberAt file p ≡ 0 = sym (readingAt-tells file p .number-is) ∙ ap statusNumber e in
+      let both = firstOf-zero (refusal (p .state) here) _ n in
+      let w = whole-of-refusal (p .state) here (both .0) in
+      let allowed = refusal-zero (p .state) (recordKind here) (recordBody here) (sym (ap (refusal (p .state)) w) ∙ both .0) .0 in
+      record {
+        last = p;
+        reachable = r;
+        ends = ap (mayFollow (p .state .last)) (sym (end-here stops (both .0) (eqb (recordKind here) 0xFF) refl)) ∙ kindNumber-zero (p .state) (recordKind here) allowed .0;
+        length-le = no-more (ltb (p .at + 1) (length file)) refl (both .1);
+        model-is = readingAt-model n;
+      }
 
-      split : (b : Bool) → eqb (refusal s (whole kind body)) 0 ≡ b → Reads file (readRecord file at s (whole kind body) on)
-      split true t = taken (eqb-true (refusal s (whole kind body)) 0 t) (eqb kind 0xFF) refl
-      split false t = subst (Reads file) (sym (readRecord-refused file at s kind body on (eqb-false (refusal s (whole kind body)) 0 t))) (reads-refused file (refusal s (whole kind body)) at)
+reachable-stop : (file : List ℕ) (turns : ℕ) → Reachable (stopFor turns file 0 start)
+reachable-stop file turns = stopFor-ind file Reachable (reachable-next file) turns 0 start reachable-start
 
-reads-for : (turns : ℕ) (file : List ℕ) (at : ℕ) (s : State) → Good s → at ≡ used s → Reads file (readFor turns file at s)
-unfolding readFor
-reads-for zero file at s g placed = reads-refused file 1 at
-reads-for (suc turns) file at s g placed =
-    reads-record file at s g placed (readFor turns file) (recordAt file at) refl (λ next s′ h p. reads-for turns file next s′ h p)
-
-pub readModel-reached : (file : List ℕ) → readModel file .status ≡ Read → Reached file (readModel file .model)
-unfolding readModel Reads
-readModel-reached file e = reads-for (suc (length file - 0)) file 0 start good-start (sym used-start) e
+pub readModel-reached : (file : List ℕ) → readModel file .status ≡ Read → Reached file (readModel file)
+unfolding readModel readFrom
+readModel-reached file e =
+    readingAt-reached file (stopFrom file 0 start) (reachable-stop file (suc (length file - 0))) (stopFor-stops file (suc (length file - 0)) 0 start (omega arith)) e
 
 -- ---- a model that was read is accepted: number 11 never follows a good read
 
-good-accepted : (s : State) → Good s → 0x30 ≤ s .last → accepted (s .model) ≡ true
-good-accepted s g late =
+accepted-of : (s : State) → AcceptedSoFar s → 0x30 ≤ s .last → accepted (s .model) ≡ true
+accepted-of s g late =
     ap₂ _&&_ frame
     (ap₂ _&&_ (g .initial .done (isDone-late 0x10 (s .last) (omega arith)))
     (ap₂ _&&_ (g .input .done (isDone-late 0x20 (s .last) (omega arith)))
@@ -102,14 +135,14 @@ good-accepted s g late =
     frame =
         ap₂ _&&_ (g .frame .dimension (omega arith))
         (ap₂ _&&_ (g .frame .steps-ok (omega arith))
-        (ap₂ _&&_ (allBetween-of 131072 (s .model .matrix) (g .frame .matrix-small))
+        (ap₂ _&&_ (allBetween-of entryLimit (s .model .matrix) (g .frame .matrix-small))
         (zeroOutside-of (s .model .n) (s .model .n) (s .model .matrix) (subst (λ (k : ℕ). Zeros k (s .model .n) (s .model .matrix)) (g .frame .all (omega arith)) (g .frame .matrix-zeros)))))
 
     directions : directionsOk (s .model .n) (s .model .directions) (s .model .entries) ≡ true
     directions =
         ap₂ _&&_ (ap₂ _&&_ (le-leb 1 (s .model .directions) (g .directions .some late)) (le-leb (s .model .directions) 16 (g .directions .few)))
         (ap₂ _&&_ (zeroOutside-of (s .model .directions) (s .model .n) (s .model .entries) (g .directions .entries-zeros))
-        (ap₂ _&&_ (allBetween-of 1000 (s .model .entries) (g .directions .entries-small)) (someNonzero-of (s .model .directions) (s .model .entries) (g .directions .nonzero))))
+        (ap₂ _&&_ (allBetween-of directionLimit (s .model .entries) (g .directions .entries-small)) (someNonzero-of (s .model .directions) (s .model .entries) (g .directions .nonzero))))
 
 end-place : (place : ℕ) → mayFollow place 0xFF ≡ true → 0x30 ≤ place
 unfolding fact partOf
@@ -118,42 +151,59 @@ end-place place m = leb-true 0x30 place (order-fact place 0xFF m)
 pub readModel-accepted : (file : List ℕ) → readModel file .status ≡ Read → accepted (readModel file .model) ≡ true
 readModel-accepted file e =
     let r = readModel-reached file e in
-    ap accepted (r .model-is) ∙ good-accepted (r .state) (r .good) (end-place (r .state .last) (r .ends))
+    ap accepted (r .model-is) ∙ accepted-of (r .last .state) (r .reachable .so-far) (end-place (r .last .state .last) (r .ends))
 
 -- ---- "The longest accepted file has 1,521 bytes."
 
 pub readModel-length : (file : List ℕ) → readModel file .status ≡ Read → length file ≤ 1521
 readModel-length file e =
     let r = readModel-reached file e in
-    omega (arith, r .within, used-le (r .state) (r .good))
+    omega (arith, r .length-le, r .reachable .within, used-le (r .last .state) (r .reachable .so-far))
 
 -- ---- "The program reads at most 2,048 bytes; a longer file gets the reply its first 2,048 bytes get."
 
-module _ (file : List ℕ) (at : ℕ) (small : at ≤ 1520) where
-  same-length : length file ≤ at → length (take 2048 file) ≡ length file
-  same-length h = ap length (take-all 2048 file (omega arith))
+module _ (file : List ℕ) where
+  abbrev first : List ℕ
+  first = take 2048 file
 
-  same-test : ltb (at + 1) (length (take 2048 file)) ≡ ltb (at + 1) (length file)
-  same-test = elim (decLt (at + 1) (length file)) [ yes h ↦ lt-ltb (at + 1) (length (take 2048 file)) (simp length-take (omega arith)) ∙ sym (lt-ltb (at + 1) (length file) h) | no k ↦ le-ltb (at + 1) (length (take 2048 file)) (simp length-take (omega (arith, k))) ∙ sym (le-ltb (at + 1) (length file) (omega (arith, k))) ]
+  module _ (p : Stop) (r : Reachable p) where
+    small : p .at ≤ 1520
+    small = omega (arith, r .within, used-le (p .state) (r .so-far))
 
-  same-end : (m : Model) → ended (take 2048 file) (at + 1) m ≡ ended file (at + 1) m
-  unfolding ended
-  same-end m = ap (λ (b : Bool). cond b (refused 10 (at + 1)) (record { status = Read; model = m })) same-test
+    same-record : recordAt first (p .at) ≡ recordAt file (p .at)
+    same-record = recordAt-take 2048 file (p .at) (reaches-of-le 2048 file (p .at) (omega (arith, small)))
 
-readFor-take : (turns : ℕ) (file : List ℕ) (at : ℕ) (s : State) → Good s → at ≡ used s → readFor turns (take 2048 file) at s ≡ readFor turns file at s
-unfolding readFor
-readFor-take zero file at s g placed = refl
-readFor-take (suc turns) file at s g placed =
-    let small : at ≤ 1520 = omega (arith, used-le s g) in
-    ap (λ (r : Record). readRecord (take 2048 file) at s r (readFor turns (take 2048 file))) (recordAt-take 2048 file at (reaches-of-le 2048 file at (omega arith)))
-    ∙ readRecord-agree (take 2048 file) file at s (recordAt file at) (readFor turns (take 2048 file)) (readFor turns file) (λ e. same-length file at small (nothing-of file at e)) (same-end file at small)
-    (λ kind body is z ne. let both = refusal-zero s kind body (sym (ap (refusal s) is) ∙ z) in let m = kindNumber-zero s kind (both .0) .0 in let more = used-stored s kind body g m ne (whole-length file at kind body is) in readFor-take turns file (at + 1 + length body) (stored s kind body) (good-stored s kind body g (both .0) (both .1)) (omega arith))
+    same-test : ltb (p .at + 1) (length first) ≡ ltb (p .at + 1) (length file)
+    same-test = elim (decLt (p .at + 1) (length file)) [ yes h ↦ lt-ltb (p .at + 1) (length first) (simp length-take (omega (arith, small))) ∙ sym (lt-ltb (p .at + 1) (length file) h) | no k ↦ le-ltb (p .at + 1) (length first) (simp length-take (omega (arith, k))) ∙ sym (le-ltb (p .at + 1) (length file) (omega (arith, k))) ]
 
-pub readModel-take : (file : List ℕ) → readModel (take 2048 file) ≡ readModel file
-unfolding readModel
-readModel-take file =
-    readFor-enough (suc (length (take 2048 file) - 0)) (suc (length file - 0)) (take 2048 file) 0 start (omega arith) (simp length-take (omega arith))
-    ∙ readFor-take (suc (length file - 0)) file 0 start good-start (sym used-start)
+    same-offset : cond (ltb (p .at) (length first)) (p .at) (length first) ≡ cond (ltb (p .at) (length file)) (p .at) (length file)
+    same-offset = elim (decLt (p .at) (length file)) [ yes h ↦ simp (lt-ltb (p .at) (length file) h, lt-ltb (p .at) (length first) (simp length-take (omega (arith, small)))) | no k ↦ ap (λ (n : ℕ). cond (ltb (p .at) n) (p .at) n) (ap length (take-all 2048 file (omega (arith, k, small)))) ]
+
+    readingAt-take : readingAt first p ≡ readingAt file p
+    unfolding readingAt numberAt offsetAt
+    readingAt-take =
+        ap₂ (λ (n o : ℕ). cond (eqb n 0) (readAs (p .state .model)) (refused n o))
+        (ap₂ (λ (x : Record) (b : Bool). firstOf (refusal (p .state) x) (cond b 10 0)) same-record same-test)
+        (ap₂ (λ (x : Record) (o : ℕ). cond (eqb (refusal (p .state) x) 0) (p .at + 1) o) same-record same-offset)
+
+  stopFor-take : (turns at : ℕ) (s : State) → Reachable (stopHere at s) → stopFor turns first at s ≡ stopFor turns file at s
+  unfolding stopFor
+  stopFor-take zero at s r = refl
+  stopFor-take (suc turns) at s r =
+      ap (λ (x : Record). cond (goesOn s x) (stopFor turns first (behind at x) (storedRecord s x)) (stopHere at s)) (same-record (stopHere at s) r)
+      ∙ split (goesOn s (recordAt file at)) refl (λ q. stopFor-take turns (behind at (recordAt file at)) (storedRecord s (recordAt file at)) q)
+    where
+      split : (b : Bool) → goesOn s (recordAt file at) ≡ b → (Reachable (stopHere (behind at (recordAt file at)) (storedRecord s (recordAt file at))) → stopFor turns first (behind at (recordAt file at)) (storedRecord s (recordAt file at)) ≡ stopFor turns file (behind at (recordAt file at)) (storedRecord s (recordAt file at))) → cond b (stopFor turns first (behind at (recordAt file at)) (storedRecord s (recordAt file at))) (stopHere at s) ≡ cond b (stopFor turns file (behind at (recordAt file at)) (storedRecord s (recordAt file at))) (stopHere at s)
+      split true t go = go (reachable-next file at s (recordKind (recordAt file at)) (recordBody (recordAt file at)) r (goesOn-true file at s t))
+      split false t go = refl
+
+  pub readModel-take : readModel first ≡ readModel file
+  unfolding readModel readFrom
+  readModel-take =
+      ap (readingAt first)
+      (stopFor-enough first (suc (length first - 0)) (suc (length file - 0)) 0 start (omega arith) (simp length-take (omega arith))
+      ∙ stopFor-take (suc (length file - 0)) 0 start reachable-start)
+      ∙ readingAt-take (stopFrom file 0 start) (reachable-stop file (suc (length file - 0)))
 
 -- Two files with the same first 2,048 bytes get the same reply.
 pub readModel-agree : (file file′ : List ℕ) → take 2048 file ≡ take 2048 file′ → readModel file ≡ readModel file′

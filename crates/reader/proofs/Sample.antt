@@ -16,7 +16,7 @@ use Rattle.reader.specs.Order.{mayFollow, partOf}
 use Rattle.reader.specs.Models.{zeros, blankSet, blankModel, start, sixAt, putRow, withHead, withRow, withPoint, withSetPoint, withDirection, withGuard}
 use Rattle.reader.specs.Values.{rowOk, pointOk, directionOk}
 use Rattle.reader.specs.Refusals.{kindNumber, refusal, stored}
-use Rattle.reader.specs.Reading.{ended, readRecord, readFor, readModel, refused}
+use Rattle.reader.specs.Reading.{stopFor, numberAt, offsetAt, readingAt, readFrom, readModel, refused}
 
 -- One coordinate in four bytes, and five unused ones.
 abbrev point : ℕ → ℕ → List ℕ
@@ -59,10 +59,10 @@ unfolding sample
 sample-length = refl
 
 pub sample-read : readModel sample ≡ record { status = Read; model = sampleModel }
-unfolding allBelow sumℕ maxℕ bodyLength recordAt littleEndian mayFollow partOf zeros blankSet blankModel start sixAt putRow withHead withRow withPoint withSetPoint withDirection withGuard rowOk pointOk directionOk kindNumber refusal stored ended readRecord readFor readModel sample sampleModel
+unfolding allBelow sumℕ maxℕ bodyLength recordAt littleEndian mayFollow partOf zeros blankSet blankModel start sixAt putRow withHead withRow withPoint withSetPoint withDirection withGuard rowOk pointOk directionOk kindNumber refusal stored stopFor numberAt offsetAt readingAt readFrom readModel sample sampleModel
 sample-read = refl
 
 -- "14. Empty file: number 1 at offset 0."
 pub empty-refused : readModel [] ≡ refused 1 0
-unfolding recordAt refusal readRecord readFor readModel
+unfolding recordAt refusal stopFor numberAt offsetAt readingAt readFrom readModel
 empty-refused = refl

@@ -3,33 +3,27 @@ use mathlib.Core.Path.{_≡_}
 use mathlib.Core.List.{List}
 use Prim.Native.Nat.{ℕ, _≤_, _<_}
 use lib.ListN.{length}
-use Rattle.records.specs.Records.{recordAt}
-use Rattle.reachability.specs.declared.model.Model.{Model}
 use Rattle.reader.specs.declared.Reading.{Reading}
 use Rattle.reader.specs.declared.state.State.{State}
 use Rattle.reader.specs.declared.take.Taken.{Taken}
-use Rattle.reader.specs.declared.turn.Outcome.{Outcome}
-use Rattle.reader.specs.declared.turn.Outcome.the-variants.{Next, Ended, Stopped}
-use Rattle.reader.specs.declared.turn.Turn.{Turn}
-use Rattle.reader.specs.Models.{stateOf}
-use Rattle.reader.specs.Reading.{refused, readAs, readRecord}
+use Rattle.reader.specs.declared.advance.Outcome.{Outcome}
+use Rattle.reader.specs.declared.advance.Outcome.the-variants.{Next, Ended, Stopped}
+use Rattle.reader.specs.declared.advance.Advanced.{Advanced}
+use Rattle.reader.specs.Reading.{refused, readAs, readFrom}
 
 -- What taking a record gives: its number and, where that is 0, the state behind it.
 pub record Takes (number : ℕ) (next : State) (r : Taken) : Type 0 where
   pub number-is : r .number ≡ number
   pub state-is : number ≡ 0 → r .state ≡ next
 
--- What taking a record gives that passes its value test: no number, and the state of this place, these rows and this model.
-abbrev pub takenAs : ℕ → ℕ → Model → Taken
-takenAs last rows m = record { number = 0; state = stateOf last rows m }
+-- The reading of a file, of which a record has this outcome and leaves this state.
+abbrev pub followed : List ℕ → Outcome → State → Reading
+followed file (Next at) s = readFrom file at s
+followed file Ended s = readAs (s .model)
+followed file (Stopped number offset) s = refused number offset
 
--- How the reading goes on behind a turn.
-abbrev pub followed : Outcome → State → (ℕ → State → Reading) → Reading
-followed (Next at) s on = on at s
-followed Ended s on = readAs (s .model)
-followed (Stopped number offset) s on = refused number offset
-
--- What a turn does: the record at the offset, and where reading goes on it goes on behind that record, inside the file.
-pub record Turns (file : List ℕ) (at : ℕ) (s : State) (r : Turn) : Type 0 where
-  pub reads : (on : ℕ → State → Reading) → followed (r .outcome) (r .state) on ≡ readRecord file at s (recordAt file at) on
+-- What advancing over the record at an offset does: the reading is that of the file from there; where reading goes on, it goes on
+-- behind that record, inside the file.
+pub record Advances (file : List ℕ) (at : ℕ) (s : State) (r : Advanced) : Type 0 where
+  pub reads : followed file (r .outcome) (r .state) ≡ readFrom file at s
   pub forward : (next : ℕ) → r .outcome ≡ Next next → (at < next) × (next ≤ length file)

@@ -2,7 +2,7 @@
 -- changes nothing in it; none such is ever let in. Assumes nothing.
 use mathlib.Core.Bool.{Bool, cond}
 use mathlib.Core.List.{List}
-use Prim.Native.Nat.{ℕ, _+_, _*_}
+use Prim.Native.Nat.{ℕ, zero, suc, _+_, _*_}
 use lib.Dec.{eqb, ltb}
 use lib.ListN.{getD, set, replicate}
 use lib.IntN.{ℤ, pos}
@@ -56,8 +56,11 @@ unfoldable pub sixAt : ℕ → List ℕ → ℕ → List ℤ
 sixAt n body at = tabulate 6 (entryAt n body at)
 
 -- "Limits": "a head that says 0 means 60."
+abbrev pub usualSteps : ℕ
+usualSteps = 60
+
 abbrev pub defaultSteps : ℕ → ℕ
-defaultSteps k = cond (eqb k 0) 60 k
+defaultSteps k = cond (eqb k 0) usualSteps k
 
 -- ---- a model with one part changed
 
@@ -102,12 +105,13 @@ setGuards m guards watched levels = modelOf (m .n) (m .steps) (m .matrix) (m .in
 abbrev pub stateOf : ℕ → ℕ → Model → State
 stateOf last rows m = record { last = last; rows = rows; model = m }
 
-abbrev pub putAt : ℕ → List ℤ → ℕ → List ℤ → List ℤ
-putAt row six i xs = set xs (6 * row + i) (vector six i)
+-- The first k of six numbers stored as one row of rows of six.
+abbrev pub putFirst : ℕ → List ℤ → ℕ → List ℤ → List ℤ
+putFirst zero xs row six = xs
+putFirst (suc k) xs row six = set (putFirst k xs row six) (6 * row + k) (vector six k)
 
--- Six numbers stored as one row of rows of six.
 unfoldable pub putRow : List ℤ → ℕ → List ℤ → List ℤ
-putRow xs row six = putAt row six 5 (putAt row six 4 (putAt row six 3 (putAt row six 2 (putAt row six 1 (putAt row six 0 xs)))))
+putRow xs row six = putFirst 6 xs row six
 
 -- "01 | n (1 byte), steps (2)".
 unfoldable pub withHead : State → List ℕ → State

@@ -6,8 +6,8 @@ use Prim.Native.Nat.{ℕ, _%_}
 use lib.Dec.{eqb, leb}
 use Rattle.reachability.specs.declared.sets.Shape.{Shape}
 use Rattle.reachability.specs.declared.sets.Shape.the-variants.{Box, Zonotope, Vertices}
-use Rattle.reader.specs.declared.parts.Part.{Part}
-use Rattle.reader.specs.declared.parts.Part.the-variants.{Head, Row, Initial, Input, Direction, Guard, End}
+use Rattle.reader.specs.declared.order.Part.{Part}
+use Rattle.reader.specs.declared.order.Part.the-variants.{Head, Row, Initial, Input, Direction, Guard, End}
 
 -- "Order: 01; n rows; the initial set in one of its three forms (10 then 11; 12 then its 13s; 14s); the input set likewise;
 -- directions; guards; FF. A part below its least count lets no later kind in". Each pair is a place and a kind that may stand

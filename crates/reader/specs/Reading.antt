@@ -1,20 +1,68 @@
--- The reading of a file: a model, or a number with its offset and no model. Definitions only. A file is the list of its bytes.
--- Assumes nothing.
-use mathlib.Core.Bool.{cond}
+-- The reading of a file, document 01, "The file" and "Refusals by place": where it stops, the number and the offset there, and
+-- the model. Definitions only. A file is the list of its bytes. Assumes nothing.
+use mathlib.Core.Path.{_≡_}
+use mathlib.Core.Bool.{Bool, cond, not, _&&_}
 use mathlib.Core.List.{List}
-use Prim.Native.Nat.{ℕ, zero, suc, _+_, _-_}
+use Prim.Native.Nat.{ℕ, zero, suc, _+_, _-_, _<_}
 use lib.Dec.{eqb, ltb}
 use lib.ListN.{length}
-use Rattle.records.specs.Records.{Record, whole, short, unknown, nothing, recordAt}
+use Rattle.records.specs.Records.{Record, recordAt, recordKind, recordBody}
 use Rattle.reachability.specs.declared.model.Model.{Model}
 use Rattle.reader.specs.declared.Status.{Status}
 use Rattle.reader.specs.declared.Status.the-variants.{Read, Refused}
 use Rattle.reader.specs.declared.Reading.{Reading}
 use Rattle.reader.specs.declared.state.State.{State}
 use Rattle.reader.specs.Models.{blankModel, start}
-use Rattle.reader.specs.Refusals.{refusal, stored}
+use Rattle.reader.specs.Refusals.{firstOf, refusal, stored}
 
--- "hands back no model": a refusal has the blank one beside it.
+-- ---- where reading stops
+
+-- The offset of a record's kind byte, and the state before that record.
+pub record Stop : Type 0 where
+  pub at : ℕ
+  pub state : State
+
+abbrev pub stopHere : ℕ → State → Stop
+stopHere at s = record { at = at; state = s }
+
+-- Reading goes on behind a record that is not refused and is not the end.
+abbrev pub goesOn : State → Record → Bool
+goesOn s r = eqb (refusal s r) 0 && not (eqb (recordKind r) 0xFF)
+
+abbrev pub behind : ℕ → Record → ℕ
+behind at r = at + 1 + length (recordBody r)
+
+abbrev pub storedRecord : State → Record → State
+storedRecord s r = stored s (recordKind r) (recordBody r)
+
+-- Where reading stops that starts at an offset, within so many records.
+unfoldable pub stopFor : ℕ → List ℕ → ℕ → State → Stop
+stopFor zero file at s = stopHere at s
+stopFor (suc turns) file at s =
+    cond (goesOn s (recordAt file at))
+    (stopFor turns file (behind at (recordAt file at)) (storedRecord s (recordAt file at)))
+    (stopHere at s)
+
+-- The same for any number of records: each has at least its kind byte, so the length is enough.
+abbrev pub stopFrom : List ℕ → ℕ → State → Stop
+stopFrom file at s = stopFor (suc (length file - at)) file at s
+
+-- ---- the number and the offset there
+
+-- "The first number that applies, from the top": that of the record, and then, of the end, "10 | bytes follow". 0 where the file
+-- is read.
+unfoldable pub numberAt : List ℕ → Stop → ℕ
+numberAt file p = firstOf (refusal (p .state) (recordAt file (p .at))) (cond (ltb (p .at + 1) (length file)) 10 0)
+
+-- "The reader adds the offset of the record's kind byte (for 10, of the first byte after FF; with no byte left, the length)".
+unfoldable pub offsetAt : List ℕ → Stop → ℕ
+offsetAt file p =
+    cond (eqb (refusal (p .state) (recordAt file (p .at))) 0) (p .at + 1)
+    (cond (ltb (p .at) (length file)) (p .at) (length file))
+
+-- ---- the reading of a file
+
+-- "and hands back no model": a refusal has the blank one beside it.
 abbrev pub refused : ℕ → ℕ → Reading
 refused number offset = record { status = Refused number offset; model = blankModel }
 
@@ -22,33 +70,24 @@ refused number offset = record { status = Refused number offset; model = blankMo
 abbrev pub readAs : Model → Reading
 readAs m = record { status = Read; model = m }
 
--- "10 | bytes follow": `next` is the offset after FF, so of the first byte after it.
-unfoldable pub ended : List ℕ → ℕ → Model → Reading
-ended file next m = cond (ltb next (length file)) (refused 10 next) (readAs m)
-
--- What the record at the offset makes of the reading: a refusal with "the offset of the record's kind byte", "with no byte left,
--- the length"; the end; or reading on behind the record, `on`.
-unfoldable pub readRecord : List ℕ → ℕ → State → Record → (ℕ → State → Reading) → Reading
-readRecord file at s nothing on = refused (refusal s nothing) (length file)
-readRecord file at s (unknown kind) on = refused (refusal s (unknown kind)) at
-readRecord file at s (short kind) on = refused (refusal s (short kind)) at
-readRecord file at s (whole kind body) on =
-    cond (eqb (refusal s (whole kind body)) 0)
-    (cond (eqb kind 0xFF) (ended file (at + 1) (s .model)) (on (at + 1 + length body) (stored s kind body)))
-    (refused (refusal s (whole kind body)) at)
-
--- Reading on from an offset, for at most so many records. Each has at least its kind byte, so the length is enough.
-unfoldable pub readFor : ℕ → List ℕ → ℕ → State → Reading
-readFor zero file at s = refused 1 at
-readFor (suc turns) file at s = readRecord file at s (recordAt file at) (readFor turns file)
+unfoldable pub readingAt : List ℕ → Stop → Reading
+readingAt file p = cond (eqb (numberAt file p) 0) (readAs (p .state .model)) (refused (numberAt file p) (offsetAt file p))
 
 -- Reading on from an offset.
-abbrev pub readFrom : List ℕ → ℕ → State → Reading
-readFrom file at s = readFor (suc (length file - at)) file at s
+unfoldable pub readFrom : List ℕ → ℕ → State → Reading
+readFrom file at s = readingAt file (stopFrom file at s)
 
--- "The file" and "Refusals by place": the reading of a file.
 unfoldable pub readModel : List ℕ → Reading
 readModel file = readFrom file 0 start
+
+-- The number of a file, 0 where it is read, and its offset, 0 there too.
+unfoldable pub readNumber : List ℕ → ℕ
+readNumber file = numberAt file (stopFrom file 0 start)
+
+unfoldable pub readOffset : List ℕ → ℕ
+readOffset file = cond (eqb (readNumber file) 0) 0 (offsetAt file (stopFrom file 0 start))
+
+-- ---- what a status tells
 
 -- The document's number of an answer, 0 where the file was read, and the offset that it is told at.
 abbrev pub statusNumber : Status → ℕ
@@ -58,3 +97,10 @@ statusNumber (Refused number offset) = number
 abbrev pub statusOffset : Status → ℕ
 statusOffset Read = 0
 statusOffset (Refused number offset) = offset
+
+-- What the reader gives for a file.
+pub record Reads (file : List ℕ) (r : Reading) : Type 0 where
+  pub answer : r ≡ readModel file
+  pub number : statusNumber (r .status) ≡ readNumber file
+  pub offset : statusOffset (r .status) ≡ readOffset file
+  pub blank : 0 < readNumber file → r .model ≡ blankModel

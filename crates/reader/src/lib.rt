@@ -2,20 +2,18 @@
 // with its offset.
 //
 // No public function has a `requires`.
+mod advance;
 mod order;
-mod parts;
 mod state;
 mod store;
 mod take;
-mod turn;
 
+use advance::Outcome;
+use advance::advance;
 use reachability::model::Model;
+use state::State;
 use state::blank_model;
-use state::start;
-use turn::Outcome;
-use turn::turn_at;
-ghost use mathlib.Core.Path.{_≡_};
-ghost use Rattle.reader.specs.Reading.{readModel, refused};
+ghost use Rattle.reader.specs.Reading.{Reads};
 
 // Whether a file was read, or its number and the offset that it is told at.
 pub enum Status {
@@ -29,27 +27,21 @@ pub struct Reading {
     pub model: Model,
 }
 
-// A refusal.
-fn refuse(number: u8, offset: usize) -> Reading
-    ensures { λ r. ⌜ r ≡ refused number offset ⌝ }
-{
-    let model = blank_model();
-    Reading {
-        status: Status::Refused(number, offset),
-        model,
-    }
-}
-
 // The model of the file, or the first number that applies to it, with its offset.
 pub fn read(file: &[u8]) -> Reading
-    ensures { λ r. ⌜ r ≡ readModel (now (file .entry)) ⌝ }
+    ensures { λ r. ⌜ Reads (now (file .entry)) r ⌝ }
 {
+    let blank = blank_model();
     let mut at: usize = 0;
-    let mut state = start();
+    let mut state = State {
+        last: 0x00,
+        rows: 0,
+        model: blank,
+    };
     loop {
-        let turn = turn_at(file, at, state);
-        let outcome = turn.outcome;
-        let after = turn.state;
+        let advanced = advance(file, at, state);
+        let outcome = advanced.outcome;
+        let after = advanced.state;
         match outcome {
             Outcome::Next(next) => {
                 at = next;
@@ -63,7 +55,10 @@ pub fn read(file: &[u8]) -> Reading
                 };
             }
             Outcome::Stopped(number, offset) => {
-                return refuse(number, offset);
+                return Reading {
+                    status: Status::Refused(number, offset),
+                    model: blank,
+                };
             }
         }
     }

@@ -1,8 +1,21 @@
-// Which kind may follow which: one constant table.
+// The order of records: which kind may follow which, the part of a model that a kind belongs to, and how many records a part may
+// have. Refusals: 3, a kind not allowed here; 9, one record too many.
+use crate::state::State;
+use reachability::sets::Shape;
 ghost use mathlib.Core.Path.{_≡_};
-ghost use mathlib.Core.Bool.{_&&_};
-ghost use lib.Dec.{eqb};
-ghost use Rattle.reader.specs.Order.{mayFollow};
+ghost use Rattle.reader.specs.Order.{mayFollow, partOf, shapeOf};
+ghost use Rattle.reader.specs.Refusals.{countOf, kindNumber};
+
+// A part of a model, as document 01's table of kinds has them.
+pub enum Part {
+    Head,
+    Row,
+    Initial,
+    Input,
+    Direction,
+    Guard,
+    End,
+}
 
 // A place, and a kind that may stand there. The place is the kind of the record read last: 00 at the start, and 01 until all n
 // rows are in.
@@ -41,27 +54,98 @@ const ORDER: [Pair; 30] = [
     Pair(0x40, 0xFF),
 ];
 
-fn is_pair(pair: Pair, place: u8, kind: u8) -> bool
-    ensures { λ b. ⌜ b ≡ eqb (pair .0) place && eqb (pair .1) kind ⌝ }
-{
-    if pair.0 == place {
-        return pair.1 == kind;
-    }
-    false
-}
-
 // The kind may stand at the place, by a search of the table.
-pub(crate) fn may_follow(place: u8, kind: u8) -> bool
+fn may_follow(place: u8, kind: u8) -> bool
     ensures { λ b. ⌜ b ≡ mayFollow place kind ⌝ }
 {
     let table = ORDER;
     let mut i: usize = 0;
     while i < 30 {
         let pair = table[i];
-        if is_pair(pair, place, kind) {
-            return true;
+        if pair.0 == place {
+            if pair.1 == kind {
+                return true;
+            }
         }
         i += 1;
     }
     false
+}
+
+// The part of a known kind.
+pub(crate) fn part_of(kind: u8) -> Part
+    ensures { λ r. ⌜ r ≡ partOf kind ⌝ }
+{
+    if kind <= 0x01 {
+        return Part::Head;
+    }
+    if kind <= 0x02 {
+        return Part::Row;
+    }
+    if kind <= 0x14 {
+        return Part::Initial;
+    }
+    if kind <= 0x24 {
+        return Part::Input;
+    }
+    if kind <= 0x30 {
+        return Part::Direction;
+    }
+    if kind <= 0x40 {
+        return Part::Guard;
+    }
+    Part::End
+}
+
+// The shape of the set that a point of this kind belongs to.
+pub(crate) fn shape_of(kind: u8) -> Shape
+    ensures { λ r. ⌜ r ≡ shapeOf kind ⌝ }
+{
+    let which = kind % 16;
+    if which <= 1 {
+        return Shape::Box;
+    }
+    if which <= 3 {
+        return Shape::Zonotope;
+    }
+    Shape::Vertices
+}
+
+// How many the part has so far.
+fn count_of(part: Part, state: State) -> usize
+    ensures { λ r. ⌜ r ≡ countOf part state ⌝ }
+{
+    let model = state.model;
+    match part {
+        Part::Initial => {
+            let set = model.initial;
+            set.count
+        }
+        Part::Input => {
+            let set = model.input;
+            set.count
+        }
+        Part::Direction => model.directions,
+        Part::Guard => model.guards,
+        Part::Head => 0,
+        Part::Row => 0,
+        Part::End => 0,
+    }
+}
+
+// The number of a kind at a place: 3, 9, or 0 where it may stand there.
+pub(crate) fn kind_number(state: State, kind: u8) -> u8
+    ensures { λ r. ⌜ r ≡ kindNumber state kind ⌝ }
+{
+    let place = state.last;
+    let misplaced: u8 = if may_follow(place, kind) { 0 } else { 3 };
+    let part = part_of(kind);
+    let count = count_of(part, state);
+    let which = kind % 16;
+    let most: usize = if which == 3 { 9 } else { 16 };
+    let many: u8 = if most <= count { 9 } else { 0 };
+    if misplaced != 0 {
+        return misplaced;
+    }
+    many
 }

@@ -1,11 +1,10 @@
 // The numbers of a body, and where they are stored.
-use crate::parts::shape_of;
+use crate::order::shape_of;
 use reachability::model::Model;
 use reachability::sets::Set;
 ghost use mathlib.Core.Path.{_≡_};
-ghost use Prim.Native.Nat.{_+_, _*_, _≤_, _<_};
-ghost use lib.ListN.{length, getD};
-ghost use Rattle.reader.specs.Models.{firstByte, entryAt, sixAt, defaultSteps, putRow, setOf, setSet, withPoint};
+ghost use Prim.Native.Nat.{_≤_, _<_};
+ghost use Rattle.reader.specs.Models.{firstByte, entryAt, sixAt, putRow, setOf, setSet, withPoint};
 
 // The byte that a body starts with.
 pub(crate) fn first_byte(body: &[u8]) -> usize
@@ -15,13 +14,6 @@ pub(crate) fn first_byte(body: &[u8]) -> usize
         return 0;
     }
     body[0] as usize
-}
-
-// The steps that a head says, 60 for 0.
-pub(crate) fn default_steps(steps: usize) -> usize
-    ensures { λ r. ⌜ r ≡ defaultSteps steps ⌝ }
-{
-    if steps == 0 { 60 } else { steps }
 }
 
 // Number i of six at the offset `at` of a body, zero beyond n.
@@ -50,40 +42,19 @@ pub(crate) fn six_at(n: usize, body: &[u8], at: usize) -> [i32; 6]
     [a, b, c, d, e, f]
 }
 
-// Six numbers stored as one row of rows of six.
-fn put_row(xs: &mut [i32], row: usize, six: &[i32; 6])
-    requires { ⌜ 6 * row + 6 ≤ length (now xs) ⌝ }
+// Six numbers stored as one row of rows of six. There is no row beyond the end.
+pub(crate) fn put_row(xs: &mut [i32], row: usize, six: &[i32; 6])
+    requires { ⌜ row < 256 ⌝ }
     ensures { λ _. ⌜ now (xs .exit) ≡ putRow (now (xs .entry)) row (now (six .entry)) ⌝ }
 {
-    let base = 6 * row;
-    xs[base + 0] = six[0];
-    xs[base + 1] = six[1];
-    xs[base + 2] = six[2];
-    xs[base + 3] = six[3];
-    xs[base + 4] = six[4];
-    xs[base + 5] = six[5];
-}
-
-// A matrix with one row stored. There is no row beyond the sixth.
-pub(crate) fn with_matrix_row(matrix: [i32; 36], row: usize, six: &[i32; 6]) -> [i32; 36]
-    ensures { λ r. ⌜ r ≡ putRow matrix row (now (six .entry)) ⌝ }
-{
-    if 5 < row {
-        return matrix;
+    let mut i: usize = 0;
+    while i < 6 {
+        let at = 6 * row + i;
+        if at < xs.len() {
+            xs[at] = six[i];
+        }
+        i += 1;
     }
-    let mut rows = matrix;
-    put_row(&mut rows, row, six);
-    rows
-}
-
-// Sixteen rows with one of them stored.
-pub(crate) fn with_row_of_six(block: [i32; 96], row: usize, six: &[i32; 6]) -> [i32; 96]
-    requires { ⌜ row < 16 ⌝ }
-    ensures { λ r. ⌜ r ≡ putRow block row (now (six .entry)) ⌝ }
-{
-    let mut rows = block;
-    put_row(&mut rows, row, six);
-    rows
 }
 
 // A set with one point more.
@@ -92,9 +63,9 @@ pub(crate) fn with_point(n: usize, set: Set, kind: u8, body: &[u8]) -> Set
     ensures { λ r. ⌜ r ≡ withPoint n set kind (now (body .entry)) ⌝ }
 {
     let count = set.count;
-    let block = set.points;
     let six = six_at(n, body, 0);
-    let points = with_row_of_six(block, count, &six);
+    let mut points = set.points;
+    put_row(&mut points, count, &six);
     let shape = shape_of(kind);
     Set {
         shape,

@@ -1,25 +1,22 @@
 // Taking a whole record: its value test, number 4 to 8, and the state behind it.
-use crate::parts::Part;
-use crate::parts::part_of;
+use crate::order::Part;
+use crate::order::part_of;
 use crate::state::State;
-use crate::store::default_steps;
 use crate::store::first_byte;
+use crate::store::put_row;
 use crate::store::set_of;
 use crate::store::six_at;
-use crate::store::with_matrix_row;
 use crate::store::with_point;
-use crate::store::with_row_of_six;
 use crate::store::with_set;
-use reachability::model::Model;
 use reachability::sets::Set;
 ghost use mathlib.Core.Path.{_≡_};
 ghost use mathlib.Core.Bool.{false};
 ghost use Prim.Native.Nat.{_<_};
 ghost use Rattle.reader.specs.Order.{partOf};
-ghost use Rattle.reader.specs.Models.{rowPlace, withHead, withRow, setOf, withSetPoint, withDirection, withGuard};
-ghost use Rattle.reader.specs.Values.{headValuesOk, headOk, rowOk, pointOk, directionOk, guardOk, unless, pointNumber, valueNumber};
+ghost use Rattle.reader.specs.Models.{withHead, withRow, setOf, withSetPoint, withDirection, withGuard};
+ghost use Rattle.reader.specs.Values.{headOk, rowOk, pointOk, directionOk, guardOk, unless, pointNumber, valueNumber};
 ghost use Rattle.reader.specs.Refusals.{oneTooMany, stored};
-ghost use Rattle.reader.specs.Inner.{Takes, takenAs};
+ghost use Rattle.reader.specs.Inner.{Takes};
 
 // The number of the value test that the record fails, 0 where it passes, and then the state behind the record.
 pub struct Taken {
@@ -27,45 +24,32 @@ pub struct Taken {
     pub state: State,
 }
 
-// What passes its value test, with the state behind it.
-fn passed(last: u8, rows: usize, model: Model) -> Taken
-    ensures { λ r. ⌜ r ≡ takenAs last rows model ⌝ }
-{
-    let state = State { last, rows, model };
-    Taken { number: 0, state }
-}
-
-fn head_ok(n: usize, steps: usize) -> bool
-    ensures { λ b. ⌜ b ≡ headValuesOk n steps ⌝ }
-{
-    if n < 1 {
-        return false;
-    }
-    if 6 < n {
-        return false;
-    }
-    steps <= 256
-}
-
 fn take_head(state: State, body: &[u8]) -> Taken
     ensures { λ r. ⌜ Takes (unless (headOk (now (body .entry))) 4) (withHead state (now (body .entry))) r ⌝ }
 {
     let n = first_byte(body);
     let said = records::u16_at(body, 1) as usize;
-    if !head_ok(n, said) {
+    if n < 1 {
         return Taken { number: 4, state };
     }
+    if 6 < n {
+        return Taken { number: 4, state };
+    }
+    if 256 < said {
+        return Taken { number: 4, state };
+    }
+    let steps: usize = if said == 0 { 60 } else { said };
     let mut model = state.model;
     model.n = n;
-    model.steps = default_steps(said);
-    passed(0x01, 0, model)
-}
-
-// The place in the order after a row, so many being read.
-fn place_of(rows: usize, n: usize) -> u8
-    ensures { λ r. ⌜ r ≡ rowPlace rows n ⌝ }
-{
-    if rows < n { 0x01 } else { 0x02 }
+    model.steps = steps;
+    Taken {
+        number: 0,
+        state: State {
+            last: 0x01,
+            rows: 0,
+            model,
+        },
+    }
 }
 
 fn take_row(state: State, body: &[u8]) -> Taken
@@ -82,10 +66,19 @@ fn take_row(state: State, body: &[u8]) -> Taken
     if !arrays::all_between(-131072, 131072, &six) {
         return Taken { number: 5, state };
     }
-    let matrix = model.matrix;
-    let filled = with_matrix_row(matrix, row, &six);
-    model.matrix = filled;
-    passed(place_of(row + 1, n), row + 1, model)
+    let mut matrix = model.matrix;
+    put_row(&mut matrix, row, &six);
+    model.matrix = matrix;
+    let next = row + 1;
+    let last: u8 = if next < n { 0x01 } else { 0x02 };
+    Taken {
+        number: 0,
+        state: State {
+            last,
+            rows: next,
+            model,
+        },
+    }
 }
 
 // The reach of the set so far is within its limit, and a box's corners, once both are read, are in order.
@@ -118,7 +111,14 @@ fn take_point(state: State, input: bool, kind: u8, body: &[u8]) -> Taken
         return Taken { number: 6, state };
     }
     let next = with_set(input, model, set);
-    passed(kind, state.rows, next)
+    Taken {
+        number: 0,
+        state: State {
+            last: kind,
+            rows: state.rows,
+            model: next,
+        },
+    }
 }
 
 fn take_direction(state: State, kind: u8, body: &[u8]) -> Taken
@@ -134,11 +134,18 @@ fn take_direction(state: State, kind: u8, body: &[u8]) -> Taken
         return Taken { number: 7, state };
     }
     let directions = model.directions;
-    let entries = model.entries;
-    let filled = with_row_of_six(entries, directions, &six);
+    let mut entries = model.entries;
+    put_row(&mut entries, directions, &six);
     model.directions = directions + 1;
-    model.entries = filled;
-    passed(kind, state.rows, model)
+    model.entries = entries;
+    Taken {
+        number: 0,
+        state: State {
+            last: kind,
+            rows: state.rows,
+            model,
+        },
+    }
 }
 
 fn take_guard(state: State, kind: u8, body: &[u8]) -> Taken
@@ -158,7 +165,14 @@ fn take_guard(state: State, kind: u8, body: &[u8]) -> Taken
     model.guards = guards + 1;
     model.watched = watched;
     model.levels = levels;
-    passed(kind, state.rows, model)
+    Taken {
+        number: 0,
+        state: State {
+            last: kind,
+            rows: state.rows,
+            model,
+        },
+    }
 }
 
 // The record's value test and the state behind it. The kind has passed 3 and 9.

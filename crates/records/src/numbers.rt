@@ -25,8 +25,8 @@ fn unsigned_at(bytes: &[u8], at: usize, count: usize) -> u64
     let mut n: u64 = 0;
     let mut j = count;
     while 0 < j {
+        n = n * 256 + byte_at(bytes, at, j - 1);
         j -= 1;
-        n = n * 256 + byte_at(bytes, at, j);
     }
     n
 }

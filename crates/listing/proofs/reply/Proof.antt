@@ -18,7 +18,7 @@ enum-told c = search needs
 put-listing-requires : tie.Need-put-listing-requires
 put-listing-requires c κs =
     let a = c .before .before .before .before .before .before .before .before .args in
-    (reply-accepts (a .file .now) (a .out .now) (c .before .before .before .before .before .if1 .left) (c .before .before .before .before .read .result) (c .before .before .before .before .read .ensures) (c .before .before .enum-told .given .1), c .before .before .before .before .before .if1 .left)
+    (reply-accepts (a .file .now) (a .out .now) (c .before .before .before .before .before .if1 .left) (c .before .before .before .before .read .result) (c .before .before .before .before .read .ensures .answer) (c .before .before .enum-told .given .1), c .before .before .before .before .before .if1 .left)
 
 enum-known-status : tie.Need-enum-known-status
 enum-known-status c = search needs
@@ -41,7 +41,7 @@ same-length c = search needs
 returns-2 : tie.Need-returns-2
 returns-2 c =
     let a = c .before .before .before .before .before .before .before .before .before .before .before .args in
-    reply-told (a .file .now) (a .out .now) (c .before .before .before .before .before .before .before .before .if1 .left) (c .before .before .before .before .before .before .before .read .result) (c .before .before .before .before .before .before .before .read .ensures) _ (c .before .before .before .before .before .enum-told .given .1) _ _ _ (c .before .before .put-listing .ensures)
+    reply-told (a .file .now) (a .out .now) (c .before .before .before .before .before .before .before .before .if1 .left) (c .before .before .before .before .before .before .before .read .result) (c .before .before .before .before .before .before .before .read .ensures .answer) _ (c .before .before .before .before .before .enum-told .given .1) _ _ _ (c .before .before .put-listing .ensures)
 
 same-length-2 : tie.Need-same-length-2
 same-length-2 c = search needs
@@ -49,7 +49,7 @@ same-length-2 c = search needs
 returns-3 : tie.Need-returns-3
 returns-3 c =
     let a = c .before .before .before .before .before .before .before .before .before .before .before .before .before .args in
-    reply-told (a .file .now) (a .out .now) (c .before .before .before .before .before .before .before .before .before .before .if1 .left) (c .before .before .before .before .before .before .before .before .before .read .result) (c .before .before .before .before .before .before .before .before .before .read .ensures) _ (c .before .before .before .before .before .before .before .status .given .1) _ _ _ (c .before .before .put-line .ensures)
+    reply-told (a .file .now) (a .out .now) (c .before .before .before .before .before .before .before .before .before .before .if1 .left) (c .before .before .before .before .before .before .before .before .before .read .result) (c .before .before .before .before .before .before .before .before .before .read .ensures .answer) _ (c .before .before .before .before .before .before .before .status .given .1) _ _ _ (c .before .before .put-line .ensures)
 
 pub reply-spec : {M : Type 1} → statement M
 reply-spec =

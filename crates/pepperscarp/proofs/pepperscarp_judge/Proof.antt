@@ -12,7 +12,7 @@ enum-known-status : tie.Need-enum-known-status
 enum-known-status c = search needs
 
 refused-requires : tie.Need-refused-requires
-refused-requires c κs = refused-small _ (c .before .before .before .read .ensures) (c .before .status .given .1)
+refused-requires c κs = refused-small _ (c .before .before .before .read .ensures .answer) (c .before .status .given .1)
 
 enum-told : tie.Need-enum-told
 enum-told c = search needs
@@ -23,10 +23,10 @@ judge-requires c κs = search needs
 judged-requires : tie.Need-judged-requires
 judged-requires c κs =
     let told = c .before .before .before .before .before .before in
-    read-small judge-answers _ (told .before .before .read .ensures) (told .enum-told .given .1) (c .before .before .judge .ensures)
+    read-small judge-answers _ (told .before .before .read .ensures .answer) (told .enum-told .given .1) (c .before .before .judge .ensures)
 
 returns : tie.Need-returns
-returns c = reply-refused _ (c .before .before .before .before .read .ensures) (c .before .before .status .given .1) (c .refused .ensures)
+returns c = reply-refused _ (c .before .before .before .before .read .ensures .answer) (c .before .before .status .given .1) (c .refused .ensures)
 
 same-length : tie.Need-same-length
 same-length c = search needs
@@ -37,7 +37,7 @@ same-length-2 c = search needs
 returns-2 : tie.Need-returns-2
 returns-2 c =
     let told = c .before .before .before .before .before .before .before in
-    reply-read judge-answers _ (told .before .before .read .ensures) (told .enum-told .given .1) (c .before .before .before .judge .ensures) (c .judged .ensures)
+    reply-read judge-answers _ (told .before .before .read .ensures .answer) (told .enum-told .given .1) (c .before .before .before .judge .ensures) (c .judged .ensures)
 
 pub pepperscarp-judge-spec : {M : Type 1} → statement M
 pepperscarp-judge-spec =

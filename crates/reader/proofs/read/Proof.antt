@@ -1,56 +1,70 @@
 -- `reader::read` meets its contract. The loop's invariant: reading on from the offset gives the reading of the file. The measure is
 -- the number of bytes left. Assumes nothing.
-use Rattle.integers.proofs.Basics.{_≡_, _≤_, _-_, length, ap, _∙_, arith, needs}
-use Rattle.reader.specs.declared.state.State.{State}
+use Rattle.integers.proofs.Basics.{_≡_, _≤_, _-_, length, sym, ap, _∙_, arith, needs}
+use Rattle.reachability.specs.declared.model.Model.{Model}
+use Rattle.reader.specs.declared.Status.the-variants.{Refused}
+use Rattle.reader.specs.declared.Reading.{Reading}
+use Rattle.reader.specs.declared.advance.Outcome.{Outcome}
+use Rattle.reader.specs.Models.{start, stateOf}
 use Rattle.reader.specs.Reading.{readFrom, readModel}
-use Rattle.reader.proofs.Turns.{turns-on, turns-end, turns-stop}
+use Rattle.reader.specs.Inner.{followed}
+use Rattle.reader.proofs.ReadModels.{reads-of}
 use Rattle.reader.proofs.read.Statement.{statement}
 use Rattle.reader.proofs.read.Tie as tie
 
 abbrev Inv-loop : tie.InvT-loop
-Inv-loop file at₀ state₀ at state = (at ≤ length file) × (readFrom file at state ≡ readModel file)
+Inv-loop file blank at₀ state₀ at state = (at ≤ length file) × (readFrom file at state ≡ readModel file)
 
 abbrev μ-loop : tie.MeasureT-loop
-μ-loop file at₀ state₀ at state = length file - at
+μ-loop file blank at₀ state₀ at state = length file - at
 
-start-requires : tie.Need-start-requires Inv-loop μ-loop
-start-requires c κs = search needs
+blank-model-requires : tie.Need-blank-model-requires Inv-loop μ-loop
+blank-model-requires c κs = search needs
 
 loop-holds : tie.Need-loop-holds Inv-loop μ-loop
-unfolding readModel
-loop-holds c = (omega arith, ap (λ (s : State). readFrom (c .before .before .args .file .now) 0 s) (c .start .ensures))
+unfolding readModel start
+loop-holds c =
+    (omega arith, ap (λ (m : Model). readFrom (c .before .before .args .file .now) 0 (stateOf 0x00 0 m)) (c .blank-model .ensures))
 
-turn-at-requires : tie.Need-turn-at-requires Inv-loop μ-loop
-turn-at-requires c κs = search needs
+advance-requires : tie.Need-advance-requires Inv-loop μ-loop
+advance-requires c κs = search needs
 
 enum-known-outcome : tie.Need-enum-known-outcome Inv-loop μ-loop
 enum-known-outcome c = search needs
 
+-- the record's outcome, put in the reading of the file
+module _ (c : tie.After-after Inv-loop μ-loop) where
+  outcome-reads : {o : Outcome} → c .before .advance .result .outcome ≡ o → followed (c .before .before .before .before .before .args .file .now) o (c .before .advance .result .state) ≡ readModel (c .before .before .before .before .before .args .file .now)
+  outcome-reads e =
+      ap (λ (x : Outcome). followed (c .before .before .before .before .before .args .file .now) x (c .before .advance .result .state)) (sym e)
+      ∙ c .before .advance .ensures .reads
+      ∙ c .before .before .loop .inv .1
+
 loop-less : tie.Need-loop-less Inv-loop μ-loop
 loop-less c =
-    let f = c .before .before .before .before .turn-at .ensures .forward _ (c .before .outcome .given .1) in
+    let f = c .before .before .before .before .advance .ensures .forward _ (c .before .outcome .given .1) in
     omega (arith, f .0, f .1)
 
 loop-again : tie.Need-loop-again Inv-loop μ-loop
 loop-again c =
-    let t = c .before .before .before .before .turn-at .ensures in
     let goes = c .before .outcome .given .1 in
-    (t .forward _ goes .1, turns-on t goes ∙ c .before .before .before .before .before .loop .inv .1)
+    (c .before .before .before .before .advance .ensures .forward _ goes .1, outcome-reads (c .before .before .before) goes)
 
 enum-told : tie.Need-enum-told Inv-loop μ-loop
 enum-told c = search needs
 
 returns : tie.Need-returns Inv-loop μ-loop
-returns c = turns-end (c .before .before .before .before .turn-at .ensures) (c .before .enum-told .given .1) ∙ c .before .before .before .before .before .loop .inv .1
+returns c = reads-of _ (outcome-reads (c .before .before .before) (c .before .enum-told .given .1))
 
 enum-known-outcome-2 : tie.Need-enum-known-outcome-2 Inv-loop μ-loop
 enum-known-outcome-2 c = search needs
 
-refuse-requires : tie.Need-refuse-requires Inv-loop μ-loop
-refuse-requires c κs = search needs
-
 returns-2 : tie.Need-returns-2 Inv-loop μ-loop
-returns-2 c = c .refuse .ensures ∙ turns-stop (c .before .before .before .before .before .turn-at .ensures) (c .before .before .outcome2 .given .1) ∙ c .before .before .before .before .before .before .loop .inv .1
+returns-2 c =
+    let g = c .before .outcome2 .given in
+    reads-of _
+    (ap (λ (m : Model). record { status = Refused (g .0 .0) (g .0 .1 .0); model = m }) (c .before .before .before .before .before .before .blank-model .ensures)
+    ∙ outcome-reads (c .before .before .before) (g .1))
 
 pub read-spec : {M : Type 1} → statement M
 read-spec =
@@ -58,14 +72,13 @@ read-spec =
     (tie.spec
     Inv-loop
     μ-loop
-    start-requires
+    blank-model-requires
     loop-holds
-    turn-at-requires
+    advance-requires
     enum-known-outcome
     loop-less
     loop-again
     enum-told
     returns
     enum-known-outcome-2
-    refuse-requires
     returns-2)

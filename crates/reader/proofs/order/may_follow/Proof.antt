@@ -1,8 +1,12 @@
 -- `reader::order::may_follow` meets its contract. The loop's invariant: a search of the pairs that are left gives the answer. At
 -- the start the table is the list of `order`, which antt computes. The measure is the number of pairs left. Assumes nothing.
-use Rattle.integers.proofs.Basics.{_-_, refl, sym, _∙_, arith, needs}
+use Rattle.integers.proofs.Basics.{_-_, refl, ap₂, _∙_, arith}
+use mathlib.Core.Bool.{_&&_}
+use mathlib.Core.Logic.{⊎-elim}
+use borrow.Author.Tests.{eq-eqb, ne-eqb}
+use Rattle.integers.proofs.Booleans.{and-skip, and-stop}
 use Rattle.reader.specs.Order.{mayFollow}
-use Rattle.reader.proofs.OrderTable.{found, Sought, sought-found, sought-next, sought-none}
+use Rattle.reader.proofs.order.Search.{found, Sought, sought-found, sought-next, sought-none}
 use Rattle.reader.proofs.order.may_follow.Statement.{statement}
 use Rattle.reader.proofs.order.may_follow.Tie as tie
 
@@ -22,13 +26,10 @@ mul-pair c = omega arith
 array-copy-out-pair : tie.Need-array-copy-out-pair Inv-loop μ-loop
 array-copy-out-pair c = omega arith
 
-is-pair-requires : tie.Need-is-pair-requires Inv-loop μ-loop
-is-pair-requires c κs = search needs
-
 returns : tie.Need-returns Inv-loop μ-loop
 returns c =
-    let at-loop = c .before .before .before .before in
-    sought-found (at-loop .loop .inv) _ (c .before .before .before .loop-test .taken) (sym (c .before .is-pair .ensures) ∙ c .if1 .taken)
+    let at-if = c .before .before in
+    sought-found (at-if .before .before .before .before .loop .inv) _ (at-if .before .before .before .loop-test .taken) (ap₂ _&&_ (eq-eqb _ _ (at-if .if1 .taken)) (eq-eqb _ _ (c .if2 .taken)))
 
 add-i : tie.Need-add-i Inv-loop μ-loop
 add-i c = omega arith
@@ -38,8 +39,8 @@ loop-less c = omega arith
 
 loop-again : tie.Need-loop-again Inv-loop μ-loop
 loop-again c =
-    let at-loop = c .before .before .before .before in
-    sought-next (at-loop .loop .inv) _ (c .before .before .before .loop-test .taken) (sym (c .before .is-pair .ensures) ∙ c .if1 .left)
+    sought-next (c .before .before .before .before .loop .inv) _ (c .before .before .before .loop-test .taken)
+    (⊎-elim (λ w. and-skip _ (eq-eqb _ _ (w .0 .taken)) ∙ ne-eqb _ _ (w .2 .left)) (λ w. and-stop _ (ne-eqb _ _ (w .left))) (c .if1 .came))
 
 returns-2 : tie.Need-returns-2 Inv-loop μ-loop
 returns-2 c = sought-none (c .before .loop .inv) (c .loop-test .left)
@@ -53,7 +54,6 @@ may-follow-spec =
     loop-holds
     mul-pair
     array-copy-out-pair
-    is-pair-requires
     returns
     add-i
     loop-less

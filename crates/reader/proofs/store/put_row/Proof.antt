@@ -1,130 +1,72 @@
--- `reader::store::put_row` meets its contract: six stores. Assumes nothing.
-use Rattle.integers.proofs.Basics.{arith, needs, getD, pos, w32}
-use lib.ListN.{length-set}
+-- `reader::store::put_row` meets its contract. The loop's invariant: the first i numbers are stored. The measure is the number that
+-- are left. Assumes nothing.
+use Rattle.integers.proofs.Basics.{_-_, refl, arith, needs, w32}
+use mathlib.Core.Logic.{⊎-elim}
 use Rattle.integers.proofs.Machine.{read-given}
-use Rattle.reader.specs.Models.{putRow}
+use Rattle.reader.proofs.store.PutRow.{RowSoFar, row-more, row-beyond, row-length, row-done}
 use Rattle.reader.proofs.store.put_row.Statement.{statement}
 use Rattle.reader.proofs.store.put_row.Tie as tie
 
-mul-base : tie.Need-mul-base
-mul-base c = search needs
+abbrev Inv-loop : tie.InvT-loop
+Inv-loop xs₀ row six i₀ xs i = RowSoFar xs₀ row six i xs
 
-element-copy-out-xs : tie.Need-element-copy-out-xs
-element-copy-out-xs c = search needs
+abbrev μ-loop : tie.MeasureT-loop
+μ-loop xs₀ row six i₀ xs i = 6 - i
 
-add-xs : tie.Need-add-xs
-add-xs c = search needs
+loop-holds : tie.Need-loop-holds Inv-loop μ-loop
+loop-holds c = record { within = omega arith; stored = refl }
 
-mul-xs : tie.Need-mul-xs
+mul-at : tie.Need-mul-at Inv-loop μ-loop
+mul-at c = search needs
+
+add-at : tie.Need-add-at Inv-loop μ-loop
+add-at c = search needs
+
+mul-xs : tie.Need-mul-xs Inv-loop μ-loop
 mul-xs c = search needs
 
-slice-set-from-xs : tie.Need-slice-set-from-xs
+element-copy-out-xs : tie.Need-element-copy-out-xs Inv-loop μ-loop
+element-copy-out-xs c = search needs
+
+mul-t12 : tie.Need-mul-t12 Inv-loop μ-loop
+mul-t12 c = search needs
+
+slice-set-from-xs : tie.Need-slice-set-from-xs Inv-loop μ-loop
 slice-set-from-xs c = search needs
 
-element-copy-out-xs-2 : tie.Need-element-copy-out-xs-2
-element-copy-out-xs-2 c = search needs
+add-i : tie.Need-add-i Inv-loop μ-loop
+add-i c = search needs
 
-add-xs-2 : tie.Need-add-xs-2
-add-xs-2 c = search needs
+loop-less : tie.Need-loop-less Inv-loop μ-loop
+loop-less c = search needs
 
-mul-xs-2 : tie.Need-mul-xs-2
-mul-xs-2 c = search needs
+loop-again : tie.Need-loop-again Inv-loop μ-loop
+loop-again c =
+    let inv = c .before .before .loop .inv in
+    let more = c .before .loop-test .taken in
+    ⊎-elim (λ w. row-more inv more (read-given w32 _ (w .1 .given)) (w .2)) (λ w. row-beyond inv more (w .0 .left) (w .1)) (c .if1 .came)
 
-slice-set-from-xs-2 : tie.Need-slice-set-from-xs-2
-slice-set-from-xs-2 c = simp length-set (omega arith)
+same-length : tie.Need-same-length Inv-loop μ-loop
+same-length c = row-length (c .before .loop .inv)
 
-element-copy-out-xs-3 : tie.Need-element-copy-out-xs-3
-element-copy-out-xs-3 c = search needs
-
-add-xs-3 : tie.Need-add-xs-3
-add-xs-3 c = search needs
-
-mul-xs-3 : tie.Need-mul-xs-3
-mul-xs-3 c = search needs
-
-slice-set-from-xs-3 : tie.Need-slice-set-from-xs-3
-slice-set-from-xs-3 c = simp length-set (omega arith)
-
-element-copy-out-xs-4 : tie.Need-element-copy-out-xs-4
-element-copy-out-xs-4 c = search needs
-
-add-xs-4 : tie.Need-add-xs-4
-add-xs-4 c = search needs
-
-mul-xs-4 : tie.Need-mul-xs-4
-mul-xs-4 c = search needs
-
-slice-set-from-xs-4 : tie.Need-slice-set-from-xs-4
-slice-set-from-xs-4 c = simp length-set (omega arith)
-
-element-copy-out-xs-5 : tie.Need-element-copy-out-xs-5
-element-copy-out-xs-5 c = search needs
-
-add-xs-5 : tie.Need-add-xs-5
-add-xs-5 c = search needs
-
-mul-xs-5 : tie.Need-mul-xs-5
-mul-xs-5 c = search needs
-
-slice-set-from-xs-5 : tie.Need-slice-set-from-xs-5
-slice-set-from-xs-5 c = simp length-set (omega arith)
-
-element-copy-out-xs-6 : tie.Need-element-copy-out-xs-6
-element-copy-out-xs-6 c = search needs
-
-add-t9 : tie.Need-add-t9
-add-t9 c = search needs
-
-mul-t8 : tie.Need-mul-t8
-mul-t8 c = search needs
-
-slice-set-from-xs-6 : tie.Need-slice-set-from-xs-6
-slice-set-from-xs-6 c = simp length-set (omega arith)
-
-same-length : tie.Need-same-length
-same-length c = simp length-set
-
-returns : tie.Need-returns
-unfolding putRow
-returns c =
-    let six = c .before .before .before .before .before .before .args .six .now in
-    simp (
-      read-given w32 (getD six 0 (pos 0)) (c .before .before .before .before .before .xs .given),
-      read-given w32 (getD six 1 (pos 0)) (c .before .before .before .before .xs2 .given),
-      read-given w32 (getD six 2 (pos 0)) (c .before .before .before .xs3 .given),
-      read-given w32 (getD six 3 (pos 0)) (c .before .before .xs4 .given),
-      read-given w32 (getD six 4 (pos 0)) (c .before .xs5 .given),
-      read-given w32 (getD six 5 (pos 0)) (c .xs6 .given),
-    )
+returns : tie.Need-returns Inv-loop μ-loop
+returns c = row-done (c .before .loop .inv) (c .loop-test .left)
 
 pub put-row-spec : {M : Type 1} → statement M
 put-row-spec =
     tie.close
     (tie.spec
-    mul-base
-    element-copy-out-xs
-    add-xs
+    Inv-loop
+    μ-loop
+    loop-holds
+    mul-at
+    add-at
     mul-xs
+    element-copy-out-xs
+    mul-t12
     slice-set-from-xs
-    element-copy-out-xs-2
-    add-xs-2
-    mul-xs-2
-    slice-set-from-xs-2
-    element-copy-out-xs-3
-    add-xs-3
-    mul-xs-3
-    slice-set-from-xs-3
-    element-copy-out-xs-4
-    add-xs-4
-    mul-xs-4
-    slice-set-from-xs-4
-    element-copy-out-xs-5
-    add-xs-5
-    mul-xs-5
-    slice-set-from-xs-5
-    element-copy-out-xs-6
-    add-t9
-    mul-t8
-    slice-set-from-xs-6
+    add-i
+    loop-less
+    loop-again
     same-length
     returns)

@@ -13,23 +13,33 @@ point shape count points = record { shape = shape; count = count; points = point
 six-at-requires : tie.Need-six-at-requires
 six-at-requires c κs = search needs
 
-with-row-of-six-requires : tie.Need-with-row-of-six-requires
-with-row-of-six-requires c κs = search needs
+slice-aggregate-put-row : tie.Need-slice-aggregate-put-row
+slice-aggregate-put-row c = search needs
+
+put-row-requires : tie.Need-put-row-requires
+put-row-requires c κs = search needs
 
 shape-of-requires : tie.Need-shape-of-requires
 shape-of-requires c κs = search needs
 
-add-t12 : tie.Need-add-t12
-add-t12 c = search needs
+add-t14 : tie.Need-add-t14
+add-t14 c = search needs
 
 returns : tie.Need-returns
 unfolding withPoint point
 returns c =
-    let at-six = c .before .before .before in
-    let s = at-six .before .before .before .args .set in
+    let at-six = c .before .before .before .before .before .before in
+    let s = at-six .before .before .args .set in
     ap₂ (λ (sh : Shape) (ps : List ℤ). point sh (s .count + 1) ps) (c .shape-of .ensures)
-    (c .before .with-row-of-six .ensures ∙ ap (λ (six : List ℤ). putRow (s .points) (s .count) six) (at-six .six-at .ensures))
+    (c .before .before .put-row .ensures ∙ ap (λ (six : List ℤ). putRow (s .points) (s .count) six) (at-six .six-at .ensures))
 
 pub with-point-spec : {M : Type 1} → statement M
 with-point-spec =
-    tie.close (tie.spec six-at-requires with-row-of-six-requires shape-of-requires add-t12 returns)
+    tie.close
+    (tie.spec
+    six-at-requires
+    slice-aggregate-put-row
+    put-row-requires
+    shape-of-requires
+    add-t14
+    returns)

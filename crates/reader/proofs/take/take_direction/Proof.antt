@@ -6,11 +6,10 @@ use mathlib.Core.List.{List}
 use Rattle.integers.specs.Sums.{allBelow}
 use Rattle.arrays.specs.Tests.{zeroOutside}
 use Rattle.integers.proofs.Booleans.{and-skip, and-stop}
-use Rattle.reachability.specs.Limits.{allZero}
-use Rattle.reader.specs.Models.{setDirections, sixAt, putRow, withDirection}
+use Rattle.reachability.specs.Limits.{allZero, directionLimit}
+use Rattle.reader.specs.Models.{setDirections, sixAt, putRow, stateOf, withDirection}
 use Rattle.reader.specs.Values.{within, directionOk}
-use Rattle.reader.specs.Inner.{takenAs}
-use Rattle.reader.proofs.Taking.{takes-refused, takes-passed}
+use Rattle.reader.proofs.take.Taking.{takenAs, takes-refused, takes-passed}
 use Rattle.reader.proofs.take.take_direction.Statement.{statement}
 use Rattle.reader.proofs.take.take_direction.Tie as tie
 
@@ -32,7 +31,7 @@ returns : tie.Need-returns
 unfolding directionOk
 returns c =
     takes-refused 7
-    (and-stop _ (ap (within 1000) (sym (c .before .before .before .six-at .ensures)) ∙ sym (c .before .all-between .ensures) ∙ not-true _ (c .if1 .taken)))
+    (and-stop _ (ap (within directionLimit) (sym (c .before .before .before .six-at .ensures)) ∙ sym (c .before .all-between .ensures) ∙ not-true _ (c .if1 .taken)))
     (omega arith)
 
 slice-aggregate-zero-outside : tie.Need-slice-aggregate-zero-outside
@@ -45,32 +44,33 @@ returns-2 : tie.Need-returns-2
 unfolding directionOk
 returns-2 c =
     let at-if = c .before .before .before in
-    let small = ap (within 1000) (sym (at-if .before .before .before .six-at .ensures)) ∙ sym (at-if .before .all-between .ensures) ∙ not-false _ (at-if .if1 .left) in
+    let small = ap (within directionLimit) (sym (at-if .before .before .before .six-at .ensures)) ∙ sym (at-if .before .all-between .ensures) ∙ not-false _ (at-if .if1 .left) in
     takes-refused 7
     (and-skip _ small ∙ ap not (sym (zeros-is _ _) ∙ ap (zeroOutside 0 0) (sym (at-if .before .before .before .six-at .ensures)) ∙ sym (c .before .zero-outside .ensures) ∙ c .if2 .taken))
     (omega arith)
 
-with-row-of-six-requires : tie.Need-with-row-of-six-requires
-with-row-of-six-requires c κs = search needs
+slice-aggregate-put-row : tie.Need-slice-aggregate-put-row
+slice-aggregate-put-row c = search needs
+
+put-row-requires : tie.Need-put-row-requires
+put-row-requires c κs = search needs
 
 add-model : tie.Need-add-model
 add-model c = search needs
 
-passed-requires : tie.Need-passed-requires
-passed-requires c κs = search needs
-
 returns-3 : tie.Need-returns-3
 unfolding directionOk withDirection
 returns-3 c =
-    let a = c .before .before .before .before .before .before .before .before .before .before .before .before .before .args in
+    let at-zero = c .before .before .before .before .before .before in
+    let at-six = at-zero .before .before .before .before .before in
+    let a = at-six .before .before .before .args in
     let m = a .state .model in
-    let six = c .before .before .before .before .before .before .before .before .before .before .six-at .ensures in
-    let small = ap (within 1000) (sym six) ∙ sym (c .before .before .before .before .before .before .before .before .all-between .ensures) ∙ not-false _ (c .before .before .before .before .before .before .before .if1 .left) in
-    let some = sym (zeros-is _ _) ∙ ap (zeroOutside 0 0) (sym six) ∙ sym (c .before .before .before .before .before .zero-outside .ensures) ∙ c .before .before .before .before .if2 .left in
+    let six = at-six .six-at .ensures in
+    let small = ap (within directionLimit) (sym six) ∙ sym (at-zero .before .before .before .all-between .ensures) ∙ not-false _ (at-zero .before .before .if1 .left) in
+    let some = sym (zeros-is _ _) ∙ ap (zeroOutside 0 0) (sym six) ∙ sym (at-zero .zero-outside .ensures) ∙ c .before .before .before .before .before .if2 .left in
     takes-passed 7 (and-skip _ small ∙ ap not some)
-    (c .passed .ensures
-    ∙ ap (λ (xs : List ℤ). takenAs (a .kind) (a .state .rows) (setDirections m (m .directions + 1) xs))
-    (c .before .with-row-of-six .ensures ∙ ap (λ (l : List ℤ). putRow (m .entries) (m .directions) l) six))
+    (ap (λ (xs : List ℤ). takenAs (stateOf (a .kind) (a .state .rows) (setDirections m (m .directions + 1) xs)))
+    (c .before .put-row .ensures ∙ ap (putRow (m .entries) (m .directions)) six))
 
 pub take-direction-spec : {M : Type 1} → statement M
 take-direction-spec =
@@ -83,7 +83,7 @@ take-direction-spec =
     slice-aggregate-zero-outside
     zero-outside-requires
     returns-2
-    with-row-of-six-requires
+    slice-aggregate-put-row
+    put-row-requires
     add-model
-    passed-requires
     returns-3)

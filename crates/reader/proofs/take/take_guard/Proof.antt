@@ -2,9 +2,8 @@
 use Rattle.integers.proofs.Basics.{sym, ap, ap₂, _∙_, ℕ, _+_, arith, needs, set, ℤ, toZ-ofZ}
 use borrow.Author.Tests.{lt-ltb, le-ltb}
 use lib.Dec.{ltb}
-use Rattle.reader.specs.Models.{setGuards, withGuard}
-use Rattle.reader.specs.Inner.{takenAs}
-use Rattle.reader.proofs.Taking.{takes-refused, takes-passed}
+use Rattle.reader.specs.Models.{setGuards, stateOf, withGuard}
+use Rattle.reader.proofs.take.Taking.{takenAs, takes-refused, takes-passed}
 use Rattle.reader.proofs.take.take_guard.Statement.{statement}
 use Rattle.reader.proofs.take.take_guard.Tie as tie
 
@@ -34,19 +33,16 @@ array-set-from-levels c = search needs
 add-model : tie.Need-add-model
 add-model c = search needs
 
-passed-requires : tie.Need-passed-requires
-passed-requires c κs = search needs
-
 returns-2 : tie.Need-returns-2
 unfolding withGuard
 returns-2 c =
-    let a = c .before .before .before .before .before .before .before .before .before .args in
+    let at-if = c .before .before .before in
+    let a = at-if .before .before .before .before .before .args in
     let m = a .state .model in
-    let first = c .before .before .before .before .before .before .first-byte .ensures in
-    let level = toZ-ofZ (record { sfits = c .before .i64-at .ok }) ∙ c .before .i64-at .ensures in
-    takes-passed 8 (ap (λ (d : ℕ). ltb d (m .directions)) (sym first) ∙ lt-ltb _ _ (c .before .before .before .before .if1 .left))
-    (c .passed .ensures
-    ∙ ap₂ (λ (d : ℕ) (l : ℤ). takenAs (a .kind) (a .state .rows) (setGuards m (m .guards + 1) (set (m .watched) (m .guards) d) (set (m .levels) (m .guards) l))) first level)
+    let first = at-if .before .before .first-byte .ensures in
+    let level = toZ-ofZ (record { sfits = c .i64-at .ok }) ∙ c .i64-at .ensures in
+    takes-passed 8 (ap (λ (d : ℕ). ltb d (m .directions)) (sym first) ∙ lt-ltb _ _ (at-if .if1 .left))
+    (ap₂ (λ (d : ℕ) (l : ℤ). takenAs (stateOf (a .kind) (a .state .rows) (setGuards m (m .guards + 1) (set (m .watched) (m .guards) d) (set (m .levels) (m .guards) l)))) first level)
 
 pub take-guard-spec : {M : Type 1} → statement M
 take-guard-spec =
@@ -60,5 +56,4 @@ take-guard-spec =
     mul-levels
     array-set-from-levels
     add-model
-    passed-requires
     returns-2)

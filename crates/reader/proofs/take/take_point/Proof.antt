@@ -2,12 +2,12 @@
 use Rattle.integers.proofs.Basics.{_≡_, sym, ap, _∙_, ℕ, arith, needs}
 use borrow.Author.Tests.{not-true, not-false}
 use mathlib.Core.Bool.{Bool}
+use Rattle.reachability.specs.declared.model.Model.{Model}
 use Rattle.reachability.specs.declared.sets.Set.{Set}
 use Rattle.reader.specs.declared.state.State.{State}
-use Rattle.reader.specs.Models.{setOf, setSet, withPoint, withSetPoint}
+use Rattle.reader.specs.Models.{setOf, setSet, stateOf, withPoint, withSetPoint}
 use Rattle.reader.specs.Values.{pointOk}
-use Rattle.reader.specs.Inner.{takenAs}
-use Rattle.reader.proofs.Taking.{takes-refused, takes-passed}
+use Rattle.reader.proofs.take.Taking.{takenAs, takes-refused, takes-passed}
 use Rattle.reader.proofs.take.take_point.Statement.{statement}
 use Rattle.reader.proofs.take.take_point.Tie as tie
 
@@ -46,15 +46,12 @@ returns c = takes-refused 6 (test (c .before) ∙ not-true _ (c .if1 .taken)) (o
 with-set-requires : tie.Need-with-set-requires
 with-set-requires c κs = search needs
 
-passed-requires : tie.Need-passed-requires
-passed-requires c κs = search needs
-
 returns-2 : tie.Need-returns-2
 unfolding withSetPoint
 returns-2 c =
-    let z = c .before .before .before in
-    takes-passed 6 (test z ∙ not-false _ (c .before .before .if1 .left))
-    (c .passed .ensures ∙ ap (takenAs (kind z) (s z .rows)) (c .before .with-set .ensures ∙ ap (setSet (which z) (s z .model)) (more z)))
+    let z = c .before .before in
+    takes-passed 6 (test z ∙ not-false _ (c .before .if1 .left))
+    (ap (λ (m : Model). takenAs (stateOf (kind z) (s z .rows) m)) (c .with-set .ensures ∙ ap (setSet (which z) (s z .model)) (more z)))
 
 pub take-point-spec : {M : Type 1} → statement M
 take-point-spec =
@@ -65,5 +62,4 @@ take-point-spec =
     point-ok-requires
     returns
     with-set-requires
-    passed-requires
     returns-2)

@@ -1,12 +1,14 @@
 -- `reader::take::take_row` meets its contract: the row number first, then the entries. Assumes nothing.
-use Rattle.integers.proofs.Basics.{ℕ, _+_, ℤ, ap₂, sym, ap, _∙_, arith, needs}
-use borrow.Author.Tests.{not-true, not-false, eq-eqb, ne-eqb}
+use Rattle.integers.proofs.Basics.{_≡_, refl, sym, ap, ap₂, _∙_, true, false, ℕ, _+_, _<_, ℤ, arith, needs}
+use borrow.Author.Tests.{not-true, not-false, eq-eqb, ne-eqb, lt-ltb, le-ltb}
 use mathlib.Core.List.{List}
 use Rattle.integers.proofs.Booleans.{and-skip, and-stop}
-use Rattle.reader.specs.Models.{firstByte, setMatrix, sixAt, rowPlace, putRow, withRow}
-use Rattle.reader.specs.Values.{within, rowOk}
-use Rattle.reader.specs.Inner.{takenAs}
-use Rattle.reader.proofs.Taking.{takes-refused, takes-passed}
+use Rattle.stepping.specs.Limits.{entryLimit}
+use Rattle.reader.specs.declared.state.State.{State}
+use Rattle.reader.specs.Models.{firstByte, setMatrix, sixAt, rowPlace, putRow, stateOf, withRow}
+use Rattle.reader.specs.Values.{within, rowOk, unless}
+use Rattle.reader.specs.Inner.{Takes}
+use Rattle.reader.proofs.take.Taking.{takenAs, takes-refused, takes-passed}
 use Rattle.reader.proofs.take.take_row.Statement.{statement}
 use Rattle.reader.proofs.take.take_row.Tie as tie
 
@@ -34,38 +36,49 @@ returns-2 c =
     let at-if = c .before .before .before .before .before in
     let next = eq-eqb _ _ (sym (at-if .before .first-byte .ensures) ∙ at-if .if1 .left) in
     takes-refused 5
-    (and-skip _ next ∙ ap (within 131072) (sym (c .before .before .before .six-at .ensures)) ∙ sym (c .before .all-between .ensures) ∙ not-true _ (c .if2 .taken))
+    (and-skip _ next ∙ ap (within entryLimit) (sym (c .before .before .before .six-at .ensures)) ∙ sym (c .before .all-between .ensures) ∙ not-true _ (c .if2 .taken))
     (omega arith)
 
-with-matrix-row-requires : tie.Need-with-matrix-row-requires
-with-matrix-row-requires c κs = search needs
+slice-aggregate-put-row : tie.Need-slice-aggregate-put-row
+slice-aggregate-put-row c = search needs
 
-add-place-of : tie.Need-add-place-of
-add-place-of c = omega (arith, c .before .before .before .before .before .before .before .before .before .first-byte .ensures, c .before .before .before .before .before .before .before .before .before .before .shared-slice-known .given 0)
+-- the row number is a byte
+row-lt : (c : tie.After-first-byte) → c .first-byte .result < 256
+row-lt c = omega (arith, c .first-byte .ensures, c .before .shared-slice-known .given 0)
 
-place-of-requires : tie.Need-place-of-requires
-place-of-requires c κs = search needs
+put-row-requires : tie.Need-put-row-requires
+put-row-requires c κs = row-lt (c .before .before .before .before .before .before .before .before .before)
 
-add-passed : tie.Need-add-passed
-add-passed c = omega (arith, c .before .before .before .before .before .before .before .before .before .before .first-byte .ensures, c .before .before .before .before .before .before .before .before .before .before .before .shared-slice-known .given 0)
+add-next : tie.Need-add-next
+add-next c = omega (arith, row-lt (c .before .before .before .before .before .before .before .before .before .before .before))
 
-passed-requires : tie.Need-passed-requires
-passed-requires c κs = search needs
+-- once the row is stored, whatever the place in the order
+module _ (c : tie.After-matrix3) where
+  abbrev at-first : tie.After-first-byte
+  at-first = c .before .before .before .before .before .before .before .before .before .before .before
+
+  abbrev s : State
+  s = at-first .before .before .args .state
+
+  abbrev row : ℕ
+  row = at-first .first-byte .result
+
+  takes : {last : ℕ} → last ≡ rowPlace (row + 1) (s .model .n) → Takes (unless (rowOk s (at-first .before .before .args .body .now)) 5) (withRow s (at-first .before .before .args .body .now)) (takenAs (stateOf last (row + 1) (setMatrix (s .model) (c .before .put-row .last .0))))
+  unfolding rowOk withRow
+  takes e =
+      let at-if = c .before .before .before .before .before .before .before .before .before .before in
+      let six = c .before .before .before .before .before .before .before .before .six-at .ensures in
+      let small = ap (within entryLimit) (sym six) ∙ sym (c .before .before .before .before .before .before .all-between .ensures) ∙ not-false _ (c .before .before .before .before .before .if2 .left) in
+      takes-passed 5 (and-skip _ (eq-eqb _ _ (sym (at-first .first-byte .ensures) ∙ at-if .if1 .left)) ∙ small)
+      (ap₂ (λ (l : ℕ) (xs : List ℤ). takenAs (stateOf l (row + 1) (setMatrix (s .model) xs))) e
+      (c .before .put-row .ensures ∙ ap (putRow (s .model .matrix) row) six)
+      ∙ ap (λ (k : ℕ). takenAs (stateOf (rowPlace (k + 1) (s .model .n)) (k + 1) (setMatrix (s .model) (putRow (s .model .matrix) k (sixAt (s .model .n) (at-first .before .before .args .body .now) 1))))) (at-if .if1 .left))
 
 returns-3 : tie.Need-returns-3
-unfolding rowOk withRow
-returns-3 c =
-    let a = c .before .before .before .before .before .before .before .before .before .before .before .before .before .args in
-    let m = a .state .model in
-    let at-if = c .before .before .before .before .before .before .before .before .before .before in
-    let next = eq-eqb _ _ (sym (at-if .before .first-byte .ensures) ∙ at-if .if1 .left) in
-    let six = c .before .before .before .before .before .before .before .before .six-at .ensures in
-    let small = ap (within 131072) (sym six) ∙ sym (c .before .before .before .before .before .before .all-between .ensures) ∙ not-false _ (c .before .before .before .before .before .if2 .left) in
-    takes-passed 5 (and-skip _ next ∙ small)
-    (c .passed .ensures
-    ∙ ap₂ (λ (l : ℕ) (xs : List ℤ). takenAs l (at-if .before .first-byte .result + 1) (setMatrix m xs)) (c .before .place-of .ensures)
-    (c .before .before .with-matrix-row .ensures ∙ ap (λ (l : List ℤ). putRow (m .matrix) (at-if .before .first-byte .result) l) six)
-    ∙ ap (λ (k : ℕ). takenAs (rowPlace (k + 1) (m .n)) (k + 1) (setMatrix m (putRow (m .matrix) k (sixAt (m .n) (a .body .now) 1)))) (at-if .if1 .left))
+returns-3 c = takes (c .before) (rw (lt-ltb _ _ (c .if3 .taken)) refl)
+
+returns-4 : tie.Need-returns-4
+returns-4 c = takes (c .before) (rw (le-ltb _ _ (c .if3 .left)) refl)
 
 pub take-row-spec : {M : Type 1} → statement M
 take-row-spec =
@@ -77,9 +90,8 @@ take-row-spec =
     slice-aggregate-all-between
     all-between-requires
     returns-2
-    with-matrix-row-requires
-    add-place-of
-    place-of-requires
-    add-passed
-    passed-requires
-    returns-3)
+    slice-aggregate-put-row
+    put-row-requires
+    add-next
+    returns-3
+    returns-4)

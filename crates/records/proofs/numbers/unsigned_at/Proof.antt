@@ -55,14 +55,14 @@ module _ {l : List ℕ} {at count n j : ℕ} (joined : Joined l at count n j) (m
 loop-holds : tie.Need-loop-holds Inv-loop μ-loop
 loop-holds c = joined-none _ _ _
 
-sub-j : tie.Need-sub-j Inv-loop μ-loop
-sub-j c = search needs
-
 small : (c : tie.In-loop Inv-loop μ-loop) → c .before .loop .n < 2 ^ 56
 small c = joined-small (c .before .loop .inv) (c .loop-test .taken) (c .before .before .shared-slice-known .given) (c .before .before .before .pre)
 
 mul-n : tie.Need-mul-n Inv-loop μ-loop
 mul-n c = omega (arith, small c)
+
+sub-byte-at : tie.Need-sub-byte-at Inv-loop μ-loop
+sub-byte-at c = search needs
 
 byte-at-requires : tie.Need-byte-at-requires Inv-loop μ-loop
 byte-at-requires c κs = search needs
@@ -72,6 +72,9 @@ add-n c =
     let a = c .before .before .before .before .args in
     let j = c .before .before .loop .j in
     omega (arith, small (c .before), c .byte-at .ensures, c .before .before .before .shared-slice-known .given (a .at + (j - 1)))
+
+sub-j : tie.Need-sub-j Inv-loop μ-loop
+sub-j c = search needs
 
 loop-less : tie.Need-loop-less Inv-loop μ-loop
 loop-less c = omega arith
@@ -91,10 +94,11 @@ unsigned-at-spec =
     Inv-loop
     μ-loop
     loop-holds
-    sub-j
     mul-n
+    sub-byte-at
     byte-at-requires
     add-n
+    sub-j
     loop-less
     loop-again
     returns)

@@ -1,0 +1,239 @@
+-- What every state that the reader reaches satisfies, and that each record that is not refused keeps it. In order: the start; each
+-- kind of record; any record. Assumes nothing.
+use mathlib.Core.Path.{_≡_, refl, sym, ap₂, subst, _∙_}
+use mathlib.Core.Bool.{Bool, true, false, cond, _&&_}
+use mathlib.Core.List.{List}
+use Prim.Native.Nat.{ℕ, _+_, _≤_, _<_}
+use native.Mathlib.Omega.{arith}
+use borrow.Author.Tests.{le-leb, leb-true, ltb-true, eqb-true, eqb-false, leb-false}
+use lib.Dec.{leb, ltb, eqb}
+use lib.ListN.{length-set, replicate}
+use Rattle.integers.proofs.Booleans.{and-true}
+use Rattle.stepping.specs.Limits.{entryLimit}
+use Rattle.stepping.specs.Refusals.{dimensionOk}
+use Rattle.records.specs.Numbers.{littleEndian, signedAt}
+use Rattle.reachability.specs.Limits.{directionLimit, stepsOk}
+use Rattle.reader.specs.declared.order.Part.{Part}
+use Rattle.reader.specs.declared.order.Part.the-variants.{Head, Row, Initial, Input, Direction, Guard, End}
+use Rattle.reader.specs.declared.state.State.{State}
+use Rattle.reader.specs.Order.{partOf, mostOf}
+use Rattle.reader.specs.Models.{zeros, blankSet, blankModel, start, firstByte, usualSteps, defaultSteps, rowPlace, withHead, withRow, withPoint, withSetPoint, withDirection, withGuard}
+use Rattle.reader.specs.Values.{headOk, rowOk, pointOk, directionOk, guardOk, valueNumber}
+use Rattle.reader.specs.Refusals.{countOf, kindNumber, storedIn, stored}
+use Rattle.reader.proofs.order.KindNumbers.{kindNumber-zero, lt-of-mostOf}
+use Rattle.reader.proofs.RowsOfSix.{vector-zeros, getD-zeros, zeros-blank, small-blank, nonzero-none, guarded-more, guarded-set}
+use Rattle.reader.proofs.OrderFacts.{isDone, pointMay, fact, order-fact, isDone-late, isDone-early}
+use Rattle.reader.proofs.PartsSoFar.{passed, FrameAt, n-least, frame-on, frame-row, SetAt, set-early, set-late, point-low, point-high, set-point, DirectionsAt, directions-early, directions-late, directions-more, GuardsAt}
+
+-- ---- the whole state
+
+pub record AcceptedSoFar (s : State) : Type 0 where
+  pub first : s .last ≡ 0 → s ≡ start
+  pub frame : FrameAt (s .last) (s .rows) (s .model .n) (s .model .steps) (s .model .matrix)
+  pub initial : SetAt 0x10 (s .last) (s .model .n) (s .model .initial)
+  pub input : SetAt 0x20 (s .last) (s .model .n) (s .model .input)
+  pub directions : DirectionsAt (s .last) (s .model .n) (s .model .directions) (s .model .entries)
+  pub guards : GuardsAt (s .model .directions) (s .model .guards) (s .model .watched) (s .model .levels)
+
+blank-set : (base place n : ℕ) → place < base → SetAt base place n blankSet
+unfolding zeros blankSet
+blank-set base place n h =
+    record {
+      held = record { length-is = refl; outside = zeros-blank 96 0 n; most = omega arith };
+      none = λ l. refl;
+      one = λ e. absurd (omega arith);
+      some = λ l m. absurd (omega arith);
+      done = λ t. absurd (isDone-early base place (omega arith) t);
+    }
+
+blank-directions : (place n : ℕ) → place < 0x30 → DirectionsAt place n 0 (zeros 96)
+unfolding zeros
+blank-directions place n h =
+    record {
+      entries-length = refl;
+      entries-zeros = zeros-blank 96 0 n;
+      entries-small = small-blank directionLimit 96;
+      nonzero = nonzero-none (zeros 96);
+      few = omega arith;
+      some = λ l. absurd (omega arith);
+    }
+
+blank-guards : GuardsAt 0 0 (replicate 16 0) (zeros 16)
+blank-guards =
+    record {
+      watched-length = refl;
+      few = omega arith;
+      guarded = record { on = λ g h. absurd (omega arith); none = λ g h. getD-zeros 16 g; level = λ g h. vector-zeros 16 g };
+    }
+
+pub acceptedSoFar-start : AcceptedSoFar start
+unfolding zeros start blankModel
+acceptedSoFar-start =
+    record {
+      first = λ e. refl;
+      frame =
+          record {
+            dimension = λ h. absurd (omega arith);
+            steps-ok = λ h. absurd (omega arith);
+            few = λ e. absurd (omega arith);
+            all = λ h. absurd (omega arith);
+            matrix-length = refl;
+            matrix-zeros = zeros-blank 36 0 0;
+            matrix-small = small-blank entryLimit 36;
+          };
+      initial = blank-set 0x10 0 0 (omega arith);
+      input = blank-set 0x20 0 0 (omega arith);
+      directions = blank-directions 0 0 (omega arith);
+      guards = blank-guards;
+    }
+
+-- ---- each kind of record
+
+default-ok : (k : ℕ) → leb k 256 ≡ true → stepsOk (defaultSteps k) ≡ true
+default-ok k h = split (eqb k 0) refl
+  where
+    split : (b : Bool) → eqb k 0 ≡ b → stepsOk (cond b usualSteps k) ≡ true
+    split true e = refl
+    split false e = ap₂ _&&_ (le-leb 1 k (omega (arith, eqb-false k 0 e))) h
+
+so-far-head : (body : List ℕ) → headOk body ≡ true → AcceptedSoFar (withHead start body)
+unfolding zeros start blankModel withHead
+so-far-head body ok =
+    let n = firstByte body in
+    let both = and-true (dimensionOk n) (leb (littleEndian 2 body 1) 256) ok in
+    record {
+      first = λ e. absurd (omega arith);
+      frame =
+          record {
+            dimension = λ h. both .0;
+            steps-ok = λ h. default-ok (littleEndian 2 body 1) (both .1);
+            few = λ e. n-least n (both .0);
+            all = λ h. absurd (omega arith);
+            matrix-length = refl;
+            matrix-zeros = zeros-blank 36 0 n;
+            matrix-small = small-blank entryLimit 36;
+          };
+      initial = blank-set 0x10 1 n (omega arith);
+      input = blank-set 0x20 1 n (omega arith);
+      directions = blank-directions 1 n (omega arith);
+      guards = blank-guards;
+    }
+
+row-place-range : (rows n : ℕ) → (0 < rowPlace rows n) × (rowPlace rows n < 3)
+row-place-range rows n = split (ltb rows n)
+  where
+    split : (b : Bool) → (0 < cond b 0x01 0x02) × (cond b 0x01 0x02 < 3)
+    split true = (omega arith, omega arith)
+    split false = (omega arith, omega arith)
+
+module _ (s : State) (kind : ℕ) (body : List ℕ) (g : AcceptedSoFar s) where
+  so-far-row : s .last ≡ 1 → rowOk s body ≡ true → AcceptedSoFar (withRow s body)
+  unfolding rowOk withRow
+  so-far-row e ok =
+      let r = row-place-range (s .rows + 1) (s .model .n) in
+      let p = rowPlace (s .rows + 1) (s .model .n) in
+      record {
+        first = λ z. absurd (omega (arith, r .0));
+        frame = frame-row (g .frame) body e (and-true (eqb (firstByte body) (s .rows)) _ ok .1);
+        initial = set-early (g .initial) p (omega arith) (omega (arith, r .1));
+        input = set-early (g .input) p (omega arith) (omega (arith, r .1));
+        directions = directions-early (g .directions) p (omega (arith, r .1));
+        guards = g .guards;
+      }
+
+  so-far-initial : pointMay 0x10 (s .last) kind ≡ true → leb 0x02 (s .last) ≡ true → ltb (s .last) 0x20 ≡ true → s .model .initial .count < mostOf kind → pointOk (s .model .n) kind (withPoint (s .model .n) (s .model .initial) kind body) ≡ true → AcceptedSoFar (withSetPoint false s kind body)
+  unfolding withSetPoint
+  so-far-initial may late early few ok =
+      let l = leb-true 0x02 (s .last) late in
+      let h = ltb-true (s .last) 0x20 early in
+      let p = set-point 0x10 (s .last) (s .model .n) (s .model .initial) kind body (g .initial) refl may few ok in
+      let a = point-low 0x10 (s .last) (s .model .n) (s .model .initial) kind body (g .initial) refl may few ok in
+      let b = point-high 0x10 (s .last) (s .model .n) (s .model .initial) kind body (g .initial) refl may few ok in
+      record {
+        first = λ z. absurd (omega arith);
+        frame = frame-on (g .frame) kind (omega arith) (omega arith);
+        initial = p;
+        input = set-early (g .input) kind h (omega arith);
+        directions = directions-early (g .directions) kind (omega arith);
+        guards = g .guards;
+      }
+
+  so-far-input : pointMay 0x20 (s .last) kind ≡ true → isDone 0x10 (s .last) ≡ true → leb 0x02 (s .last) ≡ true → s .model .input .count < mostOf kind → pointOk (s .model .n) kind (withPoint (s .model .n) (s .model .input) kind body) ≡ true → AcceptedSoFar (withSetPoint true s kind body)
+  unfolding withSetPoint
+  so-far-input may done late few ok =
+      let l = leb-true 0x02 (s .last) late in
+      let p = set-point 0x20 (s .last) (s .model .n) (s .model .input) kind body (g .input) refl may few ok in
+      let a = point-low 0x20 (s .last) (s .model .n) (s .model .input) kind body (g .input) refl may few ok in
+      let b = point-high 0x20 (s .last) (s .model .n) (s .model .input) kind body (g .input) refl may few ok in
+      record {
+        first = λ z. absurd (omega arith);
+        frame = frame-on (g .frame) kind (omega arith) (omega arith);
+        initial = set-late (g .initial) kind (omega arith) done;
+        input = p;
+        directions = directions-early (g .directions) kind (omega arith);
+        guards = g .guards;
+      }
+
+  so-far-direction : kind ≡ 0x30 → isDone 0x20 (s .last) ≡ true → 0x20 ≤ s .last → s .model .directions < 16 → directionOk (s .model .n) body ≡ true → AcceptedSoFar (withDirection s kind body)
+  unfolding withDirection
+  so-far-direction k done late few ok =
+      record {
+        first = λ z. absurd (omega arith);
+        frame = frame-on (g .frame) kind (omega arith) (omega arith);
+        initial = set-late (g .initial) kind (omega arith) (isDone-late 0x10 (s .last) (omega arith));
+        input = set-late (g .input) kind (omega arith) done;
+        directions = directions-more (g .directions) kind body few ok;
+        guards = record { watched-length = g .guards .watched-length; few = g .guards .few; guarded = guarded-more _ _ _ _ (g .guards .guarded) };
+      }
+
+  so-far-guard : kind ≡ 0x40 → 0x30 ≤ s .last → s .model .guards < 16 → guardOk s body ≡ true → AcceptedSoFar (withGuard s kind body)
+  unfolding withGuard
+  so-far-guard k late few ok =
+      record {
+        first = λ z. absurd (omega arith);
+        frame = frame-on (g .frame) kind (omega arith) (omega arith);
+        initial = set-late (g .initial) kind (omega arith) (isDone-late 0x10 (s .last) (omega arith));
+        input = set-late (g .input) kind (omega arith) (isDone-late 0x20 (s .last) (omega arith));
+        directions = directions-late (g .directions) kind late;
+        guards =
+            record {
+              watched-length = length-set (s .model .watched) (s .model .guards) (firstByte body) ∙ g .guards .watched-length;
+              few = omega arith;
+              guarded =
+                  guarded-set (s .model .directions) (s .model .guards) (s .model .watched) (s .model .levels) (firstByte body) (signedAt 8 body 1)
+                  (omega (arith, g .guards .watched-length))
+                  (ltb-true (firstByte body) (s .model .directions) ok)
+                  (g .guards .guarded);
+            };
+      }
+
+  so-far-part : (p : Part) → fact p (s .last) kind ≡ true → countOf p s < mostOf kind → valueNumber p s kind body ≡ 0 → AcceptedSoFar (storedIn p s kind body)
+  unfolding fact
+  so-far-part Head f few z =
+      subst (λ (x : State). AcceptedSoFar (withHead x body)) (sym (g .first (eqb-true (s .last) 0x00 f))) (so-far-head body (passed (headOk body) 4 (omega arith) z))
+  so-far-part Row f few z = so-far-row (eqb-true (s .last) 0x01 f) (passed (rowOk s body) 5 (omega arith) z)
+  so-far-part Initial f few z =
+      let a = and-true (pointMay 0x10 (s .last) kind) (leb 0x02 (s .last) && ltb (s .last) 0x20) f in
+      let b = and-true (leb 0x02 (s .last)) (ltb (s .last) 0x20) (a .1) in
+      so-far-initial (a .0) (b .0) (b .1) few (passed _ 6 (omega arith) z)
+  so-far-part Input f few z =
+      let a = and-true (pointMay 0x20 (s .last) kind) (isDone 0x10 (s .last) && leb 0x02 (s .last)) f in
+      let b = and-true (isDone 0x10 (s .last)) (leb 0x02 (s .last)) (a .1) in
+      so-far-input (a .0) (b .0) (b .1) few (passed _ 6 (omega arith) z)
+  so-far-part Direction f few z =
+      let a = and-true (eqb kind 0x30) (isDone 0x20 (s .last) && leb 0x20 (s .last)) f in
+      let b = and-true (isDone 0x20 (s .last)) (leb 0x20 (s .last)) (a .1) in
+      so-far-direction (eqb-true kind 0x30 (a .0)) (b .0) (leb-true 0x20 (s .last) (b .1)) (lt-of-mostOf kind few) (passed _ 7 (omega arith) z)
+  so-far-part Guard f few z =
+      let a = and-true (eqb kind 0x40) (leb 0x30 (s .last)) f in
+      so-far-guard (eqb-true kind 0x40 (a .0)) (leb-true 0x30 (s .last) (a .1)) (lt-of-mostOf kind few) (passed _ 8 (omega arith) z)
+  so-far-part End f few z = g
+
+  pub acceptedSoFar-stored : kindNumber s kind ≡ 0 → valueNumber (partOf kind) s kind body ≡ 0 → AcceptedSoFar (stored s kind body)
+  unfolding stored
+  acceptedSoFar-stored k z =
+      let both = kindNumber-zero s kind k in
+      so-far-part (partOf kind) (order-fact (s .last) kind (both .0)) (fewer (countOf (partOf kind) s) (mostOf kind) (both .1)) z
+    where
+      fewer : (a b : ℕ) → leb b a ≡ false → a < b
+      fewer a b e = omega (arith, leb-false b a e)

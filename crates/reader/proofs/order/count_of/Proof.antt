@@ -1,0 +1,67 @@
+-- `reader::order::count_of` meets its contract, part by part. Assumes nothing.
+use Rattle.integers.proofs.Basics.{sym, ap, needs}
+use Rattle.reader.specs.declared.order.Part.{Part}
+use Rattle.reader.specs.Refusals.{countOf}
+use Rattle.reader.proofs.order.count_of.Statement.{statement}
+use Rattle.reader.proofs.order.count_of.Tie as tie
+
+enum-told : tie.Need-enum-told
+enum-told c = search needs
+
+enum-told-2 : tie.Need-enum-told-2
+enum-told-2 c = search needs
+
+enum-told-3 : tie.Need-enum-told-3
+enum-told-3 c = search needs
+
+enum-told-4 : tie.Need-enum-told-4
+enum-told-4 c = search needs
+
+enum-told-5 : tie.Need-enum-told-5
+enum-told-5 c = search needs
+
+enum-told-6 : tie.Need-enum-told-6
+enum-told-6 c = search needs
+
+enum-told-7 : tie.Need-enum-told-7
+enum-told-7 c = search needs
+
+returns : tie.Need-returns
+returns c = sym (ap (λ (p : Part). countOf p (c .before .before .before .before .args .state)) (c .before .enum-told .given .1))
+
+returns-2 : tie.Need-returns-2
+returns-2 c = sym (ap (λ (p : Part). countOf p (c .before .before .before .before .args .state)) (c .before .enum-told2 .given .1))
+
+returns-3 : tie.Need-returns-3
+returns-3 c = sym (ap (λ (p : Part). countOf p (c .before .before .before .args .state)) (c .enum-told3 .given .1))
+
+returns-4 : tie.Need-returns-4
+returns-4 c = sym (ap (λ (p : Part). countOf p (c .before .before .before .args .state)) (c .enum-told4 .given .1))
+
+returns-5 : tie.Need-returns-5
+returns-5 c = sym (ap (λ (p : Part). countOf p (c .before .before .before .args .state)) (c .enum-told5 .given .1))
+
+returns-6 : tie.Need-returns-6
+returns-6 c = sym (ap (λ (p : Part). countOf p (c .before .before .before .args .state)) (c .enum-told6 .given .1))
+
+returns-7 : tie.Need-returns-7
+returns-7 c = sym (ap (λ (p : Part). countOf p (c .before .before .before .args .state)) (c .enum-told7 .given .1))
+
+pub count-of-spec : {M : Type 1} → statement M
+count-of-spec =
+    tie.close
+    (tie.spec
+    enum-told
+    enum-told-2
+    enum-told-3
+    enum-told-4
+    enum-told-5
+    enum-told-6
+    enum-told-7
+    returns
+    returns-2
+    returns-3
+    returns-4
+    returns-5
+    returns-6
+    returns-7)

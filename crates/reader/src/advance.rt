@@ -1,0 +1,90 @@
+// Reading the record at an offset: refused, the end, or reading goes on behind it.
+use crate::order::kind_number;
+use crate::state::State;
+use crate::take::take;
+ghost use mathlib.Core.Path.{_≡_};
+ghost use Rattle.records.specs.Records.{recordAt, whole};
+ghost use Rattle.reader.specs.Refusals.{kindNumber};
+ghost use Rattle.reader.specs.Inner.{Advances};
+
+// What a record comes to: reading goes on at an offset, the file has ended, or it is refused, with the number and its offset.
+pub enum Outcome {
+    Next(usize),
+    Ended,
+    Stopped(u8, usize),
+}
+
+// The outcome, and the state behind the record.
+pub struct Advanced {
+    pub outcome: Outcome,
+    pub state: State,
+}
+
+// A whole record whose kind has passed 3 and 9.
+fn advance_whole(file: &[u8], at: usize, state: State, kind: u8, body: &[u8]) -> Advanced
+    requires { ⌜ recordAt (now file) at ≡ whole kind (now body) ⌝ }
+    requires { ⌜ kindNumber state kind ≡ 0 ⌝ }
+    ensures { λ r. ⌜ Advances (now (file .entry)) at state r ⌝ }
+{
+    let start = at + 1;
+    let taken = take(state, kind, body);
+    let failed = taken.number;
+    if failed != 0 {
+        return Advanced {
+            outcome: Outcome::Stopped(failed, at),
+            state,
+        };
+    }
+    if kind == 0xFF {
+        if start < file.len() {
+            return Advanced {
+                outcome: Outcome::Stopped(10, start),
+                state,
+            };
+        }
+        return Advanced {
+            outcome: Outcome::Ended,
+            state,
+        };
+    }
+    let next = taken.state;
+    Advanced {
+        outcome: Outcome::Next(start + body.len()),
+        state: next,
+    }
+}
+
+// The record at the offset. The kind's numbers stand above a short body's.
+pub(crate) fn advance(file: &[u8], at: usize, state: State) -> Advanced
+    ensures { λ r. ⌜ Advances (now (file .entry)) at state r ⌝ }
+{
+    let mut kind: u8 = 0;
+    let mut found: u8 = 0;
+    let body = records::record_at(file, at, &mut kind, &mut found);
+    if found == 2 {
+        return Advanced {
+            outcome: Outcome::Stopped(2, at),
+            state,
+        };
+    }
+    if kind == 0 {
+        return Advanced {
+            outcome: Outcome::Stopped(1, file.len()),
+            state,
+        };
+    }
+    let number = kind_number(state, kind);
+    if number != 0 {
+        return Advanced {
+            outcome: Outcome::Stopped(number, at),
+            state,
+        };
+    }
+    if found != 0 {
+        return Advanced {
+            outcome: Outcome::Stopped(1, at),
+            state,
+        };
+    }
+    advance_whole(file, at, state, kind, body)
+}
