@@ -1,5 +1,5 @@
 -- The tests over an array, from what is known of each place. In order: two tests that agree place by
--- place; zeros; limits. Not here: what a test that holds says of each place (`Laws`). Assumes nothing.
+-- place; zeros; limits. Not here: what a test that holds says of each place (`Tests`). Assumes nothing.
 use mathlib.Core.Path.{_≡_, refl, sym, ap, ap₂, subst, _∙_}
 use mathlib.Core.Bool.{Bool, true, false, _&&_, _||_}
 use mathlib.Core.List.{List}
@@ -17,7 +17,7 @@ use Rattle.integers.proofs.SignedParts.{v, #, neg, le!, le?, abs?, _⊕_}
 use Rattle.integers.proofs.Order.{lt-of-leZ-false}
 use Rattle.integers.proofs.Sums.{allBelow-intro}
 use Rattle.arrays.specs.Tests.{between, allBetween, zeroUnless, zeroOutside}
-use Rattle.arrays.proofs.Tests.{or-true}
+use Rattle.integers.proofs.Booleans.{or-true}
 
 pub allBelow-cong : (n : ℕ) (f g : ℕ → Bool) → ((i : ℕ) → i < n → f i ≡ g i) → allBelow n f ≡ allBelow n g
 unfolding allBelow
