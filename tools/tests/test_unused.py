@@ -153,7 +153,8 @@ class Trees(helpers.FolderTest):
         self.assertEqual(self.uncited(), {"more-of"})
 
     def test_by_a_glob(self):
-        self.write("crates/c/proofs/Laws/Below.antt", "pub low : ℕ\nlow = 0\n\npub idle : ℕ\nidle = 0\n")
+        below = "pub low : ℕ\nlow = 0\n\npub idle : ℕ\nidle = 0\n"
+        self.write("crates/c/proofs/Laws/Below.antt", below)
         laws = "use Below.*\n" + LAWS.replace("double-one = refl", "double-one = refl low")
         self.write("crates/c/proofs/Laws.antt", laws)
         self.assertEqual(self.imports_of("crates/c/proofs/Laws.antt"), ["sym", "Pair", "other"])
