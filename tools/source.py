@@ -131,7 +131,8 @@ def imports(text: str, code: bool = False) -> list[Import]:
         else:
             items = (Item(match["path"], path, match["alias"] or path[-1]),)
         before = text[match.start() : match.start("items") if match["open"] else match.end()]
-        public = "pub" in match["marks"]
+        # What a glob brings isn't written out, so it counts as used.
+        public = "pub" in match["marks"] or path[-1] == "*"
         found.append(Import(match.start(), match.end(), before, items, public, ghost))
     return found
 

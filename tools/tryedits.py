@@ -79,9 +79,9 @@ def edits_of(root: Path, gate: bool) -> list[Edit]:
         paths = [path for folder in folders for path in sorted(folder.glob("*.edit"))]
         found += [Edit(crate, path.stem, path) for path in paths]
     names = [str(edit) for edit in found]
-    for name in names:
-        if names.count(name) > 1:
-            raise files.Failure(f"{name}: there are two edits of this name")
+    twice = sorted({name for name in names if names.count(name) > 1})
+    if twice:
+        raise files.Failure(f"{', '.join(twice)}: there are two edits of this name")
     return found
 
 

@@ -167,6 +167,11 @@ class Tree:
                     yield from self.exported(item.path + use.members[: k + 1])
         for k in range(len(use.members)):
             yield from self.exported((use.name, *use.members[: k + 1]))
+        for item in file.brought.get("*", []):
+            below = "/".join(item.path[:-1])
+            child = self.by_name.get(f"{file.name.removesuffix('.antt')}/{below}.antt")
+            for key in source.keys(use.name) if child and item.path[-1] == "*" else ():
+                yield from child.by_key.get(key, [])
 
     def cited(
         self, roots: list[Declaration], meant: list[Declaration]

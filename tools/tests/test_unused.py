@@ -152,6 +152,15 @@ class Trees(helpers.FolderTest):
         self.write("crates/c/proofs/g/Proof.antt", "use Rattle.c.proofs.Basics" + more)
         self.assertEqual(self.uncited(), {"more-of"})
 
+    def test_by_a_glob(self):
+        below = "pub low : ℕ\nlow = 0\n\npub idle : ℕ\nidle = 0\n"
+        self.write("crates/c/proofs/Laws/Below.antt", below)
+        laws = "use Below.*\n" + LAWS.replace("double-one = refl", "double-one = refl low")
+        self.write("crates/c/proofs/Laws.antt", laws)
+        self.assertEqual(self.imports_of("crates/c/proofs/Laws.antt"), ["sym", "Pair", "other"])
+        self.assertIn("idle", self.uncited())
+        self.assertNotIn("low", self.uncited())
+
     def test_fix(self):
         self.assertEqual(unused.fix(self.folder), 10)
         self.assertEqual([one for one in unused.findings(self.folder) if "import" in one.what], [])
