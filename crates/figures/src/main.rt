@@ -1,7 +1,7 @@
 // Runs the figures of document 01 that are tested by running, and those that its list lacks, and writes what comes out.
-// The cases are the rows of the file `args`, whose first rows say how they are written; each is an argument. The file `stdout`
-// has what should come out, worked out by hand: the documents name some of the figures, and the others follow from the
-// recurrence.
+// Each row of the file `args` is an argument: sixteen words of answers, then the cases, with a note on how they are written. The
+// file `stdout` has what should come out, worked out by hand: the documents name some of the figures, and the others follow from
+// the recurrence.
 mod cells;
 mod sets;
 mod sweeps;

@@ -2,7 +2,6 @@
 use crate::cells::count;
 use crate::cells::entry;
 use crate::text;
-use crate::text::answer;
 use crate::text::end;
 use crate::text::natural;
 use crate::text::number;
@@ -51,7 +50,7 @@ fn tell_support(a: Supported) {
             number(v);
             end();
         }
-        Supported::Refused => tell(answer(text::REFUSED, 11)),
+        Supported::Refused => tell(text::REFUSED_11),
     }
 }
 

@@ -71,10 +71,10 @@ fn length_of(row: &[u8], cell: u8, xs: &[i64]) -> usize
 fn of_swept(a: Swept) -> usize {
     match a {
         Swept::Spare(h) => answer(text::SPARE, h as usize),
-        Swept::Invalid => answer(text::REFUSED, 11),
-        Swept::NoDirection => answer(text::REFUSED, 12),
-        Swept::WrongLength => answer(text::REFUSED, 13),
-        Swept::Growth(k) => answer(text::REFUSED_14, k),
+        Swept::Invalid => text::REFUSED_11,
+        Swept::NoDirection => text::REFUSED_12,
+        Swept::WrongLength => text::REFUSED_13,
+        Swept::Growth(k) => answer(text::REFUSED_14_STEP, k),
     }
 }
 
@@ -82,11 +82,11 @@ fn of_judged(a: Judged) -> usize {
     match a {
         Judged::Hit(k) => answer(text::HIT, k),
         Judged::Unknown(k) => answer(text::UNKNOWN, k),
-        Judged::Clear => answer(text::CLEAR, 999),
-        Judged::Invalid => answer(text::REFUSED, 11),
-        Judged::NoGuard => answer(text::REFUSED, 12),
-        Judged::WrongLength => answer(text::REFUSED, 13),
-        Judged::Growth(k) => answer(text::REFUSED_14, k),
+        Judged::Clear => text::IS_CLEAR,
+        Judged::Invalid => text::REFUSED_11,
+        Judged::NoGuard => text::REFUSED_12,
+        Judged::WrongLength => text::REFUSED_13,
+        Judged::Growth(k) => answer(text::REFUSED_14_STEP, k),
     }
 }
 

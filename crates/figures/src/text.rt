@@ -6,7 +6,7 @@ pub const SUM: usize = 1;
 
 pub const REFUSED: usize = 2;
 
-pub const REFUSED_14: usize = 3;
+pub const REFUSED_14_STEP: usize = 3;
 
 pub const SPARE: usize = 4;
 
@@ -31,8 +31,7 @@ pub const SLACKS: usize = 13;
 pub const HIT: usize = 14;
 
 pub const UNKNOWN: usize = 15;
-
-pub const CLEAR: usize = 16;
+// The last word, 16, is that of IS_CLEAR.
 
 pub fn word(i: usize) {
     let mut bytes = io::buffer();
@@ -81,7 +80,15 @@ pub fn list(i: usize, xs: &[i64]) {
     end();
 }
 
-// An answer of a word and a number as one number, where the number is below 999. It is 999 where there is none.
+// An answer as one number: 1,000 times the number of its word, and the number that follows it, below 999, or 999 where none does.
+pub const REFUSED_11: usize = 2011;
+
+pub const REFUSED_12: usize = 2012;
+
+pub const REFUSED_13: usize = 2013;
+
+pub const IS_CLEAR: usize = 16999;
+
 pub fn answer(i: usize, x: usize) -> usize {
     1000 * (i % 1000) + x % 1000
 }
