@@ -6,16 +6,15 @@ use mathlib.Core.List.{List}
 use Prim.Native.Nat.{ℕ, zero, suc, _+_, _-_, _≤_, _<_}
 use native.Mathlib.Decide.{decLt}
 use native.Mathlib.Omega.{arith}
-use borrow.Author.Tests.{le-leb, leb-true, eq-eqb, eqb-true, eqb-false, lt-ltb, le-ltb, ltb-false}
+use borrow.Author.Tests.{le-leb, leb-true, eq-eqb, eqb-true, lt-ltb, le-ltb, ltb-false}
 use lib.Dec.{eqb, ltb}
 use lib.ListN.{length, take, length-take}
 use lib.Seq.{take-all}
-use Rattle.records.specs.Records.{Record, whole, recordAt, recordKind, recordBody}
-use Rattle.records.proofs.RecordAt.{whole-of, whole-length, recordAt-take, reaches-of-le}
+use Rattle.records.specs.Records.{Record, recordAt, recordKind, recordBody}
+use Rattle.records.proofs.RecordAt.{whole-length, recordAt-take, reaches-of-le}
 use Rattle.arrays.proofs.Introduction.{Zeros, zeroOutside-of, allBetween-of}
 use Rattle.stepping.specs.Limits.{entryLimit}
 use Rattle.reachability.specs.Limits.{accepted, frameOk, directionsOk, directionLimit}
-use Rattle.reader.specs.declared.Status.{Status}
 use Rattle.reader.specs.declared.Status.the-variants.{Read}
 use Rattle.reader.specs.declared.Reading.{Reading}
 use Rattle.reader.specs.declared.state.State.{State}

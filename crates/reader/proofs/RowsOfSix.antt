@@ -1,13 +1,14 @@
--- What a block of rows of six is known to satisfy, place by place, as rows are stored in it, and from there the tests of number
--- 11. In order: blank blocks; a row stored; zeros; limits; directions that are not zero; guards. Assumes nothing.
+-- What a block of rows of six is known to satisfy, place by place, as rows are stored in it. In order: blank blocks; a row stored;
+-- zeros; limits; directions that are not zero; guards. Not here: the tests of number 11 from what is known of each place
+-- (`arrays`, `Introduction`). Assumes nothing.
 use mathlib.Core.Path.{_≡_, refl, sym, ap, ap₂, subst, _∙_}
-use mathlib.Core.Bool.{Bool, true, false, not, _&&_, _||_}
+use mathlib.Core.Bool.{true, false, not, _&&_}
 use mathlib.Core.List.{List}
-use Prim.Native.Nat.{ℕ, zero, suc, _+_, _*_, _/_, _%_, _≤_, _<_}
+use Prim.Native.Nat.{ℕ, zero, suc, _+_, _*_, _≤_, _<_}
 use native.Mathlib.Decide.{decLt}
 use native.Mathlib.Omega.{arith}
 use borrow.Author.Tests.{lt-ltb, le-ltb, eq-eqb, le-leb}
-use lib.Dec.{ltb, eqb}
+use lib.Dec.{eqb}
 use lib.ListN.{length, getD, set, replicate}
 use lib.Seq.{getD-set-same, getD-set-other}
 use lib.IntN.{ℤ, pos, negℤ, natAbs}

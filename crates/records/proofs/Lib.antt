@@ -1,4 +1,3 @@
-pub mod Table
 pub mod KnownKinds
 pub mod LittleEndian
 pub mod TwosComplement

@@ -10,7 +10,6 @@ use kinds::BodyLength;
 pub use numbers::i32_at;
 pub use numbers::i64_at;
 pub use numbers::u16_at;
-ghost use mathlib.Core.Path.{_≡_};
 ghost use Rattle.records.specs.Records.{RecordStep};
 
 // The record whose kind byte is at the offset `at`. It returns the body, a part of the file's own bytes, and leaves:

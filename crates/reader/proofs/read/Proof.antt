@@ -3,7 +3,6 @@
 use Rattle.integers.proofs.Basics.{_≡_, _≤_, _-_, length, sym, ap, _∙_, arith, needs}
 use Rattle.reachability.specs.declared.model.Model.{Model}
 use Rattle.reader.specs.declared.Status.the-variants.{Refused}
-use Rattle.reader.specs.declared.Reading.{Reading}
 use Rattle.reader.specs.declared.advance.Outcome.{Outcome}
 use Rattle.reader.specs.Models.{start, stateOf}
 use Rattle.reader.specs.Reading.{readFrom, readModel}

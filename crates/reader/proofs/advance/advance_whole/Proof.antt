@@ -1,5 +1,5 @@
 -- `reader::advance::advance_whole` meets its contract, by the law of `Advances` for each way out. Assumes nothing.
-use Rattle.integers.proofs.Basics.{refl, sym, _∙_, arith, needs}
+use Rattle.integers.proofs.Basics.{refl, sym, _∙_, arith}
 use Rattle.records.proofs.RecordAt.{whole-of}
 use Rattle.reader.proofs.order.KindNumbers.{kindNumber-zero}
 use Rattle.reader.proofs.advance.Outcomes.{advances-value, advances-more, advances-ended, advances-next}

@@ -1,5 +1,5 @@
 -- `reader::take::take_row` meets its contract: the row number first, then the entries. Assumes nothing.
-use Rattle.integers.proofs.Basics.{_≡_, refl, sym, ap, ap₂, _∙_, true, false, ℕ, _+_, _<_, ℤ, arith, needs}
+use Rattle.integers.proofs.Basics.{_≡_, refl, sym, ap, ap₂, _∙_, ℕ, _+_, _<_, ℤ, arith, needs}
 use borrow.Author.Tests.{not-true, not-false, eq-eqb, ne-eqb, lt-ltb, le-ltb}
 use mathlib.Core.List.{List}
 use Rattle.integers.proofs.Booleans.{and-skip, and-stop}

@@ -4,7 +4,7 @@
 use Rattle.integers.proofs.Basics.{refl, _-_, arith, needs}
 use Rattle.integers.specs.Sums.{allBelow}
 use Rattle.records.specs.Kinds.{bodyLength}
-use Rattle.records.proofs.Table.{lookup, same, agrees, Sought, sought-start, sought-found, sought-next, sought-none}
+use Rattle.records.proofs.kinds.Search.{lookup, same, agrees, Sought, sought-start, sought-found, sought-next, sought-none}
 use Rattle.records.proofs.kinds.body_length.Statement.{statement}
 use Rattle.records.proofs.kinds.body_length.Tie as tie
 
