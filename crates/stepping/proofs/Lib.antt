@@ -4,3 +4,4 @@ pub mod Working
 pub mod Beyond
 pub mod Stands
 pub mod Numbers
+pub mod SteppedSum
