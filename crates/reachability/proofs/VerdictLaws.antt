@@ -13,7 +13,6 @@ use Rattle.integers.proofs.SignedParts.{v, #, _⊕_, le!, le?}
 use Rattle.integers.proofs.Order.{⩽-trans, ⩽-scale, ⩽-unscale, ⩽-of-leZ, lt-of-leZ-false}
 use Rattle.reachability.specs.Recurrence.{firstPlace}
 use Rattle.reachability.specs.Verdicts.{reaches, hitAt, unknownAt, verdictBelow}
-use Rattle.reachability.specs.declared.verdicts.Judged.{Judged}
 use Rattle.reachability.specs.declared.verdicts.Judged.the-variants.{Hit, Unknown, Clear}
 use Rattle.reachability.proofs.FirstPlace.{firstPlace-cong}
 

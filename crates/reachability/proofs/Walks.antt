@@ -5,15 +5,15 @@
 use mathlib.Core.Path.{_≡_, refl, sym, ap, ap₂, subst, _∙_}
 use mathlib.Core.Bool.{Bool, true, false, cond}
 use Prim.Native.Nat.{ℕ, zero, suc, _+_, _*_, _-_, _^_, _≤_, _<_}
-use native.Mathlib.Nat.{le-refl, mul-le-mul-left, pow-suc}
+use native.Mathlib.Nat.{le-refl, pow-suc}
 use native.Mathlib.Omega.{arith}
 use borrow.Author.Tests.{lt-ltb, le-ltb}
 use lib.Dec.{ltb}
-use lib.IntN.{ℤ, pos, natAbs, _+ℤ_, _-ℤ_, _*ℤ_}
+use lib.IntN.{ℤ, pos, natAbs, _+ℤ_, _*ℤ_}
 use Rattle.integers.specs.Whole.{_⩽_, Near}
 use Rattle.integers.specs.Sums.{sum, sumℕ, dot, dotℕ, times, transposed}
-use Rattle.integers.proofs.SignedParts.{v, #, _⊕_, _⊗_, le!, eq!, le?, eq?, near!, near?}
-use Rattle.integers.proofs.Order.{⩽-refl, ⩽-of-eq, ⩽-trans, ⩽-add, ⩽-scale, near-add, near-scale, near-mono}
+use Rattle.integers.proofs.SignedParts.{v, #, _⊕_, _⊗_, eq!, le?, eq?, near!, near?}
+use Rattle.integers.proofs.Order.{⩽-of-eq, ⩽-trans, ⩽-add, ⩽-scale, near-add, near-scale, near-mono}
 use Rattle.integers.proofs.Sums.{sum-cong, sum-zero, sum-first, sumℕ-zero, sumℕ-first, sumℕ-cong, sumℕ-scale, dot-times, dot-add, dot-scale, dot-cong, near-dot}
 use Rattle.stepping.specs.Limits.{matrixUnit}
 use Rattle.stepping.proofs.Stands.{Stands, stands-step}
@@ -21,7 +21,7 @@ use Rattle.reachability.specs.Runs.{stateOf}
 use Rattle.reachability.specs.Recurrence.{Working, next, walk}
 use Rattle.reachability.proofs.sets.Laws.{SetLaws}
 
-one-times : (z : ℤ) → pos 1 *ℤ z ≡ z
+pub one-times : (z : ℤ) → pos 1 *ℤ z ≡ z
 one-times z = eq! (# 1 ⊗ v z) (v z) (omega arith)
 
 -- ---- states
@@ -58,7 +58,6 @@ module _ (n : ℕ) (moves : ℕ → ℕ → ℕ → ℤ) {memberI memberU : ℕ 
   unfolding top
   value-le-top q start inputs zero s e x = ⩽-trans (⩽-of-eq (dot-cong n {a = x} {b = x} (λ i h. refl) (λ i h. state-zero n moves start inputs i))) (lawsI .above q start s x)
   value-le-top q start inputs (suc k) s e x =
-      let p : ℕ = matrixUnit ^ suc k in
       let before = value-le-top q start inputs k s (λ j l. e j (wider l)) (transposed n (moves k) x) in
       let here = ⩽-scale (matrixUnit ^ suc k) (lawsU .above q (inputs k) (e k (le-refl (suc k))) x) in
       ⩽-trans (⩽-of-eq (dot-next n moves start inputs k x))
@@ -94,19 +93,19 @@ module _ (n : ℕ) (moves : ℕ → ℕ → ℕ → ℤ) {memberI memberU : ℕ 
       longer w u =
           record {
             start = w .start;
-            inputs = chosen;
+            inputs = extended;
             starts = w .starts;
             enters = λ j. either (ltb j k) (w .inputs j) (w .enters j);
-            attains = dot-next n moves (w .start) chosen k x ∙ ap₂ _+ℤ_ (dot-cong n {a = transposed n (moves k) x} {b = transposed n (moves k) x} (λ i h. refl) (λ i h. state-same n moves (w .start) chosen (w .inputs) k before i) ∙ w .attains) (ap (λ (z : ℤ). pos (matrixUnit ^ suc k) *ℤ z) (ap (dot n x) here ∙ u .2));
+            attains = dot-next n moves (w .start) extended k x ∙ ap₂ _+ℤ_ (dot-cong n {a = transposed n (moves k) x} {b = transposed n (moves k) x} (λ i h. refl) (λ i h. state-same n moves (w .start) extended (w .inputs) k before i) ∙ w .attains) (ap (λ (z : ℤ). pos (matrixUnit ^ suc k) *ℤ z) (ap (dot n x) here ∙ u .2));
           }
         where
-          chosen : ℕ → ℕ → ℤ
-          chosen j = cond (ltb j k) (w .inputs j) (u .0)
+          extended : ℕ → ℕ → ℤ
+          extended j = cond (ltb j k) (w .inputs j) (u .0)
 
-          before : (j : ℕ) → j < k → chosen j ≡ w .inputs j
+          before : (j : ℕ) → j < k → extended j ≡ w .inputs j
           before j l = ap (λ (b : Bool). cond b (w .inputs j) (u .0)) (lt-ltb j k l)
 
-          here : chosen k ≡ u .0
+          here : extended k ≡ u .0
           here = ap (λ (b : Bool). cond b (w .inputs k) (u .0)) (le-ltb k k (le-refl k))
 
           either : (b : Bool) (y : ℕ → ℤ) → memberU 1 y → memberU 1 (cond b y (u .0))
@@ -143,7 +142,6 @@ module _ (n : ℕ) (moves : ℕ → ℕ → ℕ → ℤ) {memberI memberU : ℕ 
         let b = laws .attained r in
         let of-x = near-at s x r e stands (a .0) (a .1) in
         let of-r = near-at s x r e stands (b .0) (b .1) in
-        let err : ℕ = s * dotℕ n e reach in
         let x-attains = eq? (v (dot n x (a .0))) (v (support x)) (a .2) in
         let r-attains = eq? (# s ⊗ v (dot n r (b .0))) (# s ⊗ v (support r)) (ap (λ (z : ℤ). pos s *ℤ z) (b .2)) in
         let r-above = le? (# s ⊗ v (dot n r (a .0))) (# s ⊗ v (support r)) (⩽-scale s (⩽-trans (laws .above 1 (a .0) (a .1) r) (⩽-of-eq (one-times (support r))))) in
@@ -170,10 +168,6 @@ module _ (n : ℕ) (moves : ℕ → ℕ → ℕ → ℤ) {memberI memberU : ℕ 
       alone : (s : ℕ) → s ≡ 1 * s
       alone s = omega arith
   near-top (suc k) s x w stands =
-      let w′ = next n (moves k) w in
-      let x′ = transposed n (moves k) x in
-      let p : ℕ = matrixUnit ^ suc k in
-      let scales : matrixUnit ^ k * (matrixUnit * s) ≡ matrixUnit ^ suc k * s = scaled k in
       let before = subst (λ (t : ℕ). Near (top k (transposed n (moves k) x)) (pos t *ℤ supports k (next n (moves k) w)) (t * errors k (next n (moves k) w))) (scaled k) (near-top k (matrixUnit * s) (transposed n (moves k) x) (next n (moves k) w) (stands-step n s (moves k) x (w .r) (w .e) stands)) in
       let here = near-scale (matrixUnit ^ suc k) (near-support lawsU s x (w .r) (w .e) stands) in
       subst (λ (z : ℤ). Near (top k (transposed n (moves k) x) +ℤ pos (matrixUnit ^ suc k) *ℤ supportU x) z (matrixUnit ^ suc k * s * (errors k (next n (moves k) w) + dotℕ n (w .e) reachU))) (regrouped (matrixUnit ^ suc k) (supports k (next n (moves k) w)) (supportU (w .r)))
@@ -212,7 +206,6 @@ module _ (n : ℕ) (moves : ℕ → ℕ → ℕ → ℤ) {memberI memberU : ℕ 
   unfolding supports
   supports-walk zero w = ap (λ (u : Working). supportI (u .r)) (sym (walk-zero 0 w)) ∙ sym (ap (λ (z : ℤ). supportI (walk n moves 0 w 0 .r) +ℤ z) (sum-zero (λ j. supportU (walk n moves 0 w j .r))) ∙ lib.IntN.+ℤ-idr (supportI (walk n moves 0 w 0 .r)))
   supports-walk (suc k) w =
-      let u = next n (moves k) w in
       ap (λ (z : ℤ). z +ℤ supportU (w .r)) (supports-walk k (next n (moves k) w))
       ∙ eq! (v (supportI (walk n moves k (next n (moves k) w) k .r)) ⊕ v (sum k (λ j. supportU (walk n moves k (next n (moves k) w) j .r))) ⊕ v (supportU (w .r))) (v (supportI (walk n moves k (next n (moves k) w) k .r)) ⊕ (v (supportU (w .r)) ⊕ v (sum k (λ j. supportU (walk n moves k (next n (moves k) w) j .r))))) (omega arith)
       ∙ ap₂ _+ℤ_ (ap (λ (t : Working). supportI (t .r)) (sym (walk-shift k w k))) (ap₂ _+ℤ_ (ap (λ (t : Working). supportU (t .r)) (sym (walk-zero (suc k) w))) (sum-cong k (λ j h. ap (λ (t : Working). supportU (t .r)) (sym (walk-shift k w j)))) ∙ sym (sum-first k (λ j. supportU (walk n moves (suc k) w j .r))))

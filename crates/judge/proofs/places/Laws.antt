@@ -1,6 +1,6 @@
 -- Laws of the first-step rules over lists (`places`). In order: a bound less its slack against the range of i64; a loop that looks
 -- for the first step. Assumes nothing.
-use mathlib.Core.Path.{_≡_, sym, _∙_}
+use mathlib.Core.Path.{_≡_, sym, ap, ap₂, subst, _∙_}
 use mathlib.Core.Bool.{Bool, true, false}
 use Prim.Native.Nat.{ℕ, _+_, _≤_, _<_, zero-le}
 use native.Mathlib.Omega.{arith}
@@ -9,7 +9,8 @@ use borrow.Author.Count.{below-none, below-more}
 use lib.IntN.{ℤ, pos, negsuc, _+ℤ_, _-ℤ_}
 use lib.Signed.{leZ, ltZ}
 use mir.Syntax.{w64}
-use mir.Val.{SFits}
+use mir.Val.{SFits, toZ, ofZ}
+use mir.Facts.{toZ-ofZ}
 use Rattle.integers.specs.Whole.{_⩽_}
 use Rattle.integers.proofs.SignedParts.{v, #, _⊕_, _⊖_, le!, le?}
 use Rattle.integers.proofs.Order.{⩽-of-leZ, lt-of-leZ-false, lt-of-ltZ, le-of-ltZ-false}
@@ -37,6 +38,16 @@ least-le (negsuc k) f = le! (v least) (v (negsuc k)) (omega (arith, f .sfits))
 le-most : (z : ℤ) → SFits w64 z → z ⩽ most
 le-most (pos k) f = le! (# k) (v most) (omega (arith, f .sfits))
 le-most (negsuc k) f = le! (v (negsuc k)) (v most) (omega arith)
+
+-- the difference of two that fit, computed from their bits
+less-bits : {bound slack : ℤ} → SFits w64 bound → SFits w64 slack → toZ w64 (ofZ w64 bound) -ℤ toZ w64 (ofZ w64 slack) ≡ bound -ℤ slack
+less-bits f g = ap₂ _-ℤ_ (toZ-ofZ f) (toZ-ofZ g)
+
+pub less-fits-bits : (bound slack : ℤ) → SFits w64 bound → SFits w64 slack → SFits w64 (bound -ℤ slack) → SFits w64 (toZ w64 (ofZ w64 bound) -ℤ toZ w64 (ofZ w64 slack))
+less-fits-bits bound slack f g h = subst (SFits w64) (sym (less-bits f g)) h
+
+pub reaches-bits : (level bound slack : ℤ) → SFits w64 level → SFits w64 bound → SFits w64 slack → SFits w64 (bound -ℤ slack) → reaches (toZ w64 (ofZ w64 level)) (toZ w64 (ofZ w64 (toZ w64 (ofZ w64 bound) -ℤ toZ w64 (ofZ w64 slack)))) ≡ reaches level (bound -ℤ slack)
+reaches-bits level bound slack e f g h = ap₂ reaches (toZ-ofZ e) (ap (λ (z : ℤ). toZ w64 (ofZ w64 z)) (less-bits f g) ∙ toZ-ofZ h)
 
 module _ (slack : ℤ) (fs : SFits w64 slack) (t : leZ (pos 0) slack ≡ true) where
   natural : pos 0 ⩽ slack

@@ -2,7 +2,7 @@
 use Rattle.integers.proofs.Basics.{_≡_, refl, sym, ap, _∙_, needs, ℤ, toZ-ofZ}
 use Rattle.reachability.specs.declared.sweep.Swept.{Swept}
 use Rattle.reachability.specs.declared.verdicts.Judged.{Judged}
-use Rattle.judge.specs.Answers.{listAnswer, unlessRefused, sweptVerdict, VerdictAnswers}
+use Rattle.judge.specs.Answers.{listAnswer, sweptVerdict, VerdictAnswers}
 use Rattle.judge.proofs.Answers.{verdict-answers}
 use Rattle.judge.proofs.verdict.Statement.{statement}
 use Rattle.judge.proofs.verdict.Tie as tie

@@ -1,8 +1,7 @@
 -- `judge::places::hits` meets its contract, for any three numbers: the two tests keep the difference within i64, and past them it is
 -- below or above every level. Assumes nothing.
-use Rattle.integers.proofs.Basics.{_≡_, sym, ap₂, _∙_, ℤ, pos, _-ℤ_, true, false, needs, w64, SFits, toZ-ofZ}
+use Rattle.integers.proofs.Basics.{_≡_, sym, _∙_, pos, _-ℤ_, true, false, needs, w64, SFits, toZ-ofZ}
 use lib.Signed.{leZ}
-use Rattle.reachability.specs.Verdicts.{reaches}
 use Rattle.judge.proofs.places.Laws as laws
 use Rattle.judge.proofs.places.hits.Statement.{statement}
 use Rattle.judge.proofs.places.hits.Tie as tie
@@ -26,7 +25,7 @@ less-fits c =
     laws.less-fits (a .args .slack) (a .fits .slack) (natural (c .before)) (a .args .bound) (a .fits .bound) (simp (toZ-ofZ (a .fits .bound), toZ-ofZ (a .fits .slack), toZ-ofZ low) at (c .if2 .left))
 
 sub-at-level : tie.Need-sub-at-level
-sub-at-level c = rw (toZ-ofZ (c .before .before .fits .bound), toZ-ofZ (c .before .before .fits .slack)) (less-fits c)
+sub-at-level c = let a = c .before .before in laws.less-fits-bits (a .args .bound) (a .args .slack) (a .fits .bound) (a .fits .slack) (less-fits c)
 
 at-level-requires : tie.Need-at-level-requires
 at-level-requires c κs = search needs
@@ -34,7 +33,7 @@ at-level-requires c κs = search needs
 returns-2 : tie.Need-returns-2
 returns-2 c =
     let a = c .before .before .before in
-    c .at-level .ensures ∙ simp (toZ-ofZ (a .fits .level), toZ-ofZ (a .fits .bound), toZ-ofZ (a .fits .slack), toZ-ofZ (less-fits (c .before)))
+    c .at-level .ensures ∙ laws.reaches-bits (a .args .level) (a .args .bound) (a .args .slack) (a .fits .level) (a .fits .bound) (a .fits .slack) (less-fits (c .before))
 
 negative : (c : tie.Else1) → leZ (pos 0) (c .before .args .slack) ≡ false
 negative c = simp (toZ-ofZ (c .before .fits .slack)) at (c .if1 .left)
@@ -55,7 +54,7 @@ more-fits c =
     laws.more-fits (a .args .slack) (a .fits .slack) (negative (c .before)) (a .args .bound) (a .fits .bound) (simp (toZ-ofZ (a .fits .bound), toZ-ofZ (a .fits .slack), toZ-ofZ high) at (c .if3 .left))
 
 sub-at-level-2 : tie.Need-sub-at-level-2
-sub-at-level-2 c = rw (toZ-ofZ (c .before .before .fits .bound), toZ-ofZ (c .before .before .fits .slack)) (more-fits c)
+sub-at-level-2 c = let a = c .before .before in laws.less-fits-bits (a .args .bound) (a .args .slack) (a .fits .bound) (a .fits .slack) (more-fits c)
 
 at-level-requires-2 : tie.Need-at-level-requires-2
 at-level-requires-2 c κs = search needs
@@ -63,7 +62,7 @@ at-level-requires-2 c κs = search needs
 returns-4 : tie.Need-returns-4
 returns-4 c =
     let a = c .before .before .before in
-    c .at-level2 .ensures ∙ simp (toZ-ofZ (a .fits .level), toZ-ofZ (a .fits .bound), toZ-ofZ (a .fits .slack), toZ-ofZ (more-fits (c .before)))
+    c .at-level2 .ensures ∙ laws.reaches-bits (a .args .level) (a .args .bound) (a .args .slack) (a .fits .level) (a .fits .bound) (a .fits .slack) (more-fits (c .before))
 
 pub hits-spec : {M : Type 1} → statement M
 hits-spec =
