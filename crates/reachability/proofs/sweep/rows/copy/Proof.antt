@@ -7,13 +7,13 @@ use Rattle.integers.proofs.Machine.{filled, filled-none, filled-more, filled-al
 use Rattle.reachability.proofs.sweep.rows.copy.Statement.{statement}
 use Rattle.reachability.proofs.sweep.rows.copy.Tie as tie
 
-record So (row out₀ out : List ℤ) (k : ℕ) : Type 0 where
+record CopiedSoFar (row out₀ out : List ℤ) (k : ℕ) : Type 0 where
   inside : k ≤ length out₀
   is : out ≡ filled (vector row) k out₀
   long : length out ≡ length out₀
 
 abbrev Inv-loop : tie.InvT-loop
-Inv-loop row out₀ k₀ out k = So row out₀ out k
+Inv-loop row out₀ k₀ out k = CopiedSoFar row out₀ out k
 
 abbrev μ-loop : tie.MeasureT-loop
 μ-loop row out₀ k₀ out k = length out₀ - k
