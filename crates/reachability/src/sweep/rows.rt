@@ -267,7 +267,8 @@ pub(crate) fn copy(row: &[i64; 257], out: &mut [i64])
 {
     let mut k: usize = 0;
     while k < out.len() {
-        out[k] = row[k];
+        let value = row[k];
+        out[k] = value;
         k += 1;
     }
 }
