@@ -1,6 +1,6 @@
 -- `reachability::model::checks::all_zero` meets its contract: the test holds of every entry passed. The measure is what is left of
 -- six. Assumes nothing.
-use Rattle.integers.proofs.Basics.{_≡_, sym, Bool, true, ℕ, _-_, _<_, arith, ℤ, natAbs, w32}
+use Rattle.integers.proofs.Basics.{sym, Bool, ℕ, _-_, arith, ℤ, natAbs, w32}
 use mathlib.Core.List.{List}
 use lib.Dec.{eqb}
 use Rattle.integers.specs.Sums.{matrix}

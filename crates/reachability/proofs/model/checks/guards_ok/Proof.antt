@@ -1,7 +1,6 @@
 -- `reachability::model::checks::guards_ok` meets its contract: the test holds of every guard passed. The measure is what is left of
 -- sixteen. Assumes nothing.
-use Rattle.integers.proofs.Basics.{_≡_, sym, ap, _∙_, Bool, true, ℕ, _-_, _<_, arith, needs, getD, ℤ, w64}
-use mathlib.Core.Bool.{_&&_}
+use Rattle.integers.proofs.Basics.{_≡_, sym, ap, _∙_, Bool, ℕ, _-_, arith, needs, getD, ℤ, w64}
 use mathlib.Core.List.{List}
 use borrow.Author.Tests.{lt-leb, le-leb, not-true, not-false}
 use Rattle.integers.specs.Sums.{vector}

@@ -1,6 +1,6 @@
 -- `reachability::sets::checks::direction_ok` meets its contract: the test holds of every value passed. The measure is what is left of
 -- six. Assumes nothing.
-use Rattle.integers.proofs.Basics.{_≡_, sym, ap, _∙_, Bool, true, ℕ, _-_, _<_, arith, needs, ℤ, w64}
+use Rattle.integers.proofs.Basics.{_≡_, sym, ap, _∙_, Bool, ℕ, _-_, arith, needs, ℤ, w64}
 use mathlib.Core.List.{List}
 use borrow.Author.Tests.{not-true, not-false}
 use Rattle.integers.specs.Sums.{vector}

@@ -1,8 +1,7 @@
 -- `reachability::sets::checks::value_ok` meets its contract, test by test. Assumes nothing.
 use Rattle.integers.proofs.Basics.{_≡_, ap, subst, _∙_, true, ℕ, _≤_, _<_, needs, natAbs, toZ-ofZ}
-use mathlib.Core.Bool.{_&&_, _||_}
 use borrow.Author.Tests.{lt-leb, le-leb, lt-ltb, le-ltb}
-use lib.Dec.{leb, ltb, eqb}
+use lib.Dec.{leb, eqb}
 use Rattle.stepping.specs.Limits.{growthLimit}
 use Rattle.reachability.proofs.sets.checks.value_ok.Statement.{statement}
 use Rattle.reachability.proofs.sets.checks.value_ok.Tie as tie

@@ -1,5 +1,5 @@
 -- `reachability::sets::supports::times_add` meets its contract: the product and the sum are far inside an i64. Assumes nothing.
-use Rattle.integers.proofs.Basics.{_≡_, sym, ap, ap₂, subst, _∙_, _*_, _≤_, arith, ℤ, natAbs, _+ℤ_, _*ℤ_, w32, w64, SFits, toZ, ofZ, toZ-ofZ}
+use Rattle.integers.proofs.Basics.{_≡_, sym, ap, ap₂, subst, _∙_, _≤_, arith, ℤ, natAbs, _+ℤ_, _*ℤ_, w32, w64, SFits, toZ, ofZ, toZ-ofZ}
 use mir.Facts.{sfits-widen}
 use lib.Dec.{lit<}
 use Rattle.integers.proofs.Order.{natAbs-add, natAbs-mul-le}
