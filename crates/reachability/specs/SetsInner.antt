@@ -1,6 +1,6 @@
 -- What the inner functions ask of each other, after the public ones have tested their arguments. Definitions only; no public
 -- contract cites them. Assumes nothing.
-use Prim.Native.Nat.{ℕ, _+_, _*_, _≤_, _<_}
+use Prim.Native.Nat.{ℕ, _*_, _≤_, _<_}
 use mathlib.Core.List.{List}
 use lib.IntN.{ℤ, natAbs}
 use Rattle.integers.specs.Sums.{vector}

@@ -1,10 +1,10 @@
 -- What the functions that fill the rows of a sweep ask of each other and leave. Definitions only; no public contract cites them.
 -- Assumes nothing.
 use mathlib.Core.Path.{_≡_}
-use mathlib.Core.Bool.{Bool, true, false, cond}
+use mathlib.Core.Bool.{true}
 use mathlib.Core.List.{List}
 use Prim.Native.Nat.{ℕ, suc, _+_, _*_, _≤_, _<_}
-use lib.Dec.{T, leb}
+use lib.Dec.{T}
 use lib.ListN.{length}
 use lib.IntN.{ℤ, pos, natAbs, _+ℤ_}
 use lib.Signed.{nonNeg}
@@ -21,8 +21,6 @@ use Rattle.reachability.specs.declared.sets.Set.{Set}
 use Rattle.reachability.specs.Limits.{accepted}
 use Rattle.reachability.specs.Recurrence.{growthStep, sumAt, Rounds, bound, slack}
 use Rattle.reachability.specs.declared.model.Model.{Model}
-use Rattle.reachability.specs.declared.sweep.Filled.{Filled}
-use Rattle.reachability.specs.declared.sweep.Filled.the-variants.{Largest, Grown}
 
 -- The most that e · reach, and all that a set adds to a step, can come to.
 abbrev pub errorsLimit : ℕ
@@ -101,8 +99,9 @@ pub record Prepared (m : Model) (d n : ℕ) (mat : List ℤ) (shapeI : Shape) (c
   pub r-is : r ≡ tabulate 6 (firstR (direction m d))
   pub e-is : e ≡ tabulate 6 (λ i. pos (firstE i))
 
--- The first step with growth, or the largest growth sum with both rows filled for steps 0 to K.
-pub record Fills (m : Model) (d : ℕ) (a : Filled) (b s : List ℤ) : Type 0 where
-  pub answer : a ≡ cond (leb (growthStep m d) (m .steps)) (Grown (growthStep m d)) (Largest (maxℕ (suc (m .steps)) (sumAt m d)))
-  pub bounds : leb (growthStep m d) (m .steps) ≡ false → (k : ℕ) → k ≤ m .steps → vector b k ≡ bound m d k
-  pub slacks : leb (growthStep m d) (m .steps) ≡ false → (k : ℕ) → k ≤ m .steps → vector s k ≡ pos (slack m d k)
+-- How many steps come before growth; where that is all of them, their largest growth sum, and both rows.
+pub record Fills (m : Model) (d steps largest : ℕ) (b s : List ℤ) : Type 0 where
+  pub steps-are : steps ≡ growthStep m d
+  pub largest-is : m .steps < growthStep m d → largest ≡ maxℕ (suc (m .steps)) (sumAt m d)
+  pub bounds : m .steps < growthStep m d → (k : ℕ) → k ≤ m .steps → vector b k ≡ bound m d k
+  pub slacks : m .steps < growthStep m d → (k : ℕ) → k ≤ m .steps → vector s k ≡ pos (slack m d k)

@@ -16,12 +16,6 @@ pub enum Swept {
     Growth(usize),
 }
 
-// What filling the rows answers: the largest growth sum over all steps, or the first step with growth.
-pub(crate) enum Filled {
-    Largest(u64),
-    Grown(usize),
-}
-
 // Bounds and slacks of direction number `direction` for steps 0 to K in the lent lists, and the spare figure. On a refusal both
 // lists keep every element.
 pub fn sweep(model: Model, direction: usize, bounds: &mut [i64], slacks: &mut [i64]) -> Swept
@@ -42,12 +36,11 @@ pub fn sweep(model: Model, direction: usize, bounds: &mut [i64], slacks: &mut [i
     }
     let mut bound_row = rows::blank();
     let mut slack_row = rows::blank();
-    match rows::fill(model, direction, &mut bound_row, &mut slack_row) {
-        Filled::Grown(k) => Swept::Growth(k),
-        Filled::Largest(sum) => {
-            rows::copy(&bound_row, bounds);
-            rows::copy(&slack_row, slacks);
-            Swept::Spare(rows::spare_of(sum))
-        }
+    let filled = rows::fill(model, direction, &mut bound_row, &mut slack_row);
+    if filled.steps < size {
+        return Swept::Growth(filled.steps);
     }
+    rows::copy(&bound_row, bounds);
+    rows::copy(&slack_row, slacks);
+    Swept::Spare(rows::spare_of(filled.largest))
 }

@@ -1,6 +1,6 @@
 -- Bounds on what the supports of tested points compute, and zeros beyond n: the loops run to six, the definitions to n.
 -- Assumes nothing.
-use mathlib.Core.Path.{_≡_, refl, sym, ap, ap₂, subst, _∙_}
+use mathlib.Core.Path.{_≡_, refl, sym, ap, ap₂, _∙_}
 use mathlib.Core.Bool.{Bool, true, false, cond}
 use mathlib.Core.List.{List}
 use Prim.Native.Nat.{ℕ, zero, suc, _+_, _*_, _-_, _≤_, _<_}
@@ -8,7 +8,7 @@ use native.Mathlib.Nat.{le-trans}
 use native.Mathlib.Omega.{arith}
 use lib.IntN.{ℤ, pos, natAbs, _+ℤ_, _*ℤ_, *ℤ-zero}
 use lib.Signed.{ltZ}
-use Rattle.integers.specs.Sums.{vector, sum, sumℕ, dot}
+use Rattle.integers.specs.Sums.{vector, dot}
 use Rattle.integers.proofs.Order.{natAbs-mul-le}
 use Rattle.integers.proofs.Sums.{sum-beyond, sumℕ-bound, sumℕ-cong, natAbs-sum, sum-cong}
 use Rattle.arrays.specs.Tests.{zeroOutside}

@@ -1,15 +1,15 @@
 -- What a set that passes the tests of number 11 is known to satisfy. Assumes nothing.
-use mathlib.Core.Path.{_≡_, refl, sym, ap, subst, _∙_}
-use mathlib.Core.Bool.{Bool, true, false, _&&_, _||_}
+use mathlib.Core.Path.{_≡_, sym, ap, subst}
+use mathlib.Core.Bool.{true, _&&_, _||_}
 use mathlib.Core.List.{List}
-use Prim.Native.Nat.{ℕ, zero, suc, _+_, _*_, _-_, _/_, _%_, _≤_, _<_, max}
+use Prim.Native.Nat.{ℕ, zero, suc, _+_, _*_, _-_, _/_, _%_, _≤_, _<_}
 use native.Mathlib.Nat.{le-trans}
 use native.Mathlib.Decide.{decLt}
 use native.Mathlib.Omega.{arith}
 use borrow.Author.Tests.{leb-true, eqb-true}
 use lib.Dec.{leb, ltb, eqb}
-use lib.IntN.{ℤ, pos, natAbs}
-use Rattle.integers.specs.Sums.{vector, matrix, sumℕ}
+use lib.IntN.{ℤ, natAbs}
+use Rattle.integers.specs.Sums.{vector}
 use Rattle.integers.proofs.Sums.{allBelow-at, le-maxℕ, le-sumℕ}
 use Rattle.arrays.specs.Tests.{zeroOutside}
 use Rattle.integers.proofs.Booleans.{and-true}
@@ -17,7 +17,7 @@ use Rattle.arrays.proofs.Tests.{zeroOutside-row}
 use Rattle.stepping.specs.Limits.{growthLimit}
 use Rattle.stepping.specs.Refusals.{dimensionOk}
 use Rattle.reachability.specs.Sets.{points, reachOf, reachLimit, countOk, orderedOk, reachOk, setOk, directionOk, valueOk, Member, supportOf}
-use Rattle.reachability.specs.SetsInner.{Counted, Tested, ReachSmall}
+use Rattle.reachability.specs.SetsInner.{Counted, ReachSmall}
 use Rattle.reachability.specs.declared.sets.Shape.{Shape}
 use Rattle.reachability.specs.declared.sets.Shape.the-variants.{Box, Zonotope, Vertices}
 use Rattle.reachability.proofs.sets.Laws.{SetLaws, set-laws}

@@ -6,14 +6,13 @@ use mathlib.Core.Bool.{Bool, true, false, cond}
 use Prim.Native.Nat.{ℕ, zero, suc, _+_, _*_, _-_, _≤_, _<_, max}
 use native.Mathlib.Nat.{le-refl, le-trans, mul-le-mul-left, mul-le-mul}
 use native.Mathlib.Omega.{arith}
-use lib.Dec.{T}
 use lib.IntN.{ℤ, pos, negsuc, negℤ, natAbs, _+ℤ_, _*ℤ_}
 use lib.Signed.{ltZ, leZ}
 use Rattle.integers.specs.Whole.{_⩽_}
 use Rattle.integers.specs.Sums.{sum, sumℕ, maxℕ, dot}
-use Rattle.integers.proofs.SignedParts.{v, #, neg, _⊕_, _⊗_, le!, eq!, le?, abs!, abs?, natAbs-parts}
-use Rattle.integers.proofs.Order.{⩽-refl, ⩽-of-eq, ⩽-trans, ⩽-add, ⩽-scale, ⩽-turn, ⩽-of-leZ, lt-of-ltZ, le-of-ltZ-false, ⩽-natAbs, natAbs-mul, natAbs-add}
-use Rattle.integers.proofs.Sums.{sum-cong, sum-scale, sum-⩽, sumℕ-le, sumℕ-scale, sumℕ-cong, natAbs-sum, pos-sumℕ, dot-add, dot-scale, dot-combination, dot-cong, le-maxℕ, unit, sumℕ-unit, sum-unit, allBelow-at}
+use Rattle.integers.proofs.SignedParts.{v, #, neg, _⊕_, _⊗_, le!, eq!, le?, abs!, natAbs-parts}
+use Rattle.integers.proofs.Order.{⩽-refl, ⩽-of-eq, ⩽-trans, ⩽-add, ⩽-scale, ⩽-turn, ⩽-of-leZ, lt-of-ltZ, le-of-ltZ-false, natAbs-mul, natAbs-add}
+use Rattle.integers.proofs.Sums.{sum-cong, sum-scale, sum-⩽, sumℕ-scale, natAbs-sum, pos-sumℕ, dot-add, dot-scale, dot-combination, dot-cong, le-maxℕ, unit, sumℕ-unit, sum-unit, allBelow-at}
 use Rattle.integers.proofs.Booleans.{and-true}
 use Rattle.reachability.specs.Sets.{supportOf, reachOf, largest, InBox, InZonotope, InHull, Member, orderedOk, countOk}
 use Rattle.reachability.specs.declared.sets.Shape.{Shape}

@@ -1,15 +1,14 @@
 -- The loop of a sweep, with no code in sight: what holds before each turn, that it holds at the start and after a turn, and what
 -- its two ends give. Assumes nothing.
-use mathlib.Core.Path.{_≡_, refl, sym, ap, ap₂, subst, _∙_}
-use mathlib.Core.Bool.{Bool, true, false, cond}
+use mathlib.Core.Path.{_≡_, sym, ap, ap₂, subst, _∙_}
+use mathlib.Core.Bool.{false}
 use mathlib.Core.List.{List}
 use Prim.Native.Nat.{ℕ, suc, _+_, _≤_, _<_, max, suc-le-suc}
-use native.Mathlib.Nat.{le-refl, le-trans, lt-of-le-of-lt}
+use native.Mathlib.Nat.{le-trans, lt-of-le-of-lt}
 use native.Mathlib.Numerals.{add-one}
 use native.Mathlib.Omega.{arith}
 use borrow.Author.Count.{below-none, below-more}
-use borrow.Author.Tests.{lt-ltb, le-ltb, le-leb, lt-leb}
-use lib.Dec.{leb}
+use borrow.Author.Tests.{lt-ltb, le-ltb}
 use lib.ListN.{length, set}
 use lib.IntN.{ℤ, pos}
 use Rattle.integers.specs.Sums.{vector, maxℕ}
@@ -22,7 +21,6 @@ use Rattle.reachability.specs.Recurrence.{sumAt, growsAt, growthStep, bo
 use Rattle.reachability.specs.SweepInner.{StepGives, Prepared, Fills, sumOf, reachesOf}
 use Rattle.reachability.specs.declared.sets.Shape.{Shape}
 use Rattle.reachability.specs.declared.model.Model.{Model}
-use Rattle.reachability.specs.declared.sweep.Filled.the-variants.{Largest, Grown}
 use Rattle.reachability.proofs.FirstPlace.{firstPlace-is, firstPlace-none}
 use Rattle.reachability.proofs.model.Facts.{ModelFacts}
 use Rattle.reachability.proofs.sweep.SweepStep.{BeforeStep, before-next, bound-is, slack-is, sum-next}
@@ -64,29 +62,28 @@ module _ (m : Model) (facts : ModelFacts m) (d : ℕ) {b₀ s₀ r e b s : List 
 
   -- ---- its two ends
 
-  pub grown-fills : k ≤ m .steps → growthLimit < sm → Fills m d (Grown k) b s
+  pub grown-fills : k ≤ m .steps → growthLimit < sm → Fills m d k most b s
   grown-fills inside grown =
       record {
-        answer = sym (ap₂ (λ (t : Bool) (j : ℕ). cond t (Grown j) (Largest (maxℕ (suc (m .steps)) (sumAt m d)))) growth-inside at-growth);
-        bounds = λ f. absurd (never f);
-        slacks = λ f. absurd (never f);
+        steps-are = sym at-growth;
+        largest-is = λ beyond. absurd (never beyond);
+        bounds = λ beyond. absurd (never beyond);
+        slacks = λ beyond. absurd (never beyond);
       }
     where
       at-growth : growthStep m d ≡ k
       at-growth = firstPlace-is (suc (m .steps)) (growsAt m d) k (suc-le-suc inside) (lt-ltb growthLimit (sumAt m d k) (subst (λ (x : ℕ). growthLimit < x) (so-far .sum-is) grown)) (so-far .calm)
 
-      growth-inside : leb (growthStep m d) (m .steps) ≡ true
-      growth-inside = le-leb _ _ (subst (λ (j : ℕ). j ≤ m .steps) (sym at-growth) inside)
+      never : m .steps < growthStep m d → ⊥
+      never beyond = omega (arith, at-growth, beyond, inside)
 
-      never : leb (growthStep m d) (m .steps) ≡ false → ⊥
-      never f = let z : _≡_ {A = ℕ} 0 1 = cc (growth-inside) in omega arith
-
-  pub whole-fills : m .steps < k → Fills m d (Largest most) b s
+  pub whole-fills : m .steps < k → Fills m d k most b s
   whole-fills h =
       record {
-        answer = ap Largest (so-far .most-is ∙ ap (λ (j : ℕ). maxℕ j (sumAt m d)) done) ∙ sym (ap (λ (t : Bool). cond t (Grown (growthStep m d)) (Largest (maxℕ (suc (m .steps)) (sumAt m d)))) beyond);
-        bounds = λ f j l. ap (λ (xs : List ℤ). vector xs j) (so-far .bounds-are) ∙ getD-filled (bound m d) k b₀ j (pos 0) (lt-of-le-of-lt l h);
-        slacks = λ f j l. ap (λ (xs : List ℤ). vector xs j) (so-far .slacks-are) ∙ getD-filled (λ i. pos (slack m d i)) k s₀ j (pos 0) (lt-of-le-of-lt l h);
+        steps-are = done ∙ sym none;
+        largest-is = λ beyond. so-far .most-is ∙ ap (λ (j : ℕ). maxℕ j (sumAt m d)) done;
+        bounds = λ beyond j l. ap (λ (xs : List ℤ). vector xs j) (so-far .bounds-are) ∙ getD-filled (bound m d) k b₀ j (pos 0) (lt-of-le-of-lt l h);
+        slacks = λ beyond j l. ap (λ (xs : List ℤ). vector xs j) (so-far .slacks-are) ∙ getD-filled (λ i. pos (slack m d i)) k s₀ j (pos 0) (lt-of-le-of-lt l h);
       }
     where
       done : k ≡ suc (m .steps)
@@ -94,9 +91,6 @@ module _ (m : Model) (facts : ModelFacts m) (d : ℕ) {b₀ s₀ r e b s : List 
 
       none : growthStep m d ≡ suc (m .steps)
       none = firstPlace-none (suc (m .steps)) (growsAt m d) (λ j l. so-far .calm j (subst (λ (x : ℕ). j < x) (sym done) l))
-
-      beyond : leb (growthStep m d) (m .steps) ≡ false
-      beyond = lt-leb _ _ (subst (λ (j : ℕ). m .steps < j) (sym none) (le-refl (suc (m .steps))))
 
 -- ---- what holds of the model's own arrays holds of what the code was handed
 

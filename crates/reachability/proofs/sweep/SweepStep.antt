@@ -3,13 +3,13 @@
 use mathlib.Core.Path.{_≡_, refl, sym, ap, ap₂, subst, _∙_}
 use mathlib.Core.Bool.{Bool, true, cond, _&&_}
 use mathlib.Core.List.{List}
-use Prim.Native.Nat.{ℕ, zero, suc, _+_, _*_, _≤_, _<_}
+use Prim.Native.Nat.{ℕ, zero, suc, _+_, _*_, _≤_}
 use native.Mathlib.Nat.{le-trans}
 use native.Mathlib.Numerals.{add-one}
 use native.Mathlib.Omega.{arith}
 use lib.Dec.{lit≤}
 use lib.IntN.{ℤ, pos, natAbs, _+ℤ_, _*ℤ_, *ℤ-zero}
-use Rattle.integers.specs.Sums.{vector, magnitudes, matrix, sum, sumℕ, tabulate}
+use Rattle.integers.specs.Sums.{vector, magnitudes, matrix, tabulate}
 use Rattle.integers.proofs.Sums.{sum-cong, sumℕ-cong, pos-sumℕ}
 use Rattle.integers.proofs.RunningSum.{RunningSum, running-start, running-more}
 use Rattle.stepping.specs.Limits.{directionUnit, growthLimit}

@@ -3,7 +3,6 @@ use crate::model::Model;
 use crate::sets::Shape;
 use crate::sets::reaches_of;
 use crate::sets::support_of;
-use crate::sweep::Filled;
 use crate::sweep::rounding::bound_and_slack;
 use stepping::Spare;
 use stepping::Stepped;
@@ -141,8 +140,14 @@ fn values_of(
     }
 }
 
-// Both rows for steps 0 to K, and the largest growth sum, or the first step with growth. The arrays are those of the model, r
-// and e the first working direction. Each step is passed 6 for n: it does the same, since what lies beyond n is zero, and has
+// What filling the rows gives: how many steps come before the first growth, K + 1 where there is none, and the largest growth sum
+// of those.
+pub(crate) struct Filled {
+    pub(crate) steps: usize,
+    pub(crate) largest: u64,
+}
+
+// Both rows for the steps before growth. The arrays are those of the model, r and e the first working direction. Each step is passed 6 for n: it does the same, since what lies beyond n is zero, and has
 // no zeros to test.
 fn fill_rows(
     model: Model,
@@ -164,7 +169,7 @@ fn fill_rows(
 ) -> Filled
     requires { ⌜ FillAsks model direction (now bounds) (now slacks) ⌝ }
     requires { ⌜ Prepared model direction n (now matrix) «initial_shape» «initial_count» (now «initial_points») (now «initial_reaches») «input_shape» «input_count» (now «input_points») (now «input_reaches») (now r) (now e) ⌝ }
-    ensures { λ a. ⌜ Fills model direction a (now (bounds .exit)) (now (slacks .exit)) ⌝ }
+    ensures { λ a. ⌜ Fills model direction (a .steps) (a .largest) (now (bounds .exit)) (now (slacks .exit)) ⌝ }
 {
     let mut sum = sum_of(stepping::growth(n, r, e));
     let mut most: u64 = 0;
@@ -173,7 +178,10 @@ fn fill_rows(
     let mut k: usize = 0;
     while k <= model.steps {
         if 1073741824 < sum {
-            return Filled::Grown(k);
+            return Filled {
+                steps: k,
+                largest: most,
+            };
         }
         let values = values_of(
             initial_shape,
@@ -199,10 +207,13 @@ fn fill_rows(
         sum = sum_of(stepping::step(6, matrix, r, e));
         k += 1;
     }
-    Filled::Largest(most)
+    Filled {
+        steps: k,
+        largest: most,
+    }
 }
 
-// Bounds and slacks of the direction for steps 0 to K in the rows, and the largest growth sum, or the first step with growth.
+// Bounds and slacks of the direction in the rows, for the steps before growth.
 // Every loop below runs to six coordinates, the sets are not tested again, and the reaches are taken once.
 pub(crate) fn fill(
     model: Model,
@@ -211,7 +222,7 @@ pub(crate) fn fill(
     slacks: &mut [i64; 257],
 ) -> Filled
     requires { ⌜ FillAsks model direction (now bounds) (now slacks) ⌝ }
-    ensures { λ a. ⌜ Fills model direction a (now (bounds .exit)) (now (slacks .exit)) ⌝ }
+    ensures { λ a. ⌜ Fills model direction (a .steps) (a .largest) (now (bounds .exit)) (now (slacks .exit)) ⌝ }
 {
     let matrix = model.matrix;
     let initial = model.initial;
@@ -256,7 +267,8 @@ pub(crate) fn copy(row: &[i64; 257], out: &mut [i64])
 {
     let mut k: usize = 0;
     while k < out.len() {
-        out[k] = row[k];
+        let value = row[k];
+        out[k] = value;
         k += 1;
     }
 }

@@ -1,6 +1,6 @@
 -- `reachability::sets::corners_ordered` meets its contract: the test holds of every coordinate passed. The measure is what is left of
 -- n. Assumes nothing.
-use Rattle.integers.proofs.Basics.{_≡_, sym, ap, ap₂, _∙_, Bool, true, false, ℕ, _+_, _-_, arith, ℤ, w32, toZ, ofZ}
+use Rattle.integers.proofs.Basics.{_≡_, sym, ap, ap₂, _∙_, Bool, ℕ, _+_, _-_, arith, ℤ, w32, toZ, ofZ}
 use mathlib.Core.List.{List}
 use native.Mathlib.Nat.{zero-add}
 use borrow.Author.Tests.{lt-leb, le-leb}

@@ -1,12 +1,12 @@
 -- `reachability::sets::reach` meets its contract. Assumes nothing.
-use Rattle.integers.proofs.Basics.{_≡_, sym, ap, _∙_, Bool, true, needs, set, pos}
+use Rattle.integers.proofs.Basics.{_≡_, sym, ap, _∙_, Bool, true, needs, pos}
 use mathlib.Core.Bool.{cond, _&&_}
 use borrow.Author.Tests.{not-true, not-false}
 use Rattle.integers.proofs.Booleans.{and-true}
 use Rattle.stepping.specs.Refusals.{dimensionOk}
 use Rattle.integers.specs.Sums.{tabulate}
 use Rattle.reachability.specs.Sets.{setOk, reachOf, points}
-use Rattle.reachability.proofs.sets.Facts.{SetFacts, set-facts}
+use Rattle.reachability.proofs.sets.Facts.{set-facts}
 use Rattle.reachability.proofs.sets.reach.Statement.{statement}
 use Rattle.reachability.proofs.sets.reach.Tie as tie
 

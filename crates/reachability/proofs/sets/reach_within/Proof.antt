@@ -1,6 +1,6 @@
 -- `reachability::sets::reach_within` meets its contract: the test holds of every coordinate passed. The measure is what is left of
 -- six. Assumes nothing.
-use Rattle.integers.proofs.Basics.{_≡_, subst, Bool, ℕ, _-_, _≤_, _<_, arith, ℤ}
+use Rattle.integers.proofs.Basics.{subst, Bool, ℕ, _-_, _≤_, _<_, arith, ℤ}
 use mathlib.Core.List.{List}
 use borrow.Author.Tests.{lt-leb, le-leb}
 use lib.Dec.{leb}

@@ -1,7 +1,7 @@
 -- `reachability::sets::support` meets its contract: a set and a direction that pass are within what the inner support asks, and its
 -- sums to six are those to n. Assumes nothing.
-use Rattle.integers.proofs.Basics.{_≡_, refl, sym, ap, _∙_, Bool, true, false, ℕ, ℤ, arith, needs, set, w64}
-use mathlib.Core.Bool.{cond, _&&_}
+use Rattle.integers.proofs.Basics.{_≡_, refl, sym, ap, _∙_, Bool, true, false, ℕ, ℤ, arith, needs, w64}
+use mathlib.Core.Bool.{_&&_}
 use mathlib.Core.List.{List}
 use borrow.Author.Tests.{not-true, not-false}
 use Rattle.integers.specs.Sums.{vector}

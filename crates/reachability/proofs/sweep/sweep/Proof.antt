@@ -1,20 +1,17 @@
 -- `reachability::sweep::sweep` meets its contract: each test that fails gives its refusal with both lists kept; a sweep that refuses
 -- nothing has copied the rows, which are accurate. Assumes nothing.
-use Rattle.integers.proofs.Basics.{_≡_, refl, sym, ap, ap₂, subst, _∙_, Bool, true, false, ℕ, suc, _+_, _≤_, _<_, arith, needs, length, ℤ}
-use mathlib.Core.Bool.{cond}
+use Rattle.integers.proofs.Basics.{_≡_, refl, sym, ap, subst, _∙_, true, ℕ, suc, _+_, _≤_, _<_, arith, needs, length, ℤ}
 use mathlib.Core.List.{List}
 use borrow.Author.Tests.{not-true, not-false}
-use lib.Dec.{leb}
 use Rattle.integers.specs.Sums.{maxℕ}
+use Rattle.stepping.specs.Limits.{growthLimit}
 use Rattle.stepping.specs.Recurrence.{spare}
 use Rattle.reachability.specs.Limits.{accepted}
 use Rattle.reachability.specs.Recurrence.{sumAt, growthStep, spareFigure}
-use Rattle.reachability.specs.Answers.{sweepAnswer}
 use Rattle.reachability.specs.declared.model.Model.{Model}
-use Rattle.reachability.specs.declared.sweep.Swept.{Swept}
 use Rattle.reachability.specs.declared.sweep.Swept.the-variants.{Spare, Invalid, NoDirection, WrongLength, Growth}
 use Rattle.reachability.proofs.model.Facts.{ModelFacts, model-facts}
-use Rattle.reachability.proofs.sweep.Answers.{answer-invalid, answer-no-direction, answer-wrong-bounds, answer-wrong-slacks, answer-finished, refuses, grown-only, largest-only, largest-most, largest-least, sweeps}
+use Rattle.reachability.proofs.sweep.Answers.{answer-invalid, answer-no-direction, answer-wrong-bounds, answer-wrong-slacks, answer-growth, answer-spare, refuses, largest-most, largest-least, sweeps}
 use Rattle.reachability.proofs.sweep.sweep.Statement.{statement}
 use Rattle.reachability.proofs.sweep.sweep.Tie as tie
 
@@ -89,55 +86,51 @@ module _ (c : tie.Else4) where
   long-s : length (s₀ at) ≡ m at .steps + 1
   long-s = c .if4 .left
 
-  finished : sweepAnswer (m at) (d at) (length (b₀ at)) (length (s₀ at)) ≡ cond (leb (growthStep (m at) (d at)) (m at .steps)) (Growth (growthStep (m at) (d at))) (Spare (spareFigure (m at) (d at)))
-  finished = answer-finished (m at) (d at) _ _ (ok at) inside long-b long-s
-
 fill-requires : tie.Need-fill-requires
 fill-requires c κs =
     let tested = c .before .before .before .before in
     record { accepts = ok (at tested); inside = inside tested; bounds-long = c .before .before .before .blank .ensures; slacks-long = c .before .before .blank2 .ensures }
 
-enum-known-k : tie.Need-enum-known-k
-enum-known-k c = search needs
-
-enum-known-sum : tie.Need-enum-known-sum
-enum-known-sum c = search needs
+returns-5 : tie.Need-returns-5
+returns-5 c =
+    let t = c .before .before .before .before .before .before .before in
+    let filled = c .before .before .fill in
+    let grown : filled .result .steps ≤ m (at t) .steps = omega (arith, c .if5 .taken) in
+    let answer = ap Growth (filled .ensures .steps-are) ∙ answer-growth (m (at t)) (d (at t)) _ _ (ok (at t)) (inside t) (long-b t) (long-s t) (subst (λ (g : ℕ). g ≤ m (at t) .steps) (filled .ensures .steps-are) grown) in
+    refuses (m (at t)) (d (at t)) (b₀ (at t)) (s₀ (at t)) (Growth (filled .result .steps)) 13 refl answer
 
 -- a list is at most as long as a row
 short : (c : tie.Else4) → m (at c) .steps + 1 ≤ 257
 short c = omega (arith, facts (at c) .steps-most)
 
+-- no step has growth
+module _ (c : tie.Else5) where
+  abbrev tested : tie.Else4
+  tested = c .before .before .before .before .before .before .before
+
+  calm : m (at tested) .steps < growthStep (m (at tested)) (d (at tested))
+  calm =
+      let whole : m (at tested) .steps < c .before .before .fill .result .steps = omega (arith, c .if5 .left) in
+      subst (λ (g : ℕ). m (at tested) .steps < g) (c .before .before .fill .ensures .steps-are) whole
+
+  largest-is : c .before .before .fill .result .largest ≡ maxℕ (suc (m (at tested) .steps)) (sumAt (m (at tested)) (d (at tested)))
+  largest-is = c .before .before .fill .ensures .largest-is calm
+
 copy-requires : tie.Need-copy-requires
 copy-requires c κs =
-    let tested = c .before .before .before .before .before .before .before .before .before .before in
-    subst (λ (k : ℕ). k ≤ 257) (sym (long-b tested)) (short tested)
+    let t = tested (c .before .before) in
+    subst (λ (k : ℕ). k ≤ 257) (sym (long-b t)) (short t)
 
 copy-requires-2 : tie.Need-copy-requires-2
 copy-requires-2 c κs =
-    let tested = c .before .before .before .before .before .before .before .before .before .before .before .before .before .before in
-    subst (λ (k : ℕ). k ≤ 257) (sym (long-s tested)) (short tested)
-
--- after the rows are filled, with no growth
-module _ (c : tie.After-known-told2) where
-  abbrev tested : tie.Else4
-  tested = c .before .before .before .before .before .before .before .before
-
-  calm : (leb (growthStep (m (at tested)) (d (at tested))) (m (at tested) .steps) ≡ false) × (c .before .sum .given .0 .0 ≡ maxℕ (suc (m (at tested) .steps)) (sumAt (m (at tested)) (d (at tested))))
-  calm = largest-only (m (at tested)) (d (at tested)) (c .before .sum .given .0 .0) (c .before .before .before .fill .result) (c .before .sum .given .1) (c .before .before .before .fill .ensures .answer)
+    let t = tested (c .before .before .before .before .before .before) in
+    subst (λ (k : ℕ). k ≤ 257) (sym (long-s t)) (short t)
 
 spare-of-requires : tie.Need-spare-of-requires
 spare-of-requires c κs =
-    let told = c .before .before .before .before .before .before .before .before in
-    let t = tested told in
-    (subst (λ (x : ℕ). 1 ≤ x) (sym (calm told .1)) (largest-least (m (at t)) (facts (at t)) (d (at t)) (inside t)), subst (λ (x : ℕ). x ≤ 1073741824) (sym (calm told .1)) (largest-most (m (at t)) (facts (at t)) (d (at t)) (inside t) (calm told .0)))
-
-returns-5 : tie.Need-returns-5
-returns-5 c =
-    let at-fill = c .before .before .before in
-    let t = at-fill .before .before .before .before .before in
-    let grown = grown-only (m (at t)) (d (at t)) (c .before .k .given .0 .0) (at-fill .fill .result) (c .before .k .given .1) (at-fill .fill .ensures .answer) in
-    let answer = ap₂ (λ (x : Bool) (g : ℕ). cond x (Growth g) (Spare (spareFigure (m (at t)) (d (at t))))) (sym (grown .0)) (grown .1) ∙ sym (finished t) in
-    refuses (m (at t)) (d (at t)) (b₀ (at t)) (s₀ (at t)) (Growth (c .before .k .given .0 .0)) 13 refl answer
+    let b = c .before .before .before .before .before .before .before .before in
+    let t = tested b in
+    (subst (λ (x : ℕ). 1 ≤ x) (sym (largest-is b)) (largest-least (m (at t)) (facts (at t)) (d (at t)) (inside t)), subst (λ (x : ℕ). x ≤ growthLimit) (sym (largest-is b)) (largest-most (m (at t)) (facts (at t)) (d (at t)) (inside t) (calm b)))
 
 same-length : tie.Need-same-length
 same-length c = search needs
@@ -147,13 +140,10 @@ same-length-2 c = search needs
 
 returns-6 : tie.Need-returns-6
 returns-6 c =
-    let told = c .before .before .before .before .before .before .before .before .before in
-    let t = tested told in
-    let copied-s = c .before .before .copy2 in
-    let copied-b = c .before .before .before .before .before .before .copy in
-    let spare-is : Spare (c .spare-of .result) ≡ Spare (spareFigure (m (at t)) (d (at t))) = ap Spare (c .spare-of .ensures ∙ ap spare (calm told .1)) in
-    let answer = spare-is ∙ sym (ap (λ (x : Bool). cond x (Growth (growthStep (m (at t)) (d (at t)))) (Spare (spareFigure (m (at t)) (d (at t))))) (calm told .0)) ∙ sym (finished t) in
-    sweeps (m (at t)) (facts (at t)) (d (at t)) (b₀ (at t)) (s₀ (at t)) _ _ _ _ (Spare (c .spare-of .result)) (told .before .before .before .fill .result) (told .before .before .before .fill .ensures) (calm told .0) (long-b t) (long-s t) (copied-b .ensures) (copied-s .ensures) spare-is answer
+    let b = c .before .before .before .before .before .before .before .before .before in
+    let t = tested b in
+    let spare-is : Spare (c .spare-of .result) ≡ Spare (spareFigure (m (at t)) (d (at t))) = ap Spare (c .spare-of .ensures ∙ ap spare (largest-is b)) in
+    sweeps (m (at t)) (facts (at t)) (d (at t)) (b₀ (at t)) (s₀ (at t)) _ _ (Spare (c .spare-of .result)) (b .before .before .fill .ensures) (calm b) (long-b t) (long-s t) (c .before .before .before .before .before .before .copy .ensures) (c .before .before .copy2 .ensures) spare-is (spare-is ∙ answer-spare (m (at t)) (d (at t)) _ _ (ok (at t)) (inside t) (long-b t) (long-s t) (calm b))
 
 pub sweep-spec : {M : Type 1} → statement M
 sweep-spec =
@@ -168,12 +158,10 @@ sweep-spec =
     blank-requires
     blank-requires-2
     fill-requires
-    enum-known-k
-    enum-known-sum
+    returns-5
     copy-requires
     copy-requires-2
     spare-of-requires
-    returns-5
     same-length
     same-length-2
     returns-6)

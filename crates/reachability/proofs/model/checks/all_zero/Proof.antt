@@ -1,11 +1,10 @@
 -- `reachability::model::checks::all_zero` meets its contract: the test holds of every entry passed. The measure is what is left of
 -- six. Assumes nothing.
-use Rattle.integers.proofs.Basics.{_≡_, sym, Bool, true, ℕ, _-_, _<_, arith, ℤ, natAbs, w32}
+use Rattle.integers.proofs.Basics.{sym, Bool, ℕ, _-_, arith, ℤ, natAbs, w32}
 use mathlib.Core.List.{List}
-use borrow.Author.Count.{below-none, below-more}
 use lib.Dec.{eqb}
 use Rattle.integers.specs.Sums.{matrix}
-use Rattle.integers.proofs.Sums.{allBelow-intro, allBelow-fails}
+use Rattle.integers.proofs.EarlyReturn.{PassedSoFar, passed-none, passed-more, passed-fails, passed-all}
 use Rattle.integers.proofs.Machine.{eqb-of-bits-zero, eqb-of-bits-nonzero}
 use Rattle.reachability.proofs.model.checks.all_zero.Statement.{statement}
 use Rattle.reachability.proofs.model.checks.all_zero.Tie as tie
@@ -14,13 +13,13 @@ abbrev zeroAt : List ℤ → ℕ → ℕ → Bool
 zeroAt xs k i = eqb (natAbs (matrix xs k i)) 0
 
 abbrev Inv-loop : tie.InvT-loop
-Inv-loop entries k i₀ i = (j : ℕ) → j < i → zeroAt entries k j ≡ true
+Inv-loop entries k i₀ i = PassedSoFar 6 (zeroAt entries k) i
 
 abbrev μ-loop : tie.MeasureT-loop
 μ-loop entries k i₀ i = 6 - i
 
 loop-holds : tie.Need-loop-holds Inv-loop μ-loop
-loop-holds c = below-none (λ j. zeroAt (c .args .entries .now) (c .args .k) j ≡ true)
+loop-holds c = passed-none 6 (zeroAt (c .args .entries .now) (c .args .k))
 
 mul-if1 : tie.Need-mul-if1 Inv-loop μ-loop
 mul-if1 c = omega (arith, c .before .before .pre)
@@ -38,7 +37,7 @@ returns : tie.Need-returns Inv-loop μ-loop
 returns c =
     let at-loop = c .before .before .before in
     let a = at-loop .before .args in
-    sym (allBelow-fails 6 (zeroAt (a .entries .now) (a .k)) (at-loop .loop .i) (omega arith) (eqb-of-bits-nonzero w32 (matrix (a .entries .now) (a .k) (at-loop .loop .i)) (c .if1 .taken)))
+    sym (passed-fails (at-loop .loop .inv) (c .before .before .loop-test .taken) (eqb-of-bits-nonzero w32 (matrix (a .entries .now) (a .k) (at-loop .loop .i)) (c .if1 .taken)))
 
 add-i : tie.Need-add-i Inv-loop μ-loop
 add-i c = omega arith
@@ -50,12 +49,10 @@ loop-again : tie.Need-loop-again Inv-loop μ-loop
 loop-again c =
     let at-loop = c .before .before .before in
     let a = at-loop .before .args in
-    below-more (λ j. zeroAt (a .entries .now) (a .k) j ≡ true) (at-loop .loop .i) (at-loop .loop .inv) (eqb-of-bits-zero w32 {z = matrix (a .entries .now) (a .k) (at-loop .loop .i)} (record { sfits = c .before .if12 .given }) (c .if1 .left))
+    passed-more (at-loop .loop .inv) (c .before .before .loop-test .taken) (eqb-of-bits-zero w32 {z = matrix (a .entries .now) (a .k) (at-loop .loop .i)} (record { sfits = c .before .if12 .given }) (c .if1 .left))
 
 returns-2 : tie.Need-returns-2 Inv-loop μ-loop
-returns-2 c =
-    let a = c .before .before .args in
-    sym (allBelow-intro 6 (zeroAt (a .entries .now) (a .k)) (λ j h. c .before .loop .inv j (omega arith)))
+returns-2 c = sym (passed-all (c .before .loop .inv) (c .loop-test .left))
 
 pub all-zero-spec : {M : Type 1} → statement M
 all-zero-spec =

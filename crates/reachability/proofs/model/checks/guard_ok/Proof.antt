@@ -1,7 +1,6 @@
 -- `reachability::model::checks::guard_ok` meets its contract, test by test. Assumes nothing.
 use Rattle.integers.proofs.Basics.{w64}
 use borrow.Author.Tests.{lt-ltb, le-ltb, eq-eqb, ne-eqb}
-use lib.Dec.{eqb}
 use Rattle.integers.proofs.Machine.{eqb-of-bits}
 use Rattle.reachability.proofs.model.checks.guard_ok.Statement.{statement}
 use Rattle.reachability.proofs.model.checks.guard_ok.Tie as tie

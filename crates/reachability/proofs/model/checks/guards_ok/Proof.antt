@@ -1,12 +1,10 @@
 -- `reachability::model::checks::guards_ok` meets its contract: the test holds of every guard passed. The measure is what is left of
 -- sixteen. Assumes nothing.
-use Rattle.integers.proofs.Basics.{_≡_, sym, ap, _∙_, Bool, true, ℕ, _-_, _<_, arith, needs, getD, ℤ, w64}
-use mathlib.Core.Bool.{_&&_}
+use Rattle.integers.proofs.Basics.{_≡_, sym, ap, _∙_, Bool, ℕ, _-_, arith, needs, getD, ℤ, w64}
 use mathlib.Core.List.{List}
-use borrow.Author.Count.{below-none, below-more}
 use borrow.Author.Tests.{lt-leb, le-leb, not-true, not-false}
 use Rattle.integers.specs.Sums.{vector}
-use Rattle.integers.proofs.Sums.{allBelow-intro, allBelow-fails}
+use Rattle.integers.proofs.EarlyReturn.{PassedSoFar, passed-none, passed-more, passed-fails, passed-all}
 use Rattle.integers.proofs.Machine.{read-given}
 use Rattle.reachability.specs.Limits.{guardOk}
 use Rattle.reachability.proofs.model.checks.guards_ok.Statement.{statement}
@@ -16,7 +14,7 @@ abbrev guardAt : ℕ → ℕ → List ℕ → List ℤ → ℕ → Bool
 guardAt directions guards watched levels g = guardOk directions guards g (getD watched g 0) (vector levels g)
 
 abbrev Inv-loop : tie.InvT-loop
-Inv-loop directions guards watched levels g₀ g = (j : ℕ) → j < g → guardAt directions guards watched levels j ≡ true
+Inv-loop directions guards watched levels g₀ g = PassedSoFar 16 (guardAt directions guards watched levels) g
 
 abbrev μ-loop : tie.MeasureT-loop
 μ-loop directions guards watched levels g₀ g = 16 - g
@@ -25,7 +23,7 @@ returns : tie.Need-returns Inv-loop μ-loop
 returns c = simp (lt-leb _ _ (c .if1 .taken))
 
 loop-holds : tie.Need-loop-holds Inv-loop μ-loop
-loop-holds c = below-none (λ j. guardAt (c .before .args .directions) (c .before .args .guards) (c .before .args .watched .now) (c .before .args .levels .now) j ≡ true)
+loop-holds c = passed-none 16 (guardAt (c .before .args .directions) (c .before .args .guards) (c .before .args .watched .now) (c .before .args .levels .now))
 
 mul-guard-ok : tie.Need-mul-guard-ok Inv-loop μ-loop
 mul-guard-ok c = omega arith
@@ -59,7 +57,7 @@ returns-2 : tie.Need-returns-2 Inv-loop μ-loop
 returns-2 c =
     let b = c .before in
     let few = le-leb _ _ (b .before .before .before .before .before .if1 .left) in
-    simp (few, allBelow-fails 16 (f b) (g b) (omega arith) (sym (guard-is b) ∙ not-true _ (c .if2 .taken)))
+    simp (few, passed-fails (b .before .before .before .before .loop .inv) (b .before .before .before .loop-test .taken) (sym (guard-is b) ∙ not-true _ (c .if2 .taken)))
 
 add-g : tie.Need-add-g Inv-loop μ-loop
 add-g c = omega arith
@@ -70,13 +68,11 @@ loop-less c = omega arith
 loop-again : tie.Need-loop-again Inv-loop μ-loop
 loop-again c =
     let b = c .before in
-    below-more (λ j. f b j ≡ true) (g b) (b .before .before .before .before .loop .inv) (sym (guard-is b) ∙ not-false _ (c .if2 .left))
+    passed-more (b .before .before .before .before .loop .inv) (b .before .before .before .loop-test .taken) (sym (guard-is b) ∙ not-false _ (c .if2 .left))
 
 returns-3 : tie.Need-returns-3 Inv-loop μ-loop
 returns-3 c =
-    let a = c .before .before .before .args in
-    let few = le-leb _ _ (c .before .before .if1 .left) in
-    simp (few, allBelow-intro 16 (guardAt (a .directions) (a .guards) (a .watched .now) (a .levels .now)) (λ j h. c .before .loop .inv j (omega arith)))
+    simp (le-leb _ _ (c .before .before .if1 .left), passed-all (c .before .loop .inv) (c .loop-test .left))
 
 pub guards-ok-spec : {M : Type 1} → statement M
 guards-ok-spec =

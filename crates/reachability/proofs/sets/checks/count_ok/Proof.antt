@@ -1,9 +1,6 @@
 -- `reachability::sets::checks::count_ok` meets its contract, shape by shape. Assumes nothing.
 use Rattle.integers.proofs.Basics.{needs}
 use borrow.Author.Tests.{lt-leb, le-leb}
-use lib.Dec.{leb, eqb}
-use Rattle.reachability.specs.Sets.{countOk}
-use Rattle.reachability.specs.declared.sets.Shape.the-variants.{Box, Zonotope, Vertices}
 use Rattle.reachability.proofs.sets.checks.count_ok.Statement.{statement}
 use Rattle.reachability.proofs.sets.checks.count_ok.Tie as tie
 

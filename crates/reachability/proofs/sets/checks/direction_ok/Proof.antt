@@ -1,11 +1,10 @@
 -- `reachability::sets::checks::direction_ok` meets its contract: the test holds of every value passed. The measure is what is left of
 -- six. Assumes nothing.
-use Rattle.integers.proofs.Basics.{_≡_, sym, ap, _∙_, Bool, true, ℕ, _-_, _<_, arith, needs, ℤ, w64}
+use Rattle.integers.proofs.Basics.{_≡_, sym, ap, _∙_, Bool, ℕ, _-_, arith, needs, ℤ, w64}
 use mathlib.Core.List.{List}
-use borrow.Author.Count.{below-none, below-more}
 use borrow.Author.Tests.{not-true, not-false}
 use Rattle.integers.specs.Sums.{vector}
-use Rattle.integers.proofs.Sums.{allBelow-intro, allBelow-fails}
+use Rattle.integers.proofs.EarlyReturn.{PassedSoFar, passed-none, passed-more, passed-fails, passed-all}
 use Rattle.integers.proofs.Machine.{read-given}
 use Rattle.reachability.specs.Sets.{valueOk}
 use Rattle.reachability.proofs.sets.checks.direction_ok.Statement.{statement}
@@ -15,13 +14,13 @@ abbrev valueAt : ℕ → List ℤ → ℕ → Bool
 valueAt n r i = valueOk n i (vector r i)
 
 abbrev Inv-loop : tie.InvT-loop
-Inv-loop n r i₀ i = (j : ℕ) → j < i → valueAt n r j ≡ true
+Inv-loop n r i₀ i = PassedSoFar 6 (valueAt n r) i
 
 abbrev μ-loop : tie.MeasureT-loop
 μ-loop n r i₀ i = 6 - i
 
 loop-holds : tie.Need-loop-holds Inv-loop μ-loop
-loop-holds c = below-none (λ j. valueAt (c .args .n) (c .args .r .now) j ≡ true)
+loop-holds c = passed-none 6 (valueAt (c .args .n) (c .args .r .now))
 
 mul-value-ok : tie.Need-mul-value-ok Inv-loop μ-loop
 mul-value-ok c = omega arith
@@ -48,7 +47,7 @@ module _ (c : tie.After-value-ok Inv-loop μ-loop) where
 returns : tie.Need-returns Inv-loop μ-loop
 returns c =
     let b = c .before in
-    sym (allBelow-fails 6 (f b) (i b) (omega arith) (sym (value-is b) ∙ not-true _ (c .if1 .taken)))
+    sym (passed-fails (b .before .before .before .loop .inv) (b .before .before .loop-test .taken) (sym (value-is b) ∙ not-true _ (c .if1 .taken)))
 
 add-i : tie.Need-add-i Inv-loop μ-loop
 add-i c = omega arith
@@ -59,12 +58,10 @@ loop-less c = omega arith
 loop-again : tie.Need-loop-again Inv-loop μ-loop
 loop-again c =
     let b = c .before in
-    below-more (λ j. f b j ≡ true) (i b) (b .before .before .before .loop .inv) (sym (value-is b) ∙ not-false _ (c .if1 .left))
+    passed-more (b .before .before .before .loop .inv) (b .before .before .loop-test .taken) (sym (value-is b) ∙ not-false _ (c .if1 .left))
 
 returns-2 : tie.Need-returns-2 Inv-loop μ-loop
-returns-2 c =
-    let a = c .before .before .args in
-    sym (allBelow-intro 6 (valueAt (a .n) (a .r .now)) (λ j h. c .before .loop .inv j (omega arith)))
+returns-2 c = sym (passed-all (c .before .loop .inv) (c .loop-test .left))
 
 pub direction-ok-spec : {M : Type 1} → statement M
 direction-ok-spec =

@@ -1,8 +1,8 @@
 -- `reachability::sets::checks::value_ok` meets its contract, test by test. Assumes nothing.
 use Rattle.integers.proofs.Basics.{_≡_, ap, subst, _∙_, true, ℕ, _≤_, _<_, needs, natAbs, toZ-ofZ}
-use mathlib.Core.Bool.{_&&_, _||_}
 use borrow.Author.Tests.{lt-leb, le-leb, lt-ltb, le-ltb}
-use lib.Dec.{leb, ltb, eqb}
+use lib.Dec.{leb, eqb}
+use Rattle.stepping.specs.Limits.{growthLimit}
 use Rattle.reachability.proofs.sets.checks.value_ok.Statement.{statement}
 use Rattle.reachability.proofs.sets.checks.value_ok.Tie as tie
 
@@ -13,10 +13,10 @@ is : (c : tie.After-magnitude) → c .magnitude .result ≡ natAbs (c .before .a
 is c = c .magnitude .ensures ∙ ap natAbs (toZ-ofZ (c .before .fits .x))
 
 returns : tie.Need-returns
-returns c = simp (lt-leb _ _ (subst (λ (m : ℕ). 1073741824 < m) (is (c .before)) (c .if1 .taken)))
+returns c = simp (lt-leb _ _ (subst (λ (m : ℕ). growthLimit < m) (is (c .before)) (c .if1 .taken)))
 
-small : (c : tie.Else1) → leb (natAbs (c .before .before .args .x)) 1073741824 ≡ true
-small c = le-leb _ _ (subst (λ (m : ℕ). m ≤ 1073741824) (is (c .before)) (c .if1 .left))
+small : (c : tie.Else1) → leb (natAbs (c .before .before .args .x)) growthLimit ≡ true
+small c = le-leb _ _ (subst (λ (m : ℕ). m ≤ growthLimit) (is (c .before)) (c .if1 .left))
 
 returns-2 : tie.Need-returns-2
 returns-2 c = simp (small (c .before), le-ltb _ _ (c .if2 .taken)) (ap (λ (m : ℕ). eqb m 0) (is (c .before .before)))

@@ -4,7 +4,7 @@ use Rattle.integers.proofs.Basics.{_≡_, ap, ap₂, _∙_, ℕ, suc, _-_, arit
 use Prim.Native.Nat.{max}
 use Rattle.integers.specs.Sums.{sumℕ}
 use Rattle.integers.proofs.Sums.{sumℕ-first}
-use Rattle.reachability.specs.Sets.{reachOf, points as pointsOf}
+use Rattle.reachability.specs.Sets.{points as pointsOf}
 use Rattle.reachability.proofs.sets.reaches.reach_at.Statement.{statement}
 use Rattle.reachability.proofs.sets.reaches.reach_at.Tie as tie
 

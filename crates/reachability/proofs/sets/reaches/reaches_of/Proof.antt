@@ -4,7 +4,7 @@ use Rattle.integers.proofs.Basics.{_≡_, refl, sym, ap, ap₂, subst, _∙_, �
 use mathlib.Core.List.{List}
 use mir.Facts.{toZ-pos}
 use Rattle.integers.proofs.Machine.{filled, filled-none, filled-more, filled-all}
-use Rattle.reachability.specs.Sets.{reachOf, points as pointsOf}
+use Rattle.reachability.specs.Sets.{reachOf, reachLimit, points as pointsOf}
 use Rattle.reachability.specs.declared.sets.Shape.{Shape}
 use Rattle.reachability.proofs.sets.reaches.reaches_of.Statement.{statement}
 use Rattle.reachability.proofs.sets.reaches.reaches_of.Tie as tie
@@ -24,9 +24,9 @@ loop-holds c = (omega arith, sym (filled-none (reachAt (c .args .shape) (c .args
 reach-at-requires : tie.Need-reach-at-requires Inv-loop μ-loop
 reach-at-requires c κs = (c .before .before .pre .0, c .loop-test .taken)
 
-small : (c : tie.After-reach-at Inv-loop μ-loop) → c .reach-at .result ≤ 1048576
+small : (c : tie.After-reach-at Inv-loop μ-loop) → c .reach-at .result ≤ reachLimit
 small c =
-    subst (λ (k : ℕ). k ≤ 1048576) (sym (c .reach-at .ensures)) (c .before .before .before .pre .1 .small (c .before .before .loop .i) (c .before .loop-test .taken))
+    subst (λ (k : ℕ). k ≤ reachLimit) (sym (c .reach-at .ensures)) (c .before .before .before .pre .1 .small (c .before .before .loop .i) (c .before .loop-test .taken))
 
 cast-reaches : tie.Need-cast-reaches Inv-loop μ-loop
 cast-reaches c = record { sfits = omega (arith, small c) }

@@ -1,6 +1,6 @@
 -- `reachability::sets::reaches::sum_of_sizes` meets its contract: `sum` is the running sum of the magnitudes. The measure is what is
 -- left of the count. Assumes nothing.
-use Rattle.integers.proofs.Basics.{ap, ap₂, subst, ℕ, _+_, _-_, _≤_, arith, ℤ, pos, natAbs}
+use Rattle.integers.proofs.Basics.{ap, subst, ℕ, _+_, _-_, _≤_, arith, ℤ, pos, natAbs}
 use mathlib.Core.List.{List}
 use Rattle.integers.proofs.RunningSum.{RunningSum, running-start, running-more, running-doneℕ}
 use Rattle.reachability.specs.Sets.{points as pointsOf}

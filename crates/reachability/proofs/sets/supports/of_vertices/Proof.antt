@@ -1,6 +1,6 @@
 -- `reachability::sets::supports::of_vertices` meets its contract: `most` is the support of the points passed. The measure is what is
 -- left of the count. Assumes nothing.
-use Rattle.integers.proofs.Basics.{sym, ap₂, _∙_, _+_, _-_, _≤_, arith, needs, ℤ, w64, toZ}
+use Rattle.integers.proofs.Basics.{sym, ap₂, _∙_, _-_, arith, needs, ℤ, w64, toZ}
 use mathlib.Core.Bool.{cond}
 use lib.Signed.{ltZ}
 use Rattle.integers.specs.Sums.{vector}

@@ -7,13 +7,13 @@ use Rattle.integers.proofs.Machine.{filled, filled-none, filled-more, filled-al
 use Rattle.reachability.proofs.sweep.rows.copy.Statement.{statement}
 use Rattle.reachability.proofs.sweep.rows.copy.Tie as tie
 
-record So (row out₀ out : List ℤ) (k : ℕ) : Type 0 where
+record CopiedSoFar (row out₀ out : List ℤ) (k : ℕ) : Type 0 where
   inside : k ≤ length out₀
   is : out ≡ filled (vector row) k out₀
   long : length out ≡ length out₀
 
 abbrev Inv-loop : tie.InvT-loop
-Inv-loop row out₀ k₀ out k = So row out₀ out k
+Inv-loop row out₀ k₀ out k = CopiedSoFar row out₀ out k
 
 abbrev μ-loop : tie.MeasureT-loop
 μ-loop row out₀ k₀ out k = length out₀ - k
@@ -25,17 +25,17 @@ loop-holds c = record { inside = omega arith; is = sym (filled-none (vector (c .
 inside : (c : tie.In-loop Inv-loop μ-loop) → c .before .loop .k < length (c .before .before .args .out .now)
 inside c = subst (λ (j : ℕ). c .before .loop .k < j) (c .before .loop .inv .long) (c .loop-test .taken)
 
-mul-out : tie.Need-mul-out Inv-loop μ-loop
-mul-out c = omega (arith, inside c, c .before .before .pre)
+mul-value : tie.Need-mul-value Inv-loop μ-loop
+mul-value c = omega (arith, inside c, c .before .before .pre)
 
-element-copy-out-out : tie.Need-element-copy-out-out Inv-loop μ-loop
-element-copy-out-out c = omega (arith, inside c, c .before .before .pre)
+element-copy-out-value : tie.Need-element-copy-out-value Inv-loop μ-loop
+element-copy-out-value c = omega (arith, inside c, c .before .before .pre)
 
-mul-t9 : tie.Need-mul-t9 Inv-loop μ-loop
-mul-t9 c = omega (arith, inside (c .before), c .before .before .before .pre)
+mul-value-2 : tie.Need-mul-value-2 Inv-loop μ-loop
+mul-value-2 c = omega (arith, inside (c .before), c .before .before .before .pre)
 
-slice-set-from-out : tie.Need-slice-set-from-out Inv-loop μ-loop
-slice-set-from-out c = c .before .loop-test .taken
+slice-set-from-value : tie.Need-slice-set-from-value Inv-loop μ-loop
+slice-set-from-value c = c .before .loop-test .taken
 
 add-k : tie.Need-add-k Inv-loop μ-loop
 add-k c = omega (arith, inside (c .before), c .before .before .before .pre)
@@ -49,7 +49,7 @@ loop-again c =
     let a = at-loop .before .args in
     let k = at-loop .loop .k in
     let f = vector (a .row .now) in
-    let is = ap₂ (λ l (z : ℤ). set l k z) (at-loop .loop .inv .is) (read-given w64 (f k) (c .out .given)) ∙ filled-more f k (a .out .now) (inside (c .before)) in
+    let is = ap₂ (λ l (z : ℤ). set l k z) (at-loop .loop .inv .is) (read-given w64 (f k) (c .value .given)) ∙ filled-more f k (a .out .now) (inside (c .before)) in
     record {
       inside = omega (arith, inside (c .before));
       is = is;
@@ -74,10 +74,10 @@ copy-spec =
     Inv-loop
     μ-loop
     loop-holds
-    mul-out
-    element-copy-out-out
-    mul-t9
-    slice-set-from-out
+    mul-value
+    element-copy-out-value
+    mul-value-2
+    slice-set-from-value
     add-k
     loop-less
     loop-again

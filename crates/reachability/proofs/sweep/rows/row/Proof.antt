@@ -1,7 +1,6 @@
 -- `reachability::sweep::rows::row` meets its contract: after i turns the first i entries are copied. The measure is what is left of
 -- six. Assumes nothing.
 use Rattle.integers.proofs.Basics.{_≡_, refl, sym, ap, ap₂, _∙_, ℕ, _-_, _≤_, arith, set, ℤ, w32}
-use mathlib.Core.List.{List}
 use Rattle.integers.specs.Sums.{matrix}
 use Rattle.integers.proofs.Machine.{filled, filled-none, filled-more, filled-all, read-given}
 use Rattle.reachability.proofs.sweep.rows.row.Statement.{statement}

@@ -2,6 +2,7 @@
 use Rattle.integers.proofs.Basics.{_≡_, ap, ap₂, _∙_, Bool, ℕ, _≤_, arith, needs}
 use mathlib.Core.Bool.{cond, _&&_}
 use borrow.Author.Tests.{le-leb}
+use Rattle.stepping.specs.Limits.{growthLimit}
 use Rattle.stepping.specs.Recurrence.{spare}
 use Rattle.stepping.specs.Refusals.{spareAnswer}
 use Rattle.stepping.specs.declared.Spare.{Spare}
@@ -18,8 +19,8 @@ enum-known-h c = search needs
 enum-told : tie.Need-enum-told
 enum-told c = search needs
 
-answer : (s : ℕ) → 1 ≤ s → s ≤ 1073741824 → spareAnswer s ≡ Bits (spare s)
-answer s l h = ap (λ (t : Bool). cond t (Bits (spare s)) NoSpare) (ap₂ _&&_ (le-leb 1 s l) (le-leb s 1073741824 h))
+answer : (s : ℕ) → 1 ≤ s → s ≤ growthLimit → spareAnswer s ≡ Bits (spare s)
+answer s l h = ap (λ (t : Bool). cond t (Bits (spare s)) NoSpare) (ap₂ _&&_ (le-leb 1 s l) (le-leb s growthLimit h))
 
 is : (c : tie.After-spare-bits) → c .spare-bits .result ≡ Bits (spare (c .before .args .sum))
 is c = c .spare-bits .ensures .answer ∙ answer (c .before .args .sum) (c .before .pre .0) (c .before .pre .1)
