@@ -1,11 +1,11 @@
 -- The lines from what the sweep and the judge answered and left are those of the model. Assumes nothing.
 use mathlib.Core.Path.{_≡_, refl, sym, ap, ap₂, subst, _∙_}
-use mathlib.Core.Bool.{Bool, true, false, cond, _&&_}
+use mathlib.Core.Bool.{Bool, true, false, cond}
 use mathlib.Core.List.{List, [], _++_}
-use Prim.Native.Nat.{ℕ, zero, suc, _+_, _*_, _≤_, _<_}
+use Prim.Native.Nat.{ℕ, zero, suc, _≤_, _<_}
 use native.Mathlib.Omega.{arith}
-use borrow.Author.Tests.{ne-eqb, leb-true}
-use lib.Dec.{eqb, leb}
+use borrow.Author.Tests.{ne-eqb}
+use lib.Dec.{eqb}
 use lib.IntN.{ℤ, pos}
 use lib.ListN.{length, getD}
 use Rattle.integers.specs.Sums.{vector}
@@ -18,7 +18,6 @@ use Rattle.reachability.specs.declared.sweep.Swept.{Swept}
 use Rattle.reachability.specs.declared.sweep.Swept.the-variants as S
 use Rattle.reachability.specs.declared.verdicts.Judged.{Judged}
 use Rattle.reachability.specs.declared.verdicts.Judged.the-variants as J
-use Rattle.integers.proofs.Booleans.{and-true}
 use Rattle.reachability.specs.Limits.{accepted}
 use Rattle.reachability.proofs.model.Facts.{model-facts}
 use Rattle.judge.proofs.Answers.{judges}

@@ -1,13 +1,13 @@
 -- Texts in a buffer: what one function put and what the next put behind it are one text; nothing is cut where the rooms add up.
 -- Assumes nothing.
-use mathlib.Core.Path.{_≡_, refl, sym, ap, ap₂, subst, _∙_}
-use mathlib.Core.List.{List, [], _∷_, _++_, append-assoc, append-nil}
-use Prim.Native.Nat.{ℕ, zero, suc, _+_, _≤_, _<_}
+use mathlib.Core.Path.{_≡_, sym, ap, ap₂, subst, _∙_}
+use mathlib.Core.List.{List, [], _∷_, _++_, append-assoc}
+use Prim.Native.Nat.{ℕ, suc, _+_, _≤_, _<_}
 use native.Mathlib.Nat.{le-of-lt, add-suc, suc-add, add-zero}
 use native.Mathlib.Omega.{arith}
 use native.Mathlib.Numerals.{add-one}
-use lib.ListN.{length, getD, set, take, drop, length-append, length-drop, take-append-drop}
-use lib.Seq.{length-take-le, take-suc, set-at, take-at, drop-append-add, drop-drop, paste, paste-zero, take-length, length-paste}
+use lib.ListN.{length, getD, set, take, drop, length-append, length-drop}
+use lib.Seq.{length-take-le, take-suc, set-at, take-at, drop-append-add, drop-drop, paste, paste-zero, take-length}
 use Rattle.listing.specs.Inner.{splice, Put}
 
 -- ---- one text over a buffer

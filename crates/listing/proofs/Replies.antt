@@ -1,8 +1,8 @@
 -- The text of a file's reading at the start of the buffer is what `reply` should leave. Assumes nothing.
-use mathlib.Core.Path.{_≡_, refl, sym, ap, ap₂, subst, _∙_}
+use mathlib.Core.Path.{_≡_, sym, ap, _∙_}
 use mathlib.Core.Bool.{Bool, true, false, cond}
-use mathlib.Core.List.{List, [], _++_}
-use Prim.Native.Nat.{ℕ, _+_, _≤_, _<_}
+use mathlib.Core.List.{List, _++_}
+use Prim.Native.Nat.{ℕ, _≤_, _<_}
 use native.Mathlib.Nat.{zero-add}
 use native.Mathlib.Omega.{arith}
 use borrow.Author.Tests.{le-leb, lt-leb}
@@ -16,7 +16,6 @@ use Rattle.reader.specs.declared.Status.the-variants.{Read}
 use Rattle.reader.proofs.ReadModels.{readModel-accepted}
 use Rattle.listing.specs.Listing.{statusText, replyText, replyRoom, ReplyLeaves}
 use Rattle.listing.specs.Inner.{Put}
-use Rattle.listing.proofs.Putting.{put-is}
 
 module _ (file out₀ : List ℕ) where
   pub reply-none : length out₀ < replyRoom → ReplyLeaves file out₀ out₀ 0

@@ -1,13 +1,10 @@
 -- Document 01, "Figures to test against": for the sample of 186 bytes the program "writes the whole of this". By computation.
 -- Assumes nothing.
 use mathlib.Core.Path.{_≡_, refl, ap, _∙_}
-use mathlib.Core.List.{List, _++_}
-use Prim.Native.Nat.{ℕ}
 use Rattle.integers.specs.Sums.{sum, sumℕ, maxℕ, allBelow}
 use Rattle.stepping.specs.Recurrence.{greatest}
 use Rattle.reachability.specs.Sets.{largest}
 use Rattle.reachability.specs.Recurrence.{walk, firstPlace}
-use Rattle.reader.specs.Reading.{readModel, readAs}
 use Rattle.reader.specs.declared.Reading.{Reading}
 use Rattle.reader.proofs.Sample.{sample, sampleModel, sample-read}
 use Rattle.listing.specs.Text.{word, decimal}

@@ -1,12 +1,12 @@
 -- Document 01, "Figures to test against", of the program `envelope`: the whole text that it writes for a file. Definitions only.
 -- Assumes nothing.
 use mathlib.Core.Bool.{cond}
-use mathlib.Core.List.{List, [], _∷_, _++_}
+use mathlib.Core.List.{List, [], _++_}
 use mathlib.Core.Path.{_≡_}
-use Prim.Native.Nat.{ℕ, suc, _+_}
+use Prim.Native.Nat.{ℕ, suc}
 use lib.Dec.{leb}
 use lib.IntN.{ℤ, pos}
-use lib.ListN.{length, take, drop}
+use lib.ListN.{length, drop}
 use Rattle.reachability.specs.Recurrence.{bound, slack}
 use Rattle.reachability.specs.Answers.{sweepAnswer}
 use Rattle.reachability.specs.declared.model.Model.{Model}

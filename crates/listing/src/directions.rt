@@ -12,7 +12,7 @@ ghost use Prim.Native.Nat.{_+_, _*_, _≤_};
 ghost use lib.ListN.{length};
 ghost use Rattle.integers.specs.Sums.{vector};
 ghost use Rattle.listing.specs.Text.{each};
-ghost use Rattle.listing.specs.Listing.{rowText, directionText};
+ghost use Rattle.listing.specs.Listing.{rowText};
 ghost use Rattle.listing.specs.Inner.{Put, Askable, DirectionLeaves, DirectionsLeave, swept as sweptLines};
 
 // Step, bound, slack.

@@ -9,7 +9,7 @@ use reachability::sweep::Swept;
 use reachability::verdicts::Judged;
 ghost use mathlib.Core.Path.{_≡_};
 ghost use Prim.Native.Nat.{_+_, _*_, _≤_};
-ghost use lib.ListN.{length, getD};
+ghost use lib.ListN.{length};
 ghost use Rattle.listing.specs.Text.{each};
 ghost use Rattle.listing.specs.Listing.{guardText};
 ghost use Rattle.listing.specs.Inner.{Put, Notable, Notes, caseOf, stepOf, guardLine, AllNoted};

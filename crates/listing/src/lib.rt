@@ -17,7 +17,7 @@ ghost use mathlib.Core.Bool.{true};
 ghost use Prim.Native.Nat.{_≤_};
 ghost use lib.ListN.{length};
 ghost use Rattle.reachability.specs.Limits.{accepted};
-ghost use Rattle.listing.specs.Listing.{ReplyLeaves, listingText, statusText, replyRoom};
+ghost use Rattle.listing.specs.Listing.{ReplyLeaves, listingText, replyRoom};
 ghost use Rattle.listing.specs.Inner.{Put};
 
 // Room for every reply.

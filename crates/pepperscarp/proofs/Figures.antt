@@ -23,7 +23,7 @@ use Rattle.stepping.specs.Limits.{matrixUnit, growthLimit, entryLimit}
 use Rattle.stepping.specs.Recurrence.{greatest, nextR, nextE, errorSum, growthSum}
 use Rattle.stepping.specs.Refusals.{stepOk, workingOk, dimensionOk, zeroBeyond, nonNegative, matrixOk, steppedR, steppedE}
 use Rattle.stepping.specs.declared.Stepped.the-variants as P
-use Rattle.reachability.specs.Limits.{accepted, stepsOk}
+use Rattle.reachability.specs.Limits.{accepted}
 use Rattle.reachability.specs.Recurrence.{growthStep, spareFigure}
 use Rattle.reachability.specs.Answers.{sweepAnswer, lengthsOk}
 use Rattle.reachability.specs.declared.model.Model.{Model}

@@ -7,11 +7,6 @@ mod column;
 mod refusals;
 
 ghost use mathlib.Core.Path.{_≡_};
-ghost use Prim.Native.Nat.{_+_, _≤_};
-ghost use lib.ListN.{length};
-ghost use lib.IntN.{pos};
-ghost use Rattle.integers.specs.Sums.{vector, tabulate};
-ghost use Rattle.stepping.specs.Recurrence.{firstR, firstE};
 ghost use Rattle.stepping.specs.Refusals.{First, Grows, matrixOk, Steps, Spares};
 
 // What a step or a growth sum answers: the growth sum, or number 11.

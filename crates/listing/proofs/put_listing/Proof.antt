@@ -1,7 +1,7 @@
 -- `listing::put_listing` meets its contract: the first line, the directions and the guards, one behind the other, and the rooms that
 -- they were given add up. Assumes nothing.
-use Rattle.integers.proofs.Basics.{_≡_, refl, sym, ap, ap₂, subst, _∙_, true, ℕ, suc, _+_, _*_, _-_, _≤_, _<_, arith, add-one, needs, length, getD, set, ℤ, pos, natAbs, w64, toZ, ofZ, toZ-ofZ}
-use mathlib.Core.List.{List, [], _∷_, _++_}
+use Rattle.integers.proofs.Basics.{_≡_, refl, sym, _∙_, true, ℕ, _+_, _≤_, arith, add-one, needs, length, ℤ}
+use mathlib.Core.List.{List, _++_}
 use lib.ListN.{take}
 use lib.Seq.{length-take-le}
 use Rattle.reachability.specs.Limits.{accepted}
@@ -11,7 +11,7 @@ use Rattle.listing.specs.Text.{word, line, each}
 use Rattle.listing.specs.Listing.{directionText, guardText, listingText, replyRoom}
 use Rattle.listing.specs.Inner.{Put}
 use Rattle.listing.proofs.Answers.{steps-most, directions-range}
-use Rattle.listing.proofs.Putting.{put-then, put-is, put-most, put-length, put-near, put-room}
+use Rattle.listing.proofs.Putting.{put-then, put-most, put-length, put-near}
 use Rattle.listing.proofs.put_listing.Statement.{statement}
 use Rattle.listing.proofs.put_listing.Tie as tie
 

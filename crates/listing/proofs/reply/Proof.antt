@@ -1,7 +1,6 @@
 -- `listing::reply` meets its contract: a buffer that is too small is left alone; otherwise the reading's status settles the text.
 -- Assumes nothing.
-use Rattle.integers.proofs.Basics.{_≡_, refl, sym, ap, ap₂, subst, _∙_, true, ℕ, suc, _+_, _*_, _-_, _≤_, _<_, arith, add-one, needs, length, getD, set, ℤ, pos, natAbs, w64, toZ, ofZ, toZ-ofZ}
-use mathlib.Core.List.{List, [], _∷_, _++_}
+use Rattle.integers.proofs.Basics.{needs}
 use Rattle.listing.proofs.Replies.{reply-none, reply-accepts, reply-told}
 use Rattle.listing.proofs.reply.Statement.{statement}
 use Rattle.listing.proofs.reply.Tie as tie

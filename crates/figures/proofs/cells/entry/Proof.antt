@@ -1,5 +1,5 @@
 -- `figures::cells::entry` is safe: a number that is not below -2^31 and not above 2^31 - 1 is one of 32 bits. Assumes nothing.
-use Rattle.integers.proofs.Basics.{_≡_, false, subst, sym, arith, needs, ℤ, pos, negsuc, w32, w64, SFits, toZ, ofZ, toZ-ofZ}
+use Rattle.integers.proofs.Basics.{_≡_, false, arith, ℤ, pos, negsuc, w32, w64, SFits, toZ, ofZ}
 use borrow.Author.Tests.{ltb-false}
 use lib.Signed.{ltZ}
 use Rattle.figures.proofs.cells.entry.Statement.{statement}

@@ -1,5 +1,5 @@
 -- `figures::cells::number` is safe and ends: the measure is what is left of the row. Assumes nothing.
-use Rattle.integers.proofs.Basics.{_-_, _≤_, arith, needs, length}
+use Rattle.integers.proofs.Basics.{_-_, _≤_, arith, length}
 use Rattle.figures.proofs.cells.number.Statement.{statement}
 use Rattle.figures.proofs.cells.number.Tie as tie
 

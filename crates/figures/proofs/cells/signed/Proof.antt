@@ -1,5 +1,5 @@
 -- `figures::cells::signed` is safe: -1 less a number below 2^63 is in range. Assumes nothing.
-use Rattle.integers.proofs.Basics.{sym, subst, ℕ, _-_, _<_, arith, needs, ℤ, pos, negsuc, _-ℤ_, w64, SFits, toZ}
+use Rattle.integers.proofs.Basics.{sym, subst, ℕ, _-_, _<_, arith, needs, ℤ, negsuc, _-ℤ_, w64, SFits, toZ}
 use Rattle.integers.proofs.SignedParts.{v, #, _⊖_, eq! }
 use Prim.Native.Nat.{_%_}
 use mir.Facts.{toZ-pos}

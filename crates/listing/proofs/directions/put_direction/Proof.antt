@@ -1,6 +1,6 @@
 -- `listing::directions::put_direction` meets its contract: the sweep's answer and lists settle the lines and the notes. Assumes nothing.
-use Rattle.integers.proofs.Basics.{_≡_, refl, sym, ap, ap₂, subst, _∙_, true, ℕ, suc, _+_, _*_, _-_, _≤_, _<_, arith, add-one, needs, length, getD, set, ℤ, pos, natAbs, w64, toZ, ofZ, toZ-ofZ}
-use mathlib.Core.List.{List, [], _∷_, _++_}
+use Rattle.integers.proofs.Basics.{_≡_, sym, _∙_, ℕ, suc, arith, needs, length, ℤ}
+use mathlib.Core.List.{List}
 use Rattle.reachability.specs.Answers.{SweepLeaves}
 use Rattle.reachability.specs.declared.model.Model.{Model}
 use Rattle.reachability.proofs.model.Facts.{model-facts}

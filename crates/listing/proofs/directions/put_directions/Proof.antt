@@ -1,14 +1,14 @@
 -- `listing::directions::put_directions` meets its contract: the directions passed have their lines, and their guards their notes.
 -- The measure is how many are left. Assumes nothing.
-use Rattle.integers.proofs.Basics.{_≡_, refl, sym, ap, ap₂, subst, _∙_, true, ℕ, suc, _+_, _*_, _-_, _≤_, _<_, arith, add-one, needs, length, getD, set, ℤ, pos, natAbs, w64, toZ, ofZ, toZ-ofZ}
-use mathlib.Core.List.{List, [], _∷_, _++_}
+use Rattle.integers.proofs.Basics.{_≡_, sym, subst, _∙_, ℕ, suc, _*_, _-_, _≤_, arith, add-one, length, ℤ}
+use mathlib.Core.List.{List}
 use Rattle.reachability.specs.declared.model.Model.{Model}
 use Rattle.listing.specs.Text.{each}
 use Rattle.listing.specs.Listing.{directionText}
-use Rattle.listing.specs.Inner.{Put, Askable, Noted, caseOf, stepOf}
+use Rattle.listing.specs.Inner.{Put, Noted, caseOf, stepOf}
 use Rattle.listing.proofs.Answers.{directions-range}
 use Rattle.listing.proofs.Noting.{noted-none, noted-more, noted-all}
-use Rattle.listing.proofs.Putting.{put-then, put-is, put-most, put-none, put-length, put-near}
+use Rattle.listing.proofs.Putting.{put-then, put-most, put-none, put-length, put-near}
 use Rattle.listing.proofs.directions.put_directions.Statement.{statement}
 use Rattle.listing.proofs.directions.put_directions.Tie as tie
 

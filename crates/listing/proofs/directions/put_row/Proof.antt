@@ -1,8 +1,6 @@
 -- `listing::directions::put_row` meets its contract: six texts, one behind the other. Assumes nothing.
-use Rattle.integers.proofs.Basics.{_≡_, refl, sym, ap, ap₂, subst, _∙_, ℕ, suc, _+_, _*_, _-_, _≤_, _<_, arith, add-one, needs, length, getD, set, ℤ, pos, natAbs, w64, toZ, ofZ, toZ-ofZ}
-use mathlib.Core.List.{List, [], _∷_, _++_}
+use Rattle.integers.proofs.Basics.{ap, needs, toZ-ofZ}
 use Rattle.listing.specs.Text.{signedDecimal}
-use Rattle.listing.specs.Inner.{Put}
 use Rattle.listing.proofs.Putting.{put-then, put-is}
 use Rattle.listing.proofs.directions.put_row.Statement.{statement}
 use Rattle.listing.proofs.directions.put_row.Tie as tie

@@ -1,7 +1,7 @@
 -- `listing::directions::put_rows` meets its contract: the rows of the steps passed stand in the buffer. The measure is what is left
 -- of the list. Assumes nothing.
-use Rattle.integers.proofs.Basics.{_≡_, refl, sym, ap, ap₂, subst, _∙_, ℕ, suc, _+_, _*_, _-_, _≤_, _<_, arith, add-one, needs, length, getD, set, ℤ, pos, natAbs, w64, toZ, ofZ, toZ-ofZ}
-use mathlib.Core.List.{List, [], _∷_, _++_}
+use Rattle.integers.proofs.Basics.{_≡_, sym, ap₂, subst, ℕ, suc, _*_, _-_, _≤_, arith, add-one, needs, length, ℤ, w64}
+use mathlib.Core.List.{List}
 use Rattle.integers.specs.Sums.{vector}
 use Rattle.integers.proofs.Machine.{read-given}
 use Rattle.listing.specs.Text.{each}

@@ -1,11 +1,8 @@
 -- `listing::guards::note` meets its contract: the guards passed have their notes. The measure is how many are left. Assumes nothing.
-use Rattle.integers.proofs.Basics.{_≡_, refl, sym, ap, ap₂, subst, _∙_, ℕ, suc, _+_, _*_, _-_, _≤_, _<_, arith, add-one, needs, length, getD, set, ℤ, pos, natAbs, w64, toZ, ofZ, toZ-ofZ}
-use mathlib.Core.List.{List, [], _∷_, _++_}
-use borrow.Author.Tests.{eqb-true, eqb-false}
+use Rattle.integers.proofs.Basics.{_≡_, ap, subst, _∙_, ℕ, _-_, _≤_, _<_, arith, needs, ℤ, w64}
 use Rattle.integers.specs.Sums.{vector}
 use Rattle.integers.proofs.Machine.{read-given}
 use Rattle.judge.specs.Answers.{sweptVerdict}
-use Rattle.reachability.specs.declared.verdicts.Judged.{Judged}
 use Rattle.listing.specs.Listing.{judgeOf}
 use Rattle.listing.specs.Inner.{Notes, caseOf, stepOf}
 use Rattle.listing.proofs.Noting.{notes-none, notes-pass, notes-more}

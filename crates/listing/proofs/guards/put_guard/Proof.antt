@@ -1,6 +1,6 @@
 -- `listing::guards::put_guard` meets its contract: each end is the definition's case. Assumes nothing.
-use Rattle.integers.proofs.Basics.{_≡_, refl, sym, ap, ap₂, subst, _∙_, ℕ, suc, _+_, _*_, _-_, _≤_, _<_, arith, add-one, needs, length, getD, set, ℤ, pos, natAbs, w64, toZ, ofZ, toZ-ofZ}
-use mathlib.Core.List.{List, [], _∷_, _++_}
+use Rattle.integers.proofs.Basics.{_≡_, sym, ap, ℕ, _≤_, arith, needs}
+use mathlib.Core.List.{List}
 use Rattle.listing.specs.Inner.{Put, guardLine}
 use Rattle.listing.proofs.Answers.{guard-none}
 use Rattle.listing.proofs.Putting.{put-then, put-is, put-most, put-none}

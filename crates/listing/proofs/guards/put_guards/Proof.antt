@@ -1,10 +1,9 @@
 -- `listing::guards::put_guards` meets its contract: the lines of the guards passed stand in the buffer. The measure is how many are
 -- left. Assumes nothing.
-use Rattle.integers.proofs.Basics.{_≡_, refl, sym, ap, ap₂, subst, _∙_, ℕ, suc, _+_, _*_, _-_, _≤_, _<_, arith, add-one, needs, length, getD, set, ℤ, pos, natAbs, w64, toZ, ofZ, toZ-ofZ}
-use mathlib.Core.List.{List, [], _∷_, _++_}
+use Rattle.integers.proofs.Basics.{_≡_, sym, subst, ℕ, suc, _*_, _-_, _≤_, arith, add-one, getD}
 use Rattle.listing.specs.Text.{each}
-use Rattle.listing.specs.Listing.{guardText, judgeOf}
-use Rattle.listing.specs.Inner.{Put, guardLine}
+use Rattle.listing.specs.Listing.{guardText}
+use Rattle.listing.specs.Inner.{Put}
 use Rattle.listing.proofs.Answers.{guard-text}
 use Rattle.listing.proofs.Putting.{put-then, put-is, put-most, put-none, put-length, put-near}
 use Rattle.listing.proofs.guards.put_guards.Statement.{statement}

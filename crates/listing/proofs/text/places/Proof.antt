@@ -1,9 +1,9 @@
 -- `listing::text::places` meets its contract: k counts the digits passed and one that is left; at the end one or two are left. The
 -- measure is the rest, which a division by a hundred makes smaller. Assumes nothing.
-use Rattle.integers.proofs.Basics.{_≡_, refl, sym, ap, _∙_, ℕ, suc, _+_, _<_, arith, add-one, length}
+use Rattle.integers.proofs.Basics.{_≡_, refl, ap, ℕ, suc, arith, length}
 use mathlib.Core.List.{List, [], _∷_}
 use Prim.Native.Nat.{_%_, _/_}
-use Rattle.listing.specs.Text.{digit, decimal}
+use Rattle.listing.specs.Text.{digit}
 use Rattle.listing.proofs.Decimals.{Digits, digits-none, digits-pair, digits-all, digits-all-two, digits-left, length-decimal}
 use Rattle.listing.proofs.text.places.Statement.{statement}
 use Rattle.listing.proofs.text.places.Tie as tie

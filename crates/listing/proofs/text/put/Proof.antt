@@ -1,9 +1,8 @@
 -- `listing::text::put` meets its contract: the bytes passed stand in the buffer. The measure is what is left of the word.
 -- Assumes nothing.
-use Rattle.integers.proofs.Basics.{_≡_, refl, sym, ap, _∙_, ℕ, _+_, _-_, _≤_, arith, add-one, needs, length, getD, set, Fits, w64}
+use Rattle.integers.proofs.Basics.{_≡_, sym, ap, _∙_, ℕ, _+_, _-_, _≤_, arith, add-one, needs, length, getD, set}
 use mathlib.Core.List.{List}
 use lib.Seq.{paste, paste-zero, paste-suc, length-paste}
-use Rattle.listing.specs.Inner.{splice}
 use Rattle.listing.proofs.Putting.{splice-paste}
 use Rattle.listing.proofs.text.put.Statement.{statement}
 use Rattle.listing.proofs.text.put.Tie as tie

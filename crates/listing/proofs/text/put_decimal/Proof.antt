@@ -1,6 +1,6 @@
 -- `listing::text::put_decimal` meets its contract: the digits passed stand in the buffer up to the end, and those of the rest are
 -- still to come, at the end one or two. The measure is the rest. Assumes nothing.
-use Rattle.integers.proofs.Basics.{_≡_, refl, sym, ap, ap₂, subst, _∙_, ℕ, suc, _+_, _-_, _≤_, _<_, arith, add-one, needs, length, set, Fits, w8, w64}
+use Rattle.integers.proofs.Basics.{_≡_, sym, ap, subst, _∙_, ℕ, suc, _+_, _-_, _≤_, _<_, arith, needs, length, set}
 use mathlib.Core.List.{List, [], _∷_}
 use lib.ListN.{length-set}
 use Prim.Native.Nat.{_%_, _/_}

@@ -1,6 +1,5 @@
 -- `listing::text::put_line` meets its contract: five texts, one behind the other. Assumes nothing.
-use Rattle.integers.proofs.Basics.{_≡_, refl, sym, ap, ap₂, subst, _∙_, ℕ, suc, _+_, _*_, _-_, _≤_, _<_, arith, add-one, needs, length, getD, set, ℤ, pos, natAbs, w64, toZ, ofZ, toZ-ofZ}
-use mathlib.Core.List.{List, [], _∷_, _++_}
+use Rattle.integers.proofs.Basics.{needs}
 use Rattle.listing.proofs.Putting.{put-then}
 use Rattle.listing.proofs.text.put_line.Statement.{statement}
 use Rattle.listing.proofs.text.put_line.Tie as tie

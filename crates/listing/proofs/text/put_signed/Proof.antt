@@ -1,8 +1,6 @@
 -- `listing::text::put_signed` meets its contract: the sign, where there is one, and the magnitude. Assumes nothing.
-use Rattle.integers.proofs.Basics.{_≡_, refl, sym, ap, ap₂, subst, _∙_, ℕ, suc, _+_, _*_, _-_, _≤_, _<_, arith, add-one, needs, length, getD, set, ℤ, pos, natAbs, w64, toZ, ofZ, toZ-ofZ}
-use mathlib.Core.List.{List, [], _∷_, _++_}
-use lib.Signed.{ltZ}
-use Rattle.listing.specs.Text.{word, decimal, signedDecimal}
+use Rattle.integers.proofs.Basics.{ap, _∙_, arith, needs, natAbs, toZ-ofZ}
+use Rattle.listing.specs.Text.{decimal}
 use Rattle.listing.proofs.Decimals.{signed-below, signed-above}
 use Rattle.listing.proofs.Putting.{put-then, put-is, put-most}
 use Rattle.listing.proofs.text.put_signed.Statement.{statement}

@@ -1,5 +1,5 @@
 -- `reader::store::with_point` meets its contract. Assumes nothing.
-use Rattle.integers.proofs.Basics.{ap, ap₂, _∙_, ℕ, _+_, needs, set, ℤ}
+use Rattle.integers.proofs.Basics.{ap, ap₂, _∙_, ℕ, _+_, needs, ℤ}
 use mathlib.Core.List.{List}
 use Rattle.reachability.specs.declared.sets.Set.{Set}
 use Rattle.reachability.specs.declared.sets.Shape.{Shape}
