@@ -3,8 +3,8 @@
 use mathlib.Core.Path.{_≡_, refl, sym, ap, ap₂, subst, _∙_}
 use mathlib.Core.Bool.{Bool, true, false}
 use mathlib.Core.List.{List, [], _∷_, _++_}
-use Prim.Native.Nat.{ℕ, zero, suc, _+_, _^_, _≤_, _<_, suc-le-suc}
-use native.Mathlib.Nat.{not-suc-le-zero, le-of-suc-le-suc, lt-of-le-of-lt, div-le-self}
+use Prim.Native.Nat.{ℕ, zero, suc, _+_, _^_, _≤_, _<_}
+use native.Mathlib.Nat.{not-suc-le-zero, le-of-suc-le-suc, lt-of-le-of-lt}
 use native.Mathlib.Numerals.{add-one}
 use native.Mathlib.Omega.{arith}
 use borrow.Author.Tests.{eq-eqb, ne-eqb, eqb-true, eqb-false}
@@ -50,10 +50,6 @@ mag-le (negsuc n) = omega arith
 -- a magnitude below half the width's power fits the width
 pub sfits-of-natAbs : (w : Width) {z : ℤ} {b : ℕ} → natAbs z ≤ b → b < 2 ^ hbits w → SFits w z
 sfits-of-natAbs w {z} {b} h k = record { sfits = omega (arith, mag-le z) }
-
-pub natAbs-shr : (z : ℤ) (m : ℕ) → natAbs (shrZ z m) ≤ natAbs z
-natAbs-shr (pos a) m = div-le-self a m
-natAbs-shr (negsuc a) m = suc-le-suc (div-le-self a m)
 
 -- an element that was read out of an array: its range is the bound that the read gives
 pub read-given : (w : Width) (z : ℤ) → mag z < 2 ^ hbits w → toZ w (ofZ w z) ≡ z

@@ -116,9 +116,6 @@ pub natAbs-add : (a b : ℤ) → natAbs (a +ℤ b) ≤ natAbs a + natAbs b
 natAbs-add a b =
     abs! (v a ⊕ v b) (natAbs a + natAbs b) (omega (arith, natAbs-parts a, natAbs-parts b)) (omega (arith, natAbs-parts a, natAbs-parts b))
 
-pub ⩽-natAbs : (a : ℤ) → a ⩽ pos (natAbs a)
-⩽-natAbs a = le! (v a) (# (natAbs a)) (omega (arith, natAbs-parts a))
-
 -- ---- distance
 
 pub near-of-eq : {a b : ℤ} → a ≡ b → Near a b 0

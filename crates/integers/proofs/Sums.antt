@@ -101,11 +101,6 @@ unfolding sumℕ
 sumℕ-scale zero c f = omega arith
 sumℕ-scale (suc n) c f = omega (arith, sumℕ-scale n c f)
 
-pub sumℕ-le : (n : ℕ) {f g : ℕ → ℕ} → ((i : ℕ) → i < n → f i ≤ g i) → sumℕ n f ≤ sumℕ n g
-unfolding sumℕ
-sumℕ-le zero h = le-refl 0
-sumℕ-le (suc n) h = omega (arith, sumℕ-le n (λ i l. h i (wider l)), h n (here n))
-
 -- each term at most c
 pub sumℕ-bound : (n c : ℕ) {f : ℕ → ℕ} → ((i : ℕ) → i < n → f i ≤ c) → sumℕ n f ≤ n * c
 unfolding sumℕ

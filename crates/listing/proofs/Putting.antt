@@ -59,10 +59,6 @@ module _ {m at : ℕ} {t b c : List ℕ} {r : ℕ} where
   pub put-near : Put m at t b c r → r ≤ at + m
   put-near p = omega (arith, p .end, p .small)
 
-  -- there is room for n bytes more
-  pub put-room : (n : ℕ) → Put m at t b c r → at + (m + n) ≤ length b → r + n ≤ length c
-  put-room n p h = omega (arith, put-length p, put-near p, h)
-
   pub put-most : (n : ℕ) → m ≤ n → Put m at t b c r → Put n at t b c r
   put-most n h p = record { end = p .end; small = omega (arith, p .small, h); room = p .room; text = p .text }
 

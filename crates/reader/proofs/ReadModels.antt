@@ -203,7 +203,3 @@ module _ (file : List ℕ) where
       (stopFor-enough first (suc (length first - 0)) (suc (length file - 0)) 0 start (omega arith) (simp length-take (omega arith))
       ∙ stopFor-take (suc (length file - 0)) 0 start reachable-start)
       ∙ readingAt-take (stopFrom file 0 start) (reachable-stop file (suc (length file - 0)))
-
--- Two files with the same first 2,048 bytes get the same reply.
-pub readModel-agree : (file file′ : List ℕ) → take 2048 file ≡ take 2048 file′ → readModel file ≡ readModel file′
-readModel-agree file file′ e = sym (readModel-take file) ∙ ap readModel e ∙ readModel-take file′

@@ -5,8 +5,8 @@ use mathlib.Core.Bool.{Bool, true}
 use Prim.Native.Nat.{ℕ, _≤_, _<_}
 use native.Mathlib.Decide.{decLt}
 use native.Mathlib.Omega.{arith}
-use borrow.Author.Tests.{ne-eqb, le-leb, lt-leb, ltb-true, leb-true}
-use lib.Dec.{ltb, leb}
+use borrow.Author.Tests.{ne-eqb, le-leb, lt-leb, leb-true}
+use lib.Dec.{leb}
 use Rattle.integers.specs.Sums.{allBelow}
 use Rattle.integers.proofs.Sums.{allBelow-at}
 use Rattle.records.specs.declared.kinds.BodyLength.{BodyLength}
@@ -47,10 +47,6 @@ everyKind-at p t kind n e = elim (decLt kind 256) [ yes l ↦ byte l | no g ↦ 
 
     beyond : 256 ≤ kind → p kind n ≡ true
     beyond g = let u = bodyLength-beyond kind g in let z : _≡_ {A = ℕ} 0 1 = cc in absurd (omega arith)
-
-pub kind-byte : (kind n : ℕ) → bodyLength kind ≡ Bytes n → kind < 256
-unfolding allBelow everyKind bodyLength
-kind-byte kind n e = ltb-true kind 256 (everyKind-at (λ k m. ltb k 256) refl kind n e)
 
 pub kind-above-zero : (kind n : ℕ) → bodyLength kind ≡ Bytes n → 0 < kind
 unfolding allBelow everyKind bodyLength

@@ -1,13 +1,12 @@
 -- Laws of `littleEndian`. In order: one byte more; agreement of two lists; a part of a list; the range.
 -- Assumes nothing.
-use mathlib.Core.Path.{_≡_, refl, sym, ap, ap₂, _∙_}
+use mathlib.Core.Path.{_≡_, refl, ap}
 use mathlib.Core.List.{List}
 use Prim.Native.Nat.{ℕ, zero, suc, _+_, _*_, _^_, _≤_, _<_}
-use native.Mathlib.Nat.{add-zero, lt-of-lt-of-le, mul-le-mul-left}
+use native.Mathlib.Nat.{lt-of-lt-of-le, mul-le-mul-left}
 use native.Mathlib.Omega.{arith}
-use lib.ListN.{getD, take, drop}
+use lib.ListN.{getD}
 use lib.Pow.{pow-add, pow-mono}
-use lib.Seq.{getD-take, getD-drop}
 use mir.Syntax.{w8}
 use mir.Val.{Fits}
 use Rattle.records.specs.Numbers.{littleEndian}
@@ -20,26 +19,6 @@ AllBytes l = (i : ℕ) → Fits w8 (getD l i 0)
 pub littleEndian-suc : (k : ℕ) (l : List ℕ) (at : ℕ) → littleEndian (suc k) l at ≡ getD l at 0 + 256 * littleEndian k l (suc at)
 unfolding littleEndian
 littleEndian-suc k l at = refl
-
--- Two lists with the same k bytes at two offsets have the same number there.
-pub littleEndian-agree : (k : ℕ) (l l′ : List ℕ) (at at′ : ℕ) → ((j : ℕ) → j < k → getD l (at + j) 0 ≡ getD l′ (at′ + j) 0) → littleEndian k l at ≡ littleEndian k l′ at′
-unfolding littleEndian
-littleEndian-agree zero l l′ at at′ e = refl
-littleEndian-agree (suc k) l l′ at at′ e =
-    ap₂ (λ (x y : ℕ). x + 256 * y) (simp add-zero at (e 0 (omega arith)))
-    (littleEndian-agree k l l′ (suc at) (suc at′) (λ j h. ap (λ (i : ℕ). getD l i 0) (shifted at j) ∙ e (suc j) (omega arith) ∙ ap (λ (i : ℕ). getD l′ i 0) (sym (shifted at′ j))))
-  where
-    shifted : (a j : ℕ) → suc a + j ≡ a + suc j
-    shifted a j = omega arith
-
--- The number in a part of a list is the number in the list, at the offset from the part's start.
-pub littleEndian-part : (k : ℕ) (l : List ℕ) (start size at : ℕ) → at + k ≤ size → littleEndian k (take size (drop start l)) at ≡ littleEndian k l (start + at)
-littleEndian-part k l start size at h =
-    littleEndian-agree k (take size (drop start l)) l at (start + at)
-    (λ j b. getD-take size (drop start l) (at + j) 0 (omega arith) ∙ getD-drop start l (at + j) 0 ∙ ap (λ (i : ℕ). getD l i 0) (grouped j))
-  where
-    grouped : (j : ℕ) → start + (at + j) ≡ start + at + j
-    grouped j = omega arith
 
 -- k bytes are a number of 8 × k bits.
 pub littleEndian-lt : (k : ℕ) (l : List ℕ) (at : ℕ) → AllBytes l → littleEndian k l at < 2 ^ (8 * k)

@@ -3,7 +3,7 @@
 -- number tell. Assumes nothing.
 use mathlib.Core.Path.{_≡_, refl, sym, ap, ap₂, subst, _∙_}
 use mathlib.Core.List.{List, [], _∷_, _++_}
-use Prim.Native.Nat.{ℕ, zero, suc, _+_, _*_, _-_, _^_, _≤_, _<_}
+use Prim.Native.Nat.{ℕ, zero, suc, _+_, _-_, _≤_, _<_}
 use native.Mathlib.Decide.{decLt}
 use native.Mathlib.Omega.{arith}
 use borrow.Author.Tests.{lt-ltb, le-ltb, le-leb, lt-leb}
@@ -14,8 +14,6 @@ use Rattle.records.specs.declared.kinds.BodyLength.{BodyLength}
 use Rattle.records.specs.declared.kinds.BodyLength.the-variants.{Bytes, Unknown}
 use Rattle.records.specs.Kinds.{bodyLength}
 use Rattle.records.specs.Records.{Record, whole, short, unknown, nothing, recordOf, recordAt, recordNumber, recordKind, recordBody, RecordStep}
-use Rattle.records.specs.Numbers.{littleEndian, twosComplement, signedAt}
-use Rattle.records.proofs.LittleEndian.{littleEndian-part}
 use Rattle.records.proofs.KnownKinds.{kind-above-zero, bodyLength-le}
 
 -- ---- the four cases
@@ -105,14 +103,6 @@ whole-of file at kind body = by-case (recordAt file at) (recordAt-is file at)
 pub whole-length : (file : List ℕ) (at kind : ℕ) (body : List ℕ) → recordAt file at ≡ whole kind body → bodyLength kind ≡ Bytes (length body)
 whole-length file at kind body e = whole-of file at kind body e .length-is
 
--- A number in the body is the number in the file, counted from after the kind byte.
-pub whole-littleEndian : (file : List ℕ) (at kind : ℕ) (body : List ℕ) → recordAt file at ≡ whole kind body → (k j : ℕ) → j + k ≤ length body → littleEndian k body j ≡ littleEndian k file (at + 1 + j)
-whole-littleEndian file at kind body e k j h =
-    ap (λ (l : List ℕ). littleEndian k l j) (whole-of file at kind body e .body-is) ∙ littleEndian-part k file (at + 1) (length body) j h
-
-pub whole-signedAt : (file : List ℕ) (at kind : ℕ) (body : List ℕ) → recordAt file at ≡ whole kind body → (k j : ℕ) → j + k ≤ length body → signedAt k body j ≡ signedAt k file (at + 1 + j)
-whole-signedAt file at kind body e k j h = ap (twosComplement (2 ^ (8 * k - 1))) (whole-littleEndian file at kind body e k j h)
-
 -- ---- a record that stands in a file
 
 pub recordAt-stands : (prefix : List ℕ) (kind : ℕ) (body rest : List ℕ) → bodyLength kind ≡ Bytes (length body) → recordAt (prefix ++ kind ∷ (body ++ rest)) (length prefix) ≡ whole kind body
@@ -146,14 +136,6 @@ pub record Reaches (m : ℕ) (file : List ℕ) (at : ℕ) : Type 0 where
 pub reaches-of-le : (m : ℕ) (file : List ℕ) (at : ℕ) → at + 26 ≤ m → Reaches m file at
 reaches-of-le m file at h = record { kind-reached = omega arith; body-reached = λ n known. omega (arith, bodyLength-le _ n known) }
 
-pub reaches-of-whole : (m : ℕ) (file : List ℕ) (at kind : ℕ) (body : List ℕ) → recordAt file at ≡ whole kind body → at + 1 + length body ≤ m → Reaches m file at
-reaches-of-whole m file at kind body e h =
-    let w = whole-of file at kind body e in
-    record { kind-reached = omega arith; body-reached = λ n known. same n (sym (w .length-is) ∙ ap bodyLength (w .kind-is) ∙ known) }
-  where
-    same : (n : ℕ) → Bytes (length body) ≡ Bytes n → at + 1 + n ≤ m
-    same n b = let l : length body ≡ n = cc in omega arith
-
 -- What they hold at the offset is what the file holds there.
 pub recordAt-take : (m : ℕ) (file : List ℕ) (at : ℕ) → Reaches m file at → recordAt (take m file) at ≡ recordAt file at
 recordAt-take m file at reach = by-case (recordAt file at) (recordAt-is file at)
@@ -172,18 +154,6 @@ recordAt-take m file at reach = by-case (recordAt file at) (recordAt-is file at)
         let end = reach .body-reached n known in
         recordAt-whole (take m file) at (simp length-take (omega arith)) n (ap bodyLength first ∙ known) (simp length-take (omega arith))
         ∙ ap₂ whole first (part-take (at + 1) n m file end)
-
--- Two files with the same first m bytes hold the same there.
-pub recordAt-agree : (m : ℕ) (file file′ : List ℕ) (at : ℕ) → take m file ≡ take m file′ → Reaches m file at → recordAt file at ≡ recordAt file′ at
-recordAt-agree m file file′ at e reach =
-    sym (recordAt-take m file at reach) ∙ ap (λ (l : List ℕ). recordAt l at) e ∙ recordAt-take m file′ at reach′
-  where
-    first : getD file at 0 ≡ getD file′ at 0
-    first =
-        sym (getD-take m file at 0 (reach .kind-reached)) ∙ ap (λ (l : List ℕ). getD l at 0) e ∙ getD-take m file′ at 0 (reach .kind-reached)
-
-    reach′ : Reaches m file′ at
-    reach′ = record { kind-reached = reach .kind-reached; body-reached = λ n known. reach .body-reached n (ap bodyLength first ∙ known) }
 
 -- ---- what the record step's kind and number tell
 

@@ -2,19 +2,18 @@
 -- stand for numbers below 0; the range; a part of a list. Assumes nothing.
 use mathlib.Core.Path.{_≡_, refl, sym, ap, subst, _∙_}
 use mathlib.Core.List.{List}
-use Prim.Native.Nat.{ℕ, _+_, _*_, _-_, _^_, _≤_, _<_}
+use Prim.Native.Nat.{ℕ, _*_, _-_, _^_, _≤_, _<_}
 use native.Mathlib.Nat.{le-refl}
 use native.Mathlib.Decide.{decLt}
 use native.Mathlib.Omega.{arith}
 use borrow.Author.Tests.{lt-ltb, le-ltb}
-use lib.ListN.{take, drop}
 use lib.IntN.{ℤ, pos, negsuc, _-ℤ_}
 use mir.Syntax.{Width, w8, w16, w32, w64, w128}
 use mir.Val.{SFits, bytes, hbits, toZ}
 use mir.Facts.{toZ-pos}
 use Rattle.integers.proofs.SignedParts.{v, #, _⊖_, eq! }
 use Rattle.records.specs.Numbers.{littleEndian, twosComplement, signedAt}
-use Rattle.records.proofs.LittleEndian.{AllBytes, littleEndian-lt, littleEndian-part}
+use Rattle.records.proofs.LittleEndian.{AllBytes, littleEndian-lt}
 
 module _ (half n : ℕ) where
   pub twosComplement-low : n < half → twosComplement half n ≡ pos n
@@ -69,6 +68,3 @@ signedAt-fits w l at b =
     (twosComplement-fits (2 ^ hbits w) n w (le-refl (2 ^ hbits w)) (omega (arith, small, twice-half-of w)))
 
 -- ---- a part of a list
-
-pub signedAt-part : (k : ℕ) (l : List ℕ) (start size at : ℕ) → at + k ≤ size → signedAt k (take size (drop start l)) at ≡ signedAt k l (start + at)
-signedAt-part k l start size at h = ap (twosComplement (2 ^ (8 * k - 1))) (littleEndian-part k l start size at h)

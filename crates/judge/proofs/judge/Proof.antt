@@ -14,9 +14,6 @@ use Rattle.judge.proofs.Answers.{judge-refuses, answer-invalid, answer-
 use Rattle.judge.proofs.judge.Statement.{statement}
 use Rattle.judge.proofs.judge.Tie as tie
 
-accepts-requires : tie.Need-accepts-requires
-accepts-requires c κs = search needs
-
 returns : tie.Need-returns
 returns c =
     let a = c .before .before .args in
@@ -60,9 +57,6 @@ mul-level c = record { fits = omega (arith, below (c .before .before)) }
 array-copy-out-level : tie.Need-array-copy-out-level
 array-copy-out-level c = below (c .before .before)
 
-sweep-requires : tie.Need-sweep-requires
-sweep-requires c κs = search needs
-
 -- what the sweep left and answered
 module _ (c : tie.After-sweep) where
   abbrev tested : tie.Else2
@@ -80,15 +74,6 @@ module _ (c : tie.After-sweep) where
   left : SweepLeaves (m at) (getD (m at .watched) (g at) 0) (b₀ at) (s₀ at) (c .sweep .result) b s
   left = c .sweep .ensures
 
-verdict-requires : tie.Need-verdict-requires
-verdict-requires c κs = search needs
-
-same-length : tie.Need-same-length
-same-length c = search needs
-
-same-length-2 : tie.Need-same-length-2
-same-length-2 c = search needs
-
 returns-3 : tie.Need-returns-3
 returns-3 c =
     let w = c .before .before .before .before .before in
@@ -100,15 +85,15 @@ pub judge-spec : {M : Type 1} → statement M
 judge-spec =
     tie.close
     (tie.spec
-    accepts-requires
+    (λ c κs. search needs)
     returns
     returns-2
     mul-direction
     array-read-direction
     mul-level
     array-copy-out-level
-    sweep-requires
-    verdict-requires
-    same-length
-    same-length-2
+    (λ c κs. search needs)
+    (λ c κs. search needs)
+    (λ c. search needs)
+    (λ c. search needs)
     returns-3)

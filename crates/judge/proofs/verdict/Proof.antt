@@ -7,24 +7,6 @@ use Rattle.judge.proofs.Answers.{verdict-answers}
 use Rattle.judge.proofs.verdict.Statement.{statement}
 use Rattle.judge.proofs.verdict.Tie as tie
 
-enum-told : tie.Need-enum-told
-enum-told c = search needs
-
-verdict-of-requires : tie.Need-verdict-of-requires
-verdict-of-requires c κs = search needs
-
-enum-told-2 : tie.Need-enum-told-2
-enum-told-2 c = search needs
-
-enum-told-3 : tie.Need-enum-told-3
-enum-told-3 c = search needs
-
-enum-told-4 : tie.Need-enum-told-4
-enum-told-4 c = search needs
-
-enum-known-swept : tie.Need-enum-known-swept
-enum-known-swept c = search needs
-
 -- the answer where the sweep's is w
 answered : (c : tie.Start) (w : Swept) (x : Judged) → c .args .swept ≡ w → x ≡ sweptVerdict w (c .args .level) (c .args .bounds .now) (c .args .slacks .now) → VerdictAnswers (c .args .swept) (c .args .level) (c .args .bounds .now) (c .args .slacks .now) x
 answered c w x told e =
@@ -52,12 +34,12 @@ pub verdict-spec : {M : Type 1} → statement M
 verdict-spec =
     tie.close
     (tie.spec
-    enum-told
-    verdict-of-requires
-    enum-told-2
-    enum-told-3
-    enum-told-4
-    enum-known-swept
+    (λ c. search needs)
+    (λ c κs. search needs)
+    (λ c. search needs)
+    (λ c. search needs)
+    (λ c. search needs)
+    (λ c. search needs)
     returns
     returns-2
     returns-3

@@ -28,21 +28,6 @@ long m ok row h = length-take-le (m .steps + 1) row (within m ok row h)
 add-size : tie.Need-add-size
 add-size c = omega (arith, steps-most (c .before .before .args .model) (c .before .before .pre .0))
 
-row-requires : tie.Need-row-requires
-row-requires c κs = search needs
-
-row-requires-2 : tie.Need-row-requires-2
-row-requires-2 c κs = search needs
-
-slice-aggregate-put-line : tie.Need-slice-aggregate-put-line
-slice-aggregate-put-line c = search needs
-
-slice-aggregate-put-line-2 : tie.Need-slice-aggregate-put-line-2
-slice-aggregate-put-line-2 c = search needs
-
-put-line-requires : tie.Need-put-line-requires
-put-line-requires c κs = search needs
-
 array-borrow-prefix-bounds : tie.Need-array-borrow-prefix-bounds
 array-borrow-prefix-bounds c = within (c .before .before .before .before .before .before .before .before .before .before .args .model) (c .before .before .before .before .before .before .before .before .before .before .pre .0) (c .before .before .before .before .before .before .before .row .result) (c .before .before .before .before .before .before .before .row .ensures)
 
@@ -84,9 +69,6 @@ put-guards-requires c κs =
       omega (arith, put-length (done .lines), put-near (done .lines), put-length head, put-near head, start .pre .1, directions-range m ok .1, model-facts m ok .guards-most),
     )
 
-same-length : tie.Need-same-length
-same-length c = search needs
-
 -- the three parts are the listing
 listed : (m : Model) {most : ℕ} {b c : List ℕ} {r : ℕ} → most ≤ replyRoom → Put most 0 (line (word "model ") (m .n) (word " ") (m .steps) ++ each (m .directions) (directionText m) ++ each (m .guards) (guardText m)) b c r → Put replyRoom 0 (listingText m) b c r
 unfolding listingText
@@ -104,16 +86,16 @@ put-listing-spec =
     tie.close
     (tie.spec
     add-size
-    row-requires
-    row-requires-2
-    slice-aggregate-put-line
-    slice-aggregate-put-line-2
-    put-line-requires
+    (λ c κs. search needs)
+    (λ c κs. search needs)
+    (λ c. search needs)
+    (λ c. search needs)
+    (λ c κs. search needs)
     array-borrow-prefix-bounds
     slice-aggregate-put-directions
     array-borrow-prefix-slacks
     slice-aggregate-put-directions-2
     put-directions-requires
     put-guards-requires
-    same-length
+    (λ c. search needs)
     returns)

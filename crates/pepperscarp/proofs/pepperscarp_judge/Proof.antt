@@ -5,20 +5,8 @@ use Rattle.pepperscarp.proofs.Replying.{refused-small, reply-refused, j
 use Rattle.pepperscarp.proofs.pepperscarp_judge.Statement.{statement}
 use Rattle.pepperscarp.proofs.pepperscarp_judge.Tie as tie
 
-read-requires : tie.Need-read-requires
-read-requires c κs = search needs
-
-enum-known-status : tie.Need-enum-known-status
-enum-known-status c = search needs
-
 refused-requires : tie.Need-refused-requires
 refused-requires c κs = refused-small _ (c .before .before .before .read .ensures .answer) (c .before .status .given .1)
-
-enum-told : tie.Need-enum-told
-enum-told c = search needs
-
-judge-requires : tie.Need-judge-requires
-judge-requires c κs = search needs
 
 judged-requires : tie.Need-judged-requires
 judged-requires c κs =
@@ -27,12 +15,6 @@ judged-requires c κs =
 
 returns : tie.Need-returns
 returns c = reply-refused _ (c .before .before .before .before .read .ensures .answer) (c .before .before .status .given .1) (c .refused .ensures)
-
-same-length : tie.Need-same-length
-same-length c = search needs
-
-same-length-2 : tie.Need-same-length-2
-same-length-2 c = search needs
 
 returns-2 : tie.Need-returns-2
 returns-2 c =
@@ -43,13 +25,13 @@ pub pepperscarp-judge-spec : {M : Type 1} → statement M
 pepperscarp-judge-spec =
     tie.close
     (tie.spec
-    read-requires
-    enum-known-status
+    (λ c κs. search needs)
+    (λ c. search needs)
     refused-requires
-    enum-told
-    judge-requires
+    (λ c. search needs)
+    (λ c κs. search needs)
     judged-requires
     returns
-    same-length
-    same-length-2
+    (λ c. search needs)
+    (λ c. search needs)
     returns-2)

@@ -7,9 +7,6 @@ use Rattle.pepperscarp.proofs.Replying.{steps-answer, step-reply}
 use Rattle.pepperscarp.proofs.pepperscarp_step.Statement.{statement}
 use Rattle.pepperscarp.proofs.pepperscarp_step.Tie as tie
 
-step-requires : tie.Need-step-requires
-step-requires c κs = search needs
-
 stepped-requires : tie.Need-stepped-requires
 stepped-requires c κs =
     let a = c .before .before .before .args in
@@ -22,4 +19,4 @@ returns c =
     step-reply (a .n) (a .matrix .now) (a .r .now) (a .e .now) (c .before .step .result) _ _ (c .stepped .result) (c .before .step .ensures) (c .stepped .ensures)
 
 pub pepperscarp-step-spec : {M : Type 1} → statement M
-pepperscarp-step-spec = tie.close (tie.spec step-requires stepped-requires returns)
+pepperscarp-step-spec = tie.close (tie.spec (λ c κs. search needs) stepped-requires returns)

@@ -17,19 +17,10 @@ Inv-loop file blank at₀ state₀ at state = (at ≤ length file) × (readFrom 
 abbrev μ-loop : tie.MeasureT-loop
 μ-loop file blank at₀ state₀ at state = length file - at
 
-blank-model-requires : tie.Need-blank-model-requires Inv-loop μ-loop
-blank-model-requires c κs = search needs
-
 loop-holds : tie.Need-loop-holds Inv-loop μ-loop
 unfolding readModel start
 loop-holds c =
     (omega arith, ap (λ (m : Model). readFrom (c .before .before .args .file .now) 0 (stateOf 0x00 0 m)) (c .blank-model .ensures))
-
-advance-requires : tie.Need-advance-requires Inv-loop μ-loop
-advance-requires c κs = search needs
-
-enum-known-outcome : tie.Need-enum-known-outcome Inv-loop μ-loop
-enum-known-outcome c = search needs
 
 -- the record's outcome, put in the reading of the file
 module _ (c : tie.After-after Inv-loop μ-loop) where
@@ -49,14 +40,8 @@ loop-again c =
     let goes = c .before .outcome .given .1 in
     (c .before .before .before .before .advance .ensures .forward _ goes .1, outcome-reads (c .before .before .before) goes)
 
-enum-told : tie.Need-enum-told Inv-loop μ-loop
-enum-told c = search needs
-
 returns : tie.Need-returns Inv-loop μ-loop
 returns c = reads-of _ (outcome-reads (c .before .before .before) (c .before .enum-told .given .1))
-
-enum-known-outcome-2 : tie.Need-enum-known-outcome-2 Inv-loop μ-loop
-enum-known-outcome-2 c = search needs
 
 returns-2 : tie.Need-returns-2 Inv-loop μ-loop
 returns-2 c =
@@ -71,13 +56,13 @@ read-spec =
     (tie.spec
     Inv-loop
     μ-loop
-    blank-model-requires
+    (λ c κs. search needs)
     loop-holds
-    advance-requires
-    enum-known-outcome
+    (λ c κs. search needs)
+    (λ c. search needs)
     loop-less
     loop-again
-    enum-told
+    (λ c. search needs)
     returns
-    enum-known-outcome-2
+    (λ c. search needs)
     returns-2)

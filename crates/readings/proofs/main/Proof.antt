@@ -19,12 +19,6 @@ loop-holds c = tt
 read-argument-requires : tie.Need-read-argument-requires Inv-loop μ-loop
 read-argument-requires c κs = tt
 
-add-i : tie.Need-add-i Inv-loop μ-loop
-add-i c = omega arith
-
-loop-less : tie.Need-loop-less Inv-loop μ-loop
-loop-less c = omega arith
-
 loop-again : tie.Need-loop-again Inv-loop μ-loop
 loop-again c = tt
 
@@ -33,4 +27,4 @@ returns c = tt
 
 pub main-spec : {M : Type 1} → statement M
 main-spec =
-    tie.close (tie.spec Inv-loop μ-loop arg-count-requires loop-holds read-argument-requires add-i loop-less loop-again returns)
+    tie.close (tie.spec Inv-loop μ-loop arg-count-requires loop-holds read-argument-requires (λ c. omega arith) (λ c. omega arith) loop-again returns)

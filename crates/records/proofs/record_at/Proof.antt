@@ -23,29 +23,11 @@ module _ {file : RefT (List ℕ)} {at : ℕ} {r : Record} (is : recordAt (now fi
         place-is = place ∙ sym (ap (λ (s : Record). recordPlace at s (ptr file)) is);
       }
 
-slice-aggregate-result : tie.Need-slice-aggregate-result
-slice-aggregate-result c = search needs
-
 -- no byte is left
 returns : tie.Need-returns
 returns c =
     let a = c .before .before .before .args in
     step-of (recordAt-nothing (a .file .now) (a .at) (c .before .if1 .taken)) refl refl
-
-shared-slice-read-first : tie.Need-shared-slice-read-first
-shared-slice-read-first c = search needs
-
-body-length-requires : tie.Need-body-length-requires
-body-length-requires c κs = search needs
-
-enum-known-length : tie.Need-enum-known-length
-enum-known-length c = search needs
-
-enum-told : tie.Need-enum-told
-enum-told c = search needs
-
-slice-aggregate-result-2 : tie.Need-slice-aggregate-result-2
-slice-aggregate-result-2 c = search needs
 
 -- an unknown kind
 returns-2 : tie.Need-returns-2
@@ -53,15 +35,6 @@ returns-2 c =
     let at-call = c .before .before .before in
     let a = at-call .before .before .before .before .args in
     step-of (recordAt-unknown (a .file .now) (a .at) (at-call .before .before .if1 .left) (sym (at-call .body-length .ensures) ∙ c .before .enum-told .given .1)) refl refl
-
-add-start : tie.Need-add-start
-add-start c = search needs
-
-sub-if2 : tie.Need-sub-if2
-sub-if2 c = search needs
-
-slice-aggregate-result-3 : tie.Need-slice-aggregate-result-3
-slice-aggregate-result-3 c = search needs
 
 -- after the table has told the body length: the kind is known
 module _ (c : tie.After-known-told) where
@@ -86,18 +59,6 @@ returns-3 c =
     let b = c .before .before in
     step-of (recordAt-short (now (file b)) (at b) (inside b) (n b) (known b) (omega arith)) refl refl
 
-add-result : tie.Need-add-result
-add-result c = search needs
-
-sub-result : tie.Need-sub-result
-sub-result c = search needs
-
-part-result-start : tie.Need-part-result-start
-part-result-start c = search needs
-
-part-result-end : tie.Need-part-result-end
-part-result-end c = search needs
-
 -- a whole record
 returns-4 : tie.Need-returns-4
 returns-4 c =
@@ -114,20 +75,20 @@ pub record-at-spec : {M : Type 1} → statement M
 record-at-spec =
     tie.close
     (tie.spec
-    slice-aggregate-result
+    (λ c. search needs)
     returns
-    shared-slice-read-first
-    body-length-requires
-    enum-known-length
-    enum-told
-    slice-aggregate-result-2
+    (λ c. search needs)
+    (λ c κs. search needs)
+    (λ c. search needs)
+    (λ c. search needs)
+    (λ c. search needs)
     returns-2
-    add-start
-    sub-if2
-    slice-aggregate-result-3
+    (λ c. search needs)
+    (λ c. search needs)
+    (λ c. search needs)
     returns-3
-    add-result
-    sub-result
-    part-result-start
-    part-result-end
+    (λ c. search needs)
+    (λ c. search needs)
+    (λ c. search needs)
+    (λ c. search needs)
     returns-4)

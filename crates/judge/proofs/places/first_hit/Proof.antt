@@ -18,20 +18,8 @@ abbrev μ-loop : tie.MeasureT-loop
 loop-holds : tie.Need-loop-holds Inv-loop μ-loop
 loop-holds c = none-before-start (length (c .args .bounds .now)) (hitAt (toZ w64 (ofZ w64 (c .args .level))) (vector (c .args .bounds .now)) (vector (c .args .slacks .now)))
 
-mul-hits : tie.Need-mul-hits Inv-loop μ-loop
-mul-hits c = search needs
-
-shared-slice-copy-out-hits : tie.Need-shared-slice-copy-out-hits Inv-loop μ-loop
-shared-slice-copy-out-hits c = omega arith
-
-mul-hits-2 : tie.Need-mul-hits-2 Inv-loop μ-loop
-mul-hits-2 c = search needs
-
 shared-slice-copy-out-hits-2 : tie.Need-shared-slice-copy-out-hits-2 Inv-loop μ-loop
 shared-slice-copy-out-hits-2 c = omega (arith, c .before .before .before .pre)
-
-hits-requires : tie.Need-hits-requires Inv-loop μ-loop
-hits-requires c κs = search needs
 
 -- the test at a step, and what the call says of it
 module _ (at : tie.Start Inv-loop μ-loop) where
@@ -55,12 +43,6 @@ returns c =
     let l = c .before .before .before .before .before in
     first-found (n (l .before)) (p (l .before)) _ (l .loop .inv) (omega arith) (sym (told (c .before)) ∙ c .if1 .taken) ∙ level-is (l .before)
 
-add-k : tie.Need-add-k Inv-loop μ-loop
-add-k c = omega arith
-
-loop-less : tie.Need-loop-less Inv-loop μ-loop
-loop-less c = omega arith
-
 loop-again : tie.Need-loop-again Inv-loop μ-loop
 loop-again c =
     let l = c .before .before .before .before .before in
@@ -78,13 +60,13 @@ first-hit-spec =
     Inv-loop
     μ-loop
     loop-holds
-    mul-hits
-    shared-slice-copy-out-hits
-    mul-hits-2
+    (λ c. search needs)
+    (λ c. omega arith)
+    (λ c. search needs)
     shared-slice-copy-out-hits-2
-    hits-requires
+    (λ c κs. search needs)
     returns
-    add-k
-    loop-less
+    (λ c. omega arith)
+    (λ c. omega arith)
     loop-again
     returns-2)

@@ -17,15 +17,6 @@ abbrev μ-loop : tie.MeasureT-loop
 loop-holds : tie.Need-loop-holds Inv-loop μ-loop
 loop-holds c = none-before-start (length (c .args .bounds .now)) (unknownAt (toZ w64 (ofZ w64 (c .args .level))) (vector (c .args .bounds .now)))
 
-mul-at-level : tie.Need-mul-at-level Inv-loop μ-loop
-mul-at-level c = search needs
-
-shared-slice-copy-out-at-level : tie.Need-shared-slice-copy-out-at-level Inv-loop μ-loop
-shared-slice-copy-out-at-level c = omega arith
-
-at-level-requires : tie.Need-at-level-requires Inv-loop μ-loop
-at-level-requires c κs = search needs
-
 -- the test at a step, and what the call says of it
 module _ (at : tie.Start Inv-loop μ-loop) where
   abbrev n : ℕ
@@ -47,12 +38,6 @@ returns c =
     let l = c .before .before .before .before in
     first-found (n (l .before)) (p (l .before)) _ (l .loop .inv) (omega arith) (sym (told (c .before)) ∙ c .if1 .taken) ∙ level-is (l .before)
 
-add-k : tie.Need-add-k Inv-loop μ-loop
-add-k c = omega arith
-
-loop-less : tie.Need-loop-less Inv-loop μ-loop
-loop-less c = omega arith
-
 loop-again : tie.Need-loop-again Inv-loop μ-loop
 loop-again c =
     let l = c .before .before .before .before in
@@ -70,11 +55,11 @@ first-unknown-spec =
     Inv-loop
     μ-loop
     loop-holds
-    mul-at-level
-    shared-slice-copy-out-at-level
-    at-level-requires
+    (λ c. search needs)
+    (λ c. omega arith)
+    (λ c κs. search needs)
     returns
-    add-k
-    loop-less
+    (λ c. omega arith)
+    (λ c. omega arith)
     loop-again
     returns-2)

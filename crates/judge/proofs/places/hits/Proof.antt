@@ -27,9 +27,6 @@ less-fits c =
 sub-at-level : tie.Need-sub-at-level
 sub-at-level c = let a = c .before .before in laws.less-fits-bits (a .args .bound) (a .args .slack) (a .fits .bound) (a .fits .slack) (less-fits c)
 
-at-level-requires : tie.Need-at-level-requires
-at-level-requires c κs = search needs
-
 returns-2 : tie.Need-returns-2
 returns-2 c =
     let a = c .before .before .before in
@@ -56,9 +53,6 @@ more-fits c =
 sub-at-level-2 : tie.Need-sub-at-level-2
 sub-at-level-2 c = let a = c .before .before in laws.less-fits-bits (a .args .bound) (a .args .slack) (a .fits .bound) (a .fits .slack) (more-fits c)
 
-at-level-requires-2 : tie.Need-at-level-requires-2
-at-level-requires-2 c κs = search needs
-
 returns-4 : tie.Need-returns-4
 returns-4 c =
     let a = c .before .before .before in
@@ -71,10 +65,10 @@ hits-spec =
     add-if2
     returns
     sub-at-level
-    at-level-requires
+    (λ c κs. search needs)
     returns-2
     add-if3
     returns-3
     sub-at-level-2
-    at-level-requires-2
+    (λ c κs. search needs)
     returns-4)

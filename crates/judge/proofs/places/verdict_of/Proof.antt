@@ -41,12 +41,6 @@ returns-2 c = refused (c .before .before) (lists-short _ _ (c .if2 .taken))
 returns-3 : tie.Need-returns-3
 returns-3 c = refused (c .before .before .before) (lists-long _ _ (c .if3 .taken))
 
-first-hit-requires : tie.Need-first-hit-requires
-first-hit-requires c κs = search needs
-
-first-unknown-requires : tie.Need-first-unknown-requires
-first-unknown-requires c κs = search needs
-
 -- the lengths pass, and the two first steps
 module _ (c : tie.After-first-hit) where
   abbrev at : tie.Start
@@ -83,4 +77,4 @@ returns-6 c =
 
 pub verdict-of-spec : {M : Type 1} → statement M
 verdict-of-spec =
-    tie.close (tie.spec returns returns-2 returns-3 first-hit-requires returns-4 first-unknown-requires returns-5 returns-6)
+    tie.close (tie.spec returns returns-2 returns-3 (λ c κs. search needs) returns-4 (λ c κs. search needs) returns-5 returns-6)

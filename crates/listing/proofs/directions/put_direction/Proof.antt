@@ -10,9 +10,6 @@ use Rattle.listing.proofs.Putting.{put-is, put-most}
 use Rattle.listing.proofs.directions.put_direction.Statement.{statement}
 use Rattle.listing.proofs.directions.put_direction.Tie as tie
 
-sweep-requires : tie.Need-sweep-requires
-sweep-requires c κs = search needs
-
 -- what the sweep left and answered
 module _ (c : tie.After-sweep) where
   abbrev start : tie.Start
@@ -52,15 +49,6 @@ put-swept-requires c κs =
     let w = c .before .before .before .before .before .before .before .before .before .before in
     (s-long w ∙ sym (b-long w), omega (arith, b-long w, steps-most (m w) (ask w .accepts), start w .pre .3))
 
-same-length : tie.Need-same-length
-same-length c = search needs
-
-same-length-2 : tie.Need-same-length-2
-same-length-2 c = search needs
-
-same-length-3 : tie.Need-same-length-3
-same-length-3 c = search needs
-
 returns : tie.Need-returns
 returns c =
     let w = c .before .before .before .before .before .before .before .before .before .before .before .before .before in
@@ -74,10 +62,10 @@ pub put-direction-spec : {M : Type 1} → statement M
 put-direction-spec =
     tie.close
     (tie.spec
-    sweep-requires
+    (λ c κs. search needs)
     note-requires
     put-swept-requires
-    same-length
-    same-length-2
-    same-length-3
+    (λ c. search needs)
+    (λ c. search needs)
+    (λ c. search needs)
     returns)

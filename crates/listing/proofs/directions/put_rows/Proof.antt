@@ -26,14 +26,8 @@ loop-holds c =
     let a = c .before .args in
     (omega arith, put-none 0 (a .at) (a .out .now) (omega (arith, c .before .pre .1)))
 
-mul-put-row : tie.Need-mul-put-row Inv-loop μ-loop
-mul-put-row c = search needs
-
 shared-slice-copy-out-put-row : tie.Need-shared-slice-copy-out-put-row Inv-loop μ-loop
 shared-slice-copy-out-put-row c = c .before .loop-test .taken
-
-mul-put-row-2 : tie.Need-mul-put-row-2 Inv-loop μ-loop
-mul-put-row-2 c = search needs
 
 shared-slice-copy-out-put-row-2 : tie.Need-shared-slice-copy-out-put-row-2 Inv-loop μ-loop
 shared-slice-copy-out-put-row-2 c = omega (arith, c .before .before .before .before .before .pre .0, c .before .before .loop-test .taken)
@@ -42,12 +36,6 @@ put-row-requires : tie.Need-put-row-requires Inv-loop μ-loop
 put-row-requires c κs =
     let so = c .before .before .before .before .loop .inv in
     omega (arith, put-length (so .1), put-near (so .1), c .before .before .before .before .before .before .pre .1, c .before .before .before .loop-test .taken)
-
-add-k : tie.Need-add-k Inv-loop μ-loop
-add-k c = omega arith
-
-loop-less : tie.Need-loop-less Inv-loop μ-loop
-loop-less c = omega arith
 
 loop-again : tie.Need-loop-again Inv-loop μ-loop
 loop-again c =
@@ -76,13 +64,13 @@ put-rows-spec =
     Inv-loop
     μ-loop
     loop-holds
-    mul-put-row
+    (λ c. search needs)
     shared-slice-copy-out-put-row
-    mul-put-row-2
+    (λ c. search needs)
     shared-slice-copy-out-put-row-2
     put-row-requires
-    add-k
-    loop-less
+    (λ c. omega arith)
+    (λ c. omega arith)
     loop-again
     same-length
     returns)

@@ -45,17 +45,8 @@ mul-verdict c = record { fits = omega (arith, c .before .before .before .before 
 array-copy-out-verdict : tie.Need-array-copy-out-verdict Inv-loop μ-loop
 array-copy-out-verdict c = omega (arith, c .before .before .before .before .before .before .pre .0 .guards-most, c .before .if1 .taken)
 
-verdict-requires : tie.Need-verdict-requires Inv-loop μ-loop
-verdict-requires c κs = search needs
-
-case-of-requires : tie.Need-case-of-requires Inv-loop μ-loop
-case-of-requires c κs = search needs
-
 element-write-cases : tie.Need-element-write-cases Inv-loop μ-loop
 element-write-cases c = omega (arith, c .before .before .before .before .before .before .before .before .before .pre .0 .guards-most, c .before .before .before .before .if1 .taken)
-
-step-of-requires : tie.Need-step-of-requires Inv-loop μ-loop
-step-of-requires c κs = search needs
 
 mul-steps : tie.Need-mul-steps Inv-loop μ-loop
 mul-steps c = record { fits = omega (arith, c .before .before .before .before .before .before .before .before .before .before .pre .0 .guards-most, c .before .before .before .before .before .if1 .taken) }
@@ -104,10 +95,10 @@ note-spec =
     loop-again
     mul-verdict
     array-copy-out-verdict
-    verdict-requires
-    case-of-requires
+    (λ c κs. search needs)
+    (λ c κs. search needs)
     element-write-cases
-    step-of-requires
+    (λ c κs. search needs)
     mul-steps
     element-write-steps
     add-g-2

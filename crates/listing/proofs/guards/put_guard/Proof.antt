@@ -7,18 +7,6 @@ use Rattle.listing.proofs.Putting.{put-then, put-is, put-most, put-none
 use Rattle.listing.proofs.guards.put_guard.Statement.{statement}
 use Rattle.listing.proofs.guards.put_guard.Tie as tie
 
-slice-aggregate-put-line : tie.Need-slice-aggregate-put-line
-slice-aggregate-put-line c = search needs
-
-slice-aggregate-put-line-2 : tie.Need-slice-aggregate-put-line-2
-slice-aggregate-put-line-2 c = search needs
-
-put-line-requires : tie.Need-put-line-requires
-put-line-requires c κs = search needs
-
-same-length : tie.Need-same-length
-same-length c = search needs
-
 -- the line of the case, from the case that the test found
 found : (c : tie.Start) (k : ℕ) → c .args .case ≡ k → {most : ℕ} {b d : List ℕ} {r : ℕ} → most ≤ 56 → Put most (c .args .at) (guardLine (c .args .guard) k (c .args .step)) b d r → Put 56 (c .args .at) (guardLine (c .args .guard) (c .args .case) (c .args .step)) b d r
 found c k e h p = put-is _ (sym (ap (λ (x : ℕ). guardLine (c .args .guard) x (c .args .step)) e)) (put-most 56 h p)
@@ -26,53 +14,11 @@ found c k e h p = put-is _ (sym (ap (λ (x : ℕ). guardLine (c .args .guard) x 
 returns : tie.Need-returns
 returns c = found (c .before .before .before .before .before .before .before .before) 1 (c .before .before .before .before .before .before .if1 .taken) (omega arith) (c .before .before .put-line .ensures)
 
-slice-aggregate-put-line-3 : tie.Need-slice-aggregate-put-line-3
-slice-aggregate-put-line-3 c = search needs
-
-slice-aggregate-put-line-4 : tie.Need-slice-aggregate-put-line-4
-slice-aggregate-put-line-4 c = search needs
-
-put-line-requires-2 : tie.Need-put-line-requires-2
-put-line-requires-2 c κs = search needs
-
-same-length-2 : tie.Need-same-length-2
-same-length-2 c = search needs
-
 returns-2 : tie.Need-returns-2
 returns-2 c = found (c .before .before .before .before .before .before .before .before .before) 2 (c .before .before .before .before .before .before .if2 .taken) (omega arith) (c .before .before .put-line2 .ensures)
 
-slice-aggregate-put : tie.Need-slice-aggregate-put
-slice-aggregate-put c = search needs
-
-put-requires : tie.Need-put-requires
-put-requires c κs = search needs
-
-put-decimal-requires : tie.Need-put-decimal-requires
-put-decimal-requires c κs = search needs
-
-slice-aggregate-put-2 : tie.Need-slice-aggregate-put-2
-slice-aggregate-put-2 c = search needs
-
-put-requires-2 : tie.Need-put-requires-2
-put-requires-2 c κs = search needs
-
-same-length-3 : tie.Need-same-length-3
-same-length-3 c = search needs
-
 returns-3 : tie.Need-returns-3
 returns-3 c = found (c .before .before .before .before .before .before .before .before .before .before .before .before .before .before .before .before .before .before) 3 (c .before .before .before .before .before .before .before .before .before .before .before .before .before .before .if3 .taken) (omega arith) (put-then (put-then (c .before .before .before .before .before .before .before .before .before .before .before .put .ensures) (c .before .before .before .before .before .before .before .put-decimal .ensures)) (c .before .before .put2 .ensures))
-
-slice-aggregate-put-line-5 : tie.Need-slice-aggregate-put-line-5
-slice-aggregate-put-line-5 c = search needs
-
-slice-aggregate-put-line-6 : tie.Need-slice-aggregate-put-line-6
-slice-aggregate-put-line-6 c = search needs
-
-put-line-requires-3 : tie.Need-put-line-requires-3
-put-line-requires-3 c κs = search needs
-
-same-length-4 : tie.Need-same-length-4
-same-length-4 c = search needs
 
 returns-4 : tie.Need-returns-4
 returns-4 c = found (c .before .before .before .before .before .before .before .before .before .before .before) 4 (c .before .before .before .before .before .before .if4 .taken) (omega arith) (c .before .before .put-line3 .ensures)
@@ -86,26 +32,26 @@ pub put-guard-spec : {M : Type 1} → statement M
 put-guard-spec =
     tie.close
     (tie.spec
-    slice-aggregate-put-line
-    slice-aggregate-put-line-2
-    put-line-requires
-    same-length
+    (λ c. search needs)
+    (λ c. search needs)
+    (λ c κs. search needs)
+    (λ c. search needs)
     returns
-    slice-aggregate-put-line-3
-    slice-aggregate-put-line-4
-    put-line-requires-2
-    same-length-2
+    (λ c. search needs)
+    (λ c. search needs)
+    (λ c κs. search needs)
+    (λ c. search needs)
     returns-2
-    slice-aggregate-put
-    put-requires
-    put-decimal-requires
-    slice-aggregate-put-2
-    put-requires-2
-    same-length-3
+    (λ c. search needs)
+    (λ c κs. search needs)
+    (λ c κs. search needs)
+    (λ c. search needs)
+    (λ c κs. search needs)
+    (λ c. search needs)
     returns-3
-    slice-aggregate-put-line-5
-    slice-aggregate-put-line-6
-    put-line-requires-3
-    same-length-4
+    (λ c. search needs)
+    (λ c. search needs)
+    (λ c κs. search needs)
+    (λ c. search needs)
     returns-4
     returns-5)

@@ -27,9 +27,6 @@ add-k c =
     let so = c .before .loop .inv in
     omega (arith, so .count, digits-left _ _ _ (so .digits), length-decimal (c .before .before .args .n))
 
-loop-less : tie.Need-loop-less Inv-loop μ-loop
-loop-less c = omega arith
-
 loop-again : tie.Need-loop-again Inv-loop μ-loop
 loop-again c =
     let so = c .before .loop .inv in
@@ -60,4 +57,4 @@ returns-2 c =
     omega (arith, so .count, all)
 
 pub places-spec : {M : Type 1} → statement M
-places-spec = tie.close (tie.spec Inv-loop μ-loop loop-holds add-k loop-less loop-again add-result returns returns-2)
+places-spec = tie.close (tie.spec Inv-loop μ-loop loop-holds add-k (λ c. omega arith) loop-again add-result returns returns-2)

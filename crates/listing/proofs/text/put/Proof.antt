@@ -20,20 +20,8 @@ loop-holds c = (omega arith, paste-zero (c .args .out .now) (c .args .at) (c .ar
 long : (b : List ℕ) (at : ℕ) (w : List ℕ) (i : ℕ) (c : List ℕ) → at + length w ≤ length b → (i ≤ length w) × (c ≡ paste b at w i) → length c ≡ length b
 long b at w i c h so = ap length (so .1) ∙ length-paste b at w i (omega (arith, h, so .0)) (so .0)
 
-shared-slice-read-out : tie.Need-shared-slice-read-out Inv-loop μ-loop
-shared-slice-read-out c = omega arith
-
-add-out : tie.Need-add-out Inv-loop μ-loop
-add-out c = search needs
-
 slice-write-out : tie.Need-slice-write-out Inv-loop μ-loop
 slice-write-out c = omega (arith, long _ _ _ _ _ (c .before .before .before .pre) (c .before .before .loop .inv), c .before .before .before .pre, c .before .loop-test .taken)
-
-add-i : tie.Need-add-i Inv-loop μ-loop
-add-i c = omega arith
-
-loop-less : tie.Need-loop-less Inv-loop μ-loop
-loop-less c = omega arith
 
 loop-again : tie.Need-loop-again Inv-loop μ-loop
 loop-again c =
@@ -43,9 +31,6 @@ loop-again c =
       omega arith,
       ap (λ (x : List ℕ). set x (a .at + i) (getD (a .word .now) i 0)) (l .loop .inv .1) ∙ paste-suc (a .out .now) (a .at) (a .word .now) i 0 (omega (arith, l .before .pre, c .before .loop-test .taken)) (c .before .loop-test .taken) ∙ sym (ap (paste (a .out .now) (a .at) (a .word .now)) (add-one i)),
     )
-
-add-result : tie.Need-add-result Inv-loop μ-loop
-add-result c = search needs
 
 same-length : tie.Need-same-length Inv-loop μ-loop
 same-length c = long _ _ _ _ _ (c .before .before .pre) (c .before .loop .inv)
@@ -69,12 +54,12 @@ put-spec =
     Inv-loop
     μ-loop
     loop-holds
-    shared-slice-read-out
-    add-out
+    (λ c. omega arith)
+    (λ c. search needs)
     slice-write-out
-    add-i
-    loop-less
+    (λ c. omega arith)
+    (λ c. omega arith)
     loop-again
-    add-result
+    (λ c. search needs)
     same-length
     returns)

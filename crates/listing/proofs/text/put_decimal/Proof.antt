@@ -23,9 +23,6 @@ Inv-loop out₀ at n end rest₀ i₀ out rest i = So n out₀ end out rest i
 abbrev μ-loop : tie.MeasureT-loop
 μ-loop out₀ at n end rest₀ i₀ out rest i = rest
 
-places-requires : tie.Need-places-requires Inv-loop μ-loop
-places-requires c κs = search needs
-
 -- the buffer keeps its length, and the digits passed lie inside it
 long : {n : ℕ} {b : List ℕ} {end : ℕ} {c : List ℕ} {rest i : ℕ} → So n b end c rest i → end ≤ length b → length c ≡ length b
 long {b = b} {i = i} so h = ap length (so .text) ∙ length-splice b i (so .t) (subst (λ (k : ℕ). k ≤ length b) (sym (so .here)) h)
@@ -101,9 +98,6 @@ add-out-3 c = record { fits = omega arith }
 
 slice-write-out-2 : tie.Need-slice-write-out-2 Inv-loop μ-loop
 slice-write-out-2 c = omega (arith, length-set (c .before .loop .out) (i c - 2 + 1) (48 + rest c % 100 % 10), within c)
-
-loop-less : tie.Need-loop-less Inv-loop μ-loop
-loop-less c = omega arith
 
 loop-again : tie.Need-loop-again Inv-loop μ-loop
 loop-again c =
@@ -221,7 +215,7 @@ put-decimal-spec =
     (tie.spec
     Inv-loop
     μ-loop
-    places-requires
+    (λ c κs. search needs)
     add-end
     loop-holds
     sub-i
@@ -232,7 +226,7 @@ put-decimal-spec =
     cast-out-2
     add-out-3
     slice-write-out-2
-    loop-less
+    (λ c. omega arith)
     loop-again
     cast-out-3
     add-out-4

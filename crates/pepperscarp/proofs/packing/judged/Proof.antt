@@ -5,44 +5,11 @@ use Rattle.pepperscarp.specs.Packing.{judgedPacked, judgedFigure, figure
 use Rattle.pepperscarp.proofs.packing.judged.Statement.{statement}
 use Rattle.pepperscarp.proofs.packing.judged.Tie as tie
 
-enum-known-answer : tie.Need-enum-known-answer
-enum-known-answer c = search needs
-
 pack-requires : tie.Need-pack-requires
 pack-requires c κs = subst (λ (a : Judged). judgedFigure a < figureLimit) (c .before .answer .given .1) (c .before .before .before .pre)
 
-enum-known-answer-2 : tie.Need-enum-known-answer-2
-enum-known-answer-2 c = search needs
-
 pack-requires-2 : tie.Need-pack-requires-2
 pack-requires-2 c κs = subst (λ (a : Judged). judgedFigure a < figureLimit) (c .before .answer2 .given .1) (c .before .before .before .pre)
-
-enum-told : tie.Need-enum-told
-enum-told c = search needs
-
-pack-requires-3 : tie.Need-pack-requires-3
-pack-requires-3 c κs = search needs
-
-enum-told-2 : tie.Need-enum-told-2
-enum-told-2 c = search needs
-
-pack-requires-4 : tie.Need-pack-requires-4
-pack-requires-4 c κs = search needs
-
-enum-told-3 : tie.Need-enum-told-3
-enum-told-3 c = search needs
-
-pack-requires-5 : tie.Need-pack-requires-5
-pack-requires-5 c κs = search needs
-
-enum-told-4 : tie.Need-enum-told-4
-enum-told-4 c = search needs
-
-pack-requires-6 : tie.Need-pack-requires-6
-pack-requires-6 c κs = search needs
-
-enum-known-answer-3 : tie.Need-enum-known-answer-3
-enum-known-answer-3 c = search needs
 
 pack-requires-7 : tie.Need-pack-requires-7
 pack-requires-7 c κs = subst (λ (a : Judged). judgedFigure a < figureLimit) (c .before .answer3 .given .1) (c .before .before .before .pre)
@@ -72,19 +39,19 @@ pub judged-spec : {M : Type 1} → statement M
 judged-spec =
     tie.close
     (tie.spec
-    enum-known-answer
+    (λ c. search needs)
     pack-requires
-    enum-known-answer-2
+    (λ c. search needs)
     pack-requires-2
-    enum-told
-    pack-requires-3
-    enum-told-2
-    pack-requires-4
-    enum-told-3
-    pack-requires-5
-    enum-told-4
-    pack-requires-6
-    enum-known-answer-3
+    (λ c. search needs)
+    (λ c κs. search needs)
+    (λ c. search needs)
+    (λ c κs. search needs)
+    (λ c. search needs)
+    (λ c κs. search needs)
+    (λ c. search needs)
+    (λ c κs. search needs)
+    (λ c. search needs)
     pack-requires-7
     returns
     returns-2

@@ -3,11 +3,8 @@ use Rattle.integers.proofs.Basics.{needs}
 use Rattle.pepperscarp.proofs.packing.refused.Statement.{statement}
 use Rattle.pepperscarp.proofs.packing.refused.Tie as tie
 
-pack-requires : tie.Need-pack-requires
-pack-requires c κs = search needs
-
 returns : tie.Need-returns
 returns c = c .pack .ensures
 
 pub refused-spec : {M : Type 1} → statement M
-refused-spec = tie.close (tie.spec pack-requires returns)
+refused-spec = tie.close (tie.spec (λ c κs. search needs) returns)

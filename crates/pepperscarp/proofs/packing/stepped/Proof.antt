@@ -5,17 +5,8 @@ use Rattle.pepperscarp.specs.Packing.{steppedPacked, steppedFigure, figu
 use Rattle.pepperscarp.proofs.packing.stepped.Statement.{statement}
 use Rattle.pepperscarp.proofs.packing.stepped.Tie as tie
 
-enum-known-answer : tie.Need-enum-known-answer
-enum-known-answer c = search needs
-
 pack-requires : tie.Need-pack-requires
 pack-requires c κs = subst (λ (a : Stepped). steppedFigure a < figureLimit) (c .before .answer .given .1) (c .before .before .before .pre)
-
-enum-told : tie.Need-enum-told
-enum-told c = search needs
-
-pack-requires-2 : tie.Need-pack-requires-2
-pack-requires-2 c κs = search needs
 
 returns : tie.Need-returns
 returns c = c .pack .ensures ∙ sym (ap steppedPacked (c .before .before .answer .given .1))
@@ -26,4 +17,4 @@ returns-2 c = c .pack2 .ensures ∙ sym (ap steppedPacked (c .before .enum-told 
 pub stepped-spec : {M : Type 1} → statement M
 stepped-spec =
     tie.close
-    (tie.spec enum-known-answer pack-requires enum-told pack-requires-2 returns returns-2)
+    (tie.spec (λ c. search needs) pack-requires (λ c. search needs) (λ c κs. search needs) returns returns-2)

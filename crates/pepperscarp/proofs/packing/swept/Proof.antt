@@ -5,36 +5,6 @@ use Rattle.pepperscarp.specs.Packing.{sweptPacked, sweptFigure, figureLi
 use Rattle.pepperscarp.proofs.packing.swept.Statement.{statement}
 use Rattle.pepperscarp.proofs.packing.swept.Tie as tie
 
-enum-known-answer : tie.Need-enum-known-answer
-enum-known-answer c = search needs
-
-cast-pack : tie.Need-cast-pack
-cast-pack c = search needs
-
-pack-requires : tie.Need-pack-requires
-pack-requires c κs = search needs
-
-enum-told : tie.Need-enum-told
-enum-told c = search needs
-
-pack-requires-2 : tie.Need-pack-requires-2
-pack-requires-2 c κs = search needs
-
-enum-told-2 : tie.Need-enum-told-2
-enum-told-2 c = search needs
-
-pack-requires-3 : tie.Need-pack-requires-3
-pack-requires-3 c κs = search needs
-
-enum-told-3 : tie.Need-enum-told-3
-enum-told-3 c = search needs
-
-pack-requires-4 : tie.Need-pack-requires-4
-pack-requires-4 c κs = search needs
-
-enum-known-answer-2 : tie.Need-enum-known-answer-2
-enum-known-answer-2 c = search needs
-
 pack-requires-5 : tie.Need-pack-requires-5
 pack-requires-5 c κs = subst (λ (a : Swept). sweptFigure a < figureLimit) (c .before .answer2 .given .1) (c .before .before .before .pre)
 
@@ -57,16 +27,16 @@ pub swept-spec : {M : Type 1} → statement M
 swept-spec =
     tie.close
     (tie.spec
-    enum-known-answer
-    cast-pack
-    pack-requires
-    enum-told
-    pack-requires-2
-    enum-told-2
-    pack-requires-3
-    enum-told-3
-    pack-requires-4
-    enum-known-answer-2
+    (λ c. search needs)
+    (λ c. search needs)
+    (λ c κs. search needs)
+    (λ c. search needs)
+    (λ c κs. search needs)
+    (λ c. search needs)
+    (λ c κs. search needs)
+    (λ c. search needs)
+    (λ c κs. search needs)
+    (λ c. search needs)
     pack-requires-5
     returns
     returns-2

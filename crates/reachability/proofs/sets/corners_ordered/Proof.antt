@@ -67,9 +67,6 @@ returns-2 c =
 add-i : tie.Need-add-i Inv-loop μ-loop
 add-i c = omega (arith, at-loop (c .before) .before .if1 .left)
 
-loop-less : tie.Need-loop-less Inv-loop μ-loop
-loop-less c = omega arith
-
 loop-again : tie.Need-loop-again Inv-loop μ-loop
 loop-again c =
     let b = c .before in
@@ -93,6 +90,6 @@ corners-ordered-spec =
     element-copy-out-if2-2
     returns-2
     add-i
-    loop-less
+    (λ c. omega arith)
     loop-again
     returns-3)

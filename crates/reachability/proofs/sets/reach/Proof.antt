@@ -10,9 +10,6 @@ use Rattle.reachability.proofs.sets.Facts.{set-facts}
 use Rattle.reachability.proofs.sets.reach.Statement.{statement}
 use Rattle.reachability.proofs.sets.reach.Tie as tie
 
-set-ok-requires : tie.Need-set-ok-requires
-set-ok-requires c κs = search needs
-
 returns : tie.Need-returns
 returns c =
     let a = c .before .before .before .before .args in
@@ -44,4 +41,4 @@ returns-2 c =
     }
 
 pub reach-spec : {M : Type 1} → statement M
-reach-spec = tie.close (tie.spec set-ok-requires returns reaches-of-requires returns-2)
+reach-spec = tie.close (tie.spec (λ c κs. search needs) returns reaches-of-requires returns-2)

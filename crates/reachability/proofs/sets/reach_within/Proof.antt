@@ -41,12 +41,6 @@ returns-3 c =
     let fails = lt-leb _ _ (subst (λ (k : ℕ). reachLimit < k) (c .before .reach-at .ensures) (c .if3 .taken)) in
     simp (le-leb _ _ (at-loop .before .before .if1 .left), le-leb _ _ (at-loop .before .if2 .left), passed-fails (at-loop .loop .inv) (c .before .before .loop-test .taken) fails)
 
-add-i : tie.Need-add-i Inv-loop μ-loop
-add-i c = omega arith
-
-loop-less : tie.Need-loop-less Inv-loop μ-loop
-loop-less c = omega arith
-
 loop-again : tie.Need-loop-again Inv-loop μ-loop
 loop-again c =
     passed-more (c .before .before .before .loop .inv) (c .before .before .loop-test .taken) (le-leb _ _ (subst (λ (k : ℕ). k ≤ reachLimit) (c .before .reach-at .ensures) (c .if3 .left)))
@@ -67,7 +61,7 @@ reach-within-spec =
     loop-holds
     reach-at-requires
     returns-3
-    add-i
-    loop-less
+    (λ c. omega arith)
+    (λ c. omega arith)
     loop-again
     returns-4)

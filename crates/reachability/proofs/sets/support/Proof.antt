@@ -17,9 +17,6 @@ use Rattle.reachability.proofs.sets.Bounds.{supportOf-six}
 use Rattle.reachability.proofs.sets.support.Statement.{statement}
 use Rattle.reachability.proofs.sets.support.Tie as tie
 
-set-ok-requires : tie.Need-set-ok-requires
-set-ok-requires c κs = search needs
-
 -- the test of n and the set, as two
 split : (n : ℕ) (s : Set) (b : Bool) → b ≡ dimensionOk n && setOk n (s .shape) (s .count) (s .points) → b ≡ true → (dimensionOk n ≡ true) × (setOk n (s .shape) (s .count) (s .points) ≡ true)
 split n s b e t = and-true (dimensionOk n) (setOk n (s .shape) (s .count) (s .points)) (sym e ∙ t)
@@ -38,9 +35,6 @@ returns c =
     let s = a .set in
     settled (a .n) s (a .r .now) Refused
     (simp (fails (dimensionOk (a .n)) (setOk (a .n) (s .shape) (s .count) (s .points)) (directionOk (a .n) (a .r .now)) (sym (not-true _ (c .if1 .taken)) ∙ c .before .set-ok .ensures)))
-
-direction-ok-requires : tie.Need-direction-ok-requires
-direction-ok-requires c κs = search needs
 
 passed : (c : tie.Else1) → (dimensionOk (c .before .before .before .before .args .n) ≡ true) × (setOk (c .before .before .before .before .args .n) (c .before .before .before .before .args .set .shape) (c .before .before .before .before .args .set .count) (c .before .before .before .before .args .set .points) ≡ true)
 passed c = split (c .before .before .before .before .args .n) (c .before .before .before .before .args .set) (c .before .set-ok .result) (c .before .set-ok .ensures) (not-false _ (c .if1 .left))
@@ -78,9 +72,9 @@ pub support-spec : {M : Type 1} → statement M
 support-spec =
     tie.close
     (tie.spec
-    set-ok-requires
+    (λ c κs. search needs)
     returns
-    direction-ok-requires
+    (λ c κs. search needs)
     returns-2
     support-of-requires
     returns-3)

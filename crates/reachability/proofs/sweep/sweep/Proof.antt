@@ -15,9 +15,6 @@ use Rattle.reachability.proofs.sweep.Answers.{answer-invalid, answer-no
 use Rattle.reachability.proofs.sweep.sweep.Statement.{statement}
 use Rattle.reachability.proofs.sweep.sweep.Tie as tie
 
-accepts-requires : tie.Need-accepts-requires
-accepts-requires c κs = search needs
-
 returns : tie.Need-returns
 returns c =
     let a = c .before .before .args in
@@ -65,12 +62,6 @@ returns-4 c =
     let at-direction = c .before .before .before in
     let b = at-direction .before .before in
     refuses (m b) (d b) (b₀ b) (s₀ b) WrongLength 12 refl (answer-wrong-slacks (m b) (d b) _ _ (ok b) (at-direction .if2 .left) (c .if4 .taken))
-
-blank-requires : tie.Need-blank-requires
-blank-requires c κs = search needs
-
-blank-requires-2 : tie.Need-blank-requires-2
-blank-requires-2 c κs = search needs
 
 -- every test has passed
 module _ (c : tie.Else4) where
@@ -132,12 +123,6 @@ spare-of-requires c κs =
     let t = tested b in
     (subst (λ (x : ℕ). 1 ≤ x) (sym (largest-is b)) (largest-least (m (at t)) (facts (at t)) (d (at t)) (inside t)), subst (λ (x : ℕ). x ≤ growthLimit) (sym (largest-is b)) (largest-most (m (at t)) (facts (at t)) (d (at t)) (inside t) (calm b)))
 
-same-length : tie.Need-same-length
-same-length c = search needs
-
-same-length-2 : tie.Need-same-length-2
-same-length-2 c = search needs
-
 returns-6 : tie.Need-returns-6
 returns-6 c =
     let b = c .before .before .before .before .before .before .before .before .before in
@@ -149,19 +134,19 @@ pub sweep-spec : {M : Type 1} → statement M
 sweep-spec =
     tie.close
     (tie.spec
-    accepts-requires
+    (λ c κs. search needs)
     returns
     returns-2
     add-size
     returns-3
     returns-4
-    blank-requires
-    blank-requires-2
+    (λ c κs. search needs)
+    (λ c κs. search needs)
     fill-requires
     returns-5
     copy-requires
     copy-requires-2
     spare-of-requires
-    same-length
-    same-length-2
+    (λ c. search needs)
+    (λ c. search needs)
     returns-6)

@@ -5,17 +5,11 @@ use Rattle.reader.proofs.advance.Outcomes.{advances-nothing, advances-u
 use Rattle.reader.proofs.advance.advance.Statement.{statement}
 use Rattle.reader.proofs.advance.advance.Tie as tie
 
-record-at-requires : tie.Need-record-at-requires
-record-at-requires c κs = search needs
-
 returns : tie.Need-returns
 returns c = advances-unknown (recordStep-unknown (c .before .record-at .ensures) (c .if1 .taken)) refl
 
 returns-2 : tie.Need-returns-2
 returns-2 c = advances-nothing (step-nothing (c .before .before .record-at .ensures) (c .before .if1 .left) (c .if2 .taken)) refl
-
-kind-number-requires : tie.Need-kind-number-requires
-kind-number-requires c κs = search needs
 
 returns-3 : tie.Need-returns-3
 returns-3 c = advances-kind (c .before .before .before .before .record-at .ensures) (c .before .before .before .if1 .left) (c .before .before .if2 .left) (c .before .kind-number .ensures) (c .if3 .taken) refl
@@ -26,18 +20,15 @@ returns-4 c = advances-short (sym (c .before .before .kind-number .ensures) ∙ 
 advance-whole-requires : tie.Need-advance-whole-requires
 advance-whole-requires c κs = (recordStep-whole (c .before .before .before .before .before .record-at .ensures) (c .if4 .left), sym (c .before .before .kind-number .ensures) ∙ c .before .if3 .left)
 
-returns-5 : tie.Need-returns-5
-returns-5 c = search needs
-
 pub advance-spec : {M : Type 1} → statement M
 advance-spec =
     tie.close
     (tie.spec
-    record-at-requires
+    (λ c κs. search needs)
     returns
     returns-2
-    kind-number-requires
+    (λ c κs. search needs)
     returns-3
     returns-4
     advance-whole-requires
-    returns-5)
+    (λ c. search needs))

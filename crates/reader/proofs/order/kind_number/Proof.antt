@@ -11,15 +11,6 @@ use Rattle.reader.proofs.order.KindNumbers.{oneTooMany-is, kindNumber-m
 use Rattle.reader.proofs.order.kind_number.Statement.{statement}
 use Rattle.reader.proofs.order.kind_number.Tie as tie
 
-may-follow-requires : tie.Need-may-follow-requires
-may-follow-requires c κs = search needs
-
-part-of-requires : tie.Need-part-of-requires
-part-of-requires c κs = search needs
-
-count-of-requires : tie.Need-count-of-requires
-count-of-requires c κs = search needs
-
 -- where the tests have met
 module _ (c : tie.Joined3) where
   abbrev s : State
@@ -51,4 +42,4 @@ returns-2 c = kindNumber-placed (s (c .before)) (kind (c .before)) (misplaced-is
 
 pub kind-number-spec : {M : Type 1} → statement M
 kind-number-spec =
-    tie.close (tie.spec may-follow-requires part-of-requires count-of-requires returns returns-2)
+    tie.close (tie.spec (λ c κs. search needs) (λ c κs. search needs) (λ c κs. search needs) returns returns-2)

@@ -20,22 +20,10 @@ loop-holds : tie.Need-loop-holds Inv-loop μ-loop
 unfolding found mayFollow
 loop-holds c = record { within = omega arith; rest = refl }
 
-mul-pair : tie.Need-mul-pair Inv-loop μ-loop
-mul-pair c = omega arith
-
-array-copy-out-pair : tie.Need-array-copy-out-pair Inv-loop μ-loop
-array-copy-out-pair c = omega arith
-
 returns : tie.Need-returns Inv-loop μ-loop
 returns c =
     let at-if = c .before .before in
     sought-found (at-if .before .before .before .before .loop .inv) _ (at-if .before .before .before .loop-test .taken) (ap₂ _&&_ (eq-eqb _ _ (at-if .if1 .taken)) (eq-eqb _ _ (c .if2 .taken)))
-
-add-i : tie.Need-add-i Inv-loop μ-loop
-add-i c = omega arith
-
-loop-less : tie.Need-loop-less Inv-loop μ-loop
-loop-less c = omega arith
 
 loop-again : tie.Need-loop-again Inv-loop μ-loop
 loop-again c =
@@ -52,10 +40,10 @@ may-follow-spec =
     Inv-loop
     μ-loop
     loop-holds
-    mul-pair
-    array-copy-out-pair
+    (λ c. omega arith)
+    (λ c. omega arith)
     returns
-    add-i
-    loop-less
+    (λ c. omega arith)
+    (λ c. omega arith)
     loop-again
     returns-2)

@@ -7,14 +7,8 @@ use Rattle.reader.proofs.store.first_byte.Tie as tie
 returns : tie.Need-returns
 returns c = sym (List·getD-eq-default (c .before .args .body .now) 0 (omega arith))
 
-shared-slice-read-result : tie.Need-shared-slice-read-result
-shared-slice-read-result c = search needs
-
 cast-result : tie.Need-cast-result
 cast-result c = omega (arith, c .shared-slice-known .given 0)
 
-returns-2 : tie.Need-returns-2
-returns-2 c = search needs
-
 pub first-byte-spec : {M : Type 1} → statement M
-first-byte-spec = tie.close (tie.spec returns shared-slice-read-result cast-result returns-2)
+first-byte-spec = tie.close (tie.spec returns (λ c. search needs) cast-result (λ c. search needs))

@@ -8,24 +8,6 @@ use Rattle.reader.proofs.store.six_at.Tie as tie
 more : {x y : ℤ} {l m : List ℤ} → x ≡ y → l ≡ m → _≡_ {A = List ℤ} (x ∷ l) (y ∷ m)
 more e f = ap₂ (λ (z : ℤ) (k : List ℤ). z ∷ k) e f
 
-entry-at-requires : tie.Need-entry-at-requires
-entry-at-requires c κs = search needs
-
-entry-at-requires-2 : tie.Need-entry-at-requires-2
-entry-at-requires-2 c κs = search needs
-
-entry-at-requires-3 : tie.Need-entry-at-requires-3
-entry-at-requires-3 c κs = search needs
-
-entry-at-requires-4 : tie.Need-entry-at-requires-4
-entry-at-requires-4 c κs = search needs
-
-entry-at-requires-5 : tie.Need-entry-at-requires-5
-entry-at-requires-5 c κs = search needs
-
-entry-at-requires-6 : tie.Need-entry-at-requires-6
-entry-at-requires-6 c κs = search needs
-
 returns : tie.Need-returns
 unfolding sixAt
 returns c =
@@ -47,10 +29,10 @@ pub six-at-spec : {M : Type 1} → statement M
 six-at-spec =
     tie.close
     (tie.spec
-    entry-at-requires
-    entry-at-requires-2
-    entry-at-requires-3
-    entry-at-requires-4
-    entry-at-requires-5
-    entry-at-requires-6
+    (λ c κs. search needs)
+    (λ c κs. search needs)
+    (λ c κs. search needs)
+    (λ c κs. search needs)
+    (λ c κs. search needs)
+    (λ c κs. search needs)
     returns)

@@ -10,21 +10,6 @@ use Rattle.reader.proofs.store.with_point.Tie as tie
 point : Shape → ℕ → List ℤ → Set
 point shape count points = record { shape = shape; count = count; points = points }
 
-six-at-requires : tie.Need-six-at-requires
-six-at-requires c κs = search needs
-
-slice-aggregate-put-row : tie.Need-slice-aggregate-put-row
-slice-aggregate-put-row c = search needs
-
-put-row-requires : tie.Need-put-row-requires
-put-row-requires c κs = search needs
-
-shape-of-requires : tie.Need-shape-of-requires
-shape-of-requires c κs = search needs
-
-add-t14 : tie.Need-add-t14
-add-t14 c = search needs
-
 returns : tie.Need-returns
 unfolding withPoint point
 returns c =
@@ -37,9 +22,9 @@ pub with-point-spec : {M : Type 1} → statement M
 with-point-spec =
     tie.close
     (tie.spec
-    six-at-requires
-    slice-aggregate-put-row
-    put-row-requires
-    shape-of-requires
-    add-t14
+    (λ c κs. search needs)
+    (λ c. search needs)
+    (λ c κs. search needs)
+    (λ c κs. search needs)
+    (λ c. search needs)
     returns)

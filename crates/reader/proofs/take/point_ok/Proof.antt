@@ -13,9 +13,6 @@ skipped u b f = simp f
 tested : (u b : Bool) → u ≡ true → not u || b ≡ b
 tested u b t = simp t
 
-reach-within-requires : tie.Need-reach-within-requires
-reach-within-requires c κs = search needs
-
 returns : tie.Need-returns
 unfolding pointOk
 returns c = sym (and-stop _ (sym (c .before .reach-within .ensures) ∙ not-true _ (c .if1 .taken)))
@@ -24,9 +21,6 @@ returns-2 : tie.Need-returns-2
 unfolding pointOk
 returns-2 c =
     sym (and-skip _ (sym (c .before .before .reach-within .ensures) ∙ not-false _ (c .before .if1 .left)) ∙ skipped _ _ (ne-eqb _ _ (c .if2 .taken)))
-
-corners-ordered-requires : tie.Need-corners-ordered-requires
-corners-ordered-requires c κs = search needs
 
 returns-3 : tie.Need-returns-3
 unfolding pointOk
@@ -37,4 +31,4 @@ returns-3 c =
 
 pub point-ok-spec : {M : Type 1} → statement M
 point-ok-spec =
-    tie.close (tie.spec reach-within-requires returns returns-2 corners-ordered-requires returns-3)
+    tie.close (tie.spec (λ c κs. search needs) returns returns-2 (λ c κs. search needs) returns-3)

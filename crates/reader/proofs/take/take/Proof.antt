@@ -17,47 +17,17 @@ by-part : (s : State) (kind : ℕ) (body : List ℕ) {r : Taken} (p : Part) → 
 unfolding stored
 by-part s kind body {r} p t e = subst (λ (q : Part). Takes (valueNumber q s kind body) (storedIn q s kind body) r) (sym e) t
 
-part-of-requires : tie.Need-part-of-requires
-part-of-requires c κs = search needs
-
-enum-told : tie.Need-enum-told
-enum-told c = search needs
-
-take-head-requires : tie.Need-take-head-requires
-take-head-requires c κs = search needs
-
-enum-told-2 : tie.Need-enum-told-2
-enum-told-2 c = search needs
-
-take-row-requires : tie.Need-take-row-requires
-take-row-requires c κs = search needs
-
-enum-told-3 : tie.Need-enum-told-3
-enum-told-3 c = search needs
-
 take-point-requires : tie.Need-take-point-requires
 take-point-requires c κs = count-lt _ _ (c .before .before .before .before .pre) (sym (c .before .before .part-of .ensures) ∙ c .enum-told3 .given .1)
-
-enum-told-4 : tie.Need-enum-told-4
-enum-told-4 c = search needs
 
 take-point-requires-2 : tie.Need-take-point-requires-2
 take-point-requires-2 c κs = count-lt _ _ (c .before .before .before .before .pre) (sym (c .before .before .part-of .ensures) ∙ c .enum-told4 .given .1)
 
-enum-told-5 : tie.Need-enum-told-5
-enum-told-5 c = search needs
-
 take-direction-requires : tie.Need-take-direction-requires
 take-direction-requires c κs = count-lt _ _ (c .before .before .before .before .pre) (sym (c .before .before .part-of .ensures) ∙ c .enum-told5 .given .1)
 
-enum-told-6 : tie.Need-enum-told-6
-enum-told-6 c = search needs
-
 take-guard-requires : tie.Need-take-guard-requires
 take-guard-requires c κs = count-lt _ _ (c .before .before .before .before .pre) (sym (c .before .before .part-of .ensures) ∙ c .enum-told6 .given .1)
-
-enum-told-7 : tie.Need-enum-told-7
-enum-told-7 c = search needs
 
 returns : tie.Need-returns
 returns c = by-part _ _ _ Head (c .take-head .ensures) (sym (c .before .before .before .part-of .ensures) ∙ c .before .enum-told .given .1)
@@ -84,20 +54,20 @@ pub take-spec : {M : Type 1} → statement M
 take-spec =
     tie.close
     (tie.spec
-    part-of-requires
-    enum-told
-    take-head-requires
-    enum-told-2
-    take-row-requires
-    enum-told-3
+    (λ c κs. search needs)
+    (λ c. search needs)
+    (λ c κs. search needs)
+    (λ c. search needs)
+    (λ c κs. search needs)
+    (λ c. search needs)
     take-point-requires
-    enum-told-4
+    (λ c. search needs)
     take-point-requires-2
-    enum-told-5
+    (λ c. search needs)
     take-direction-requires
-    enum-told-6
+    (λ c. search needs)
     take-guard-requires
-    enum-told-7
+    (λ c. search needs)
     returns
     returns-2
     returns-3

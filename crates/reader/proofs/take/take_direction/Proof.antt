@@ -18,27 +18,12 @@ zeros-is : (n : ℕ) (body : List ℕ) → zeroOutside 0 0 (sixAt n body 0) ≡ 
 unfolding allBelow sixAt
 zeros-is n body = refl
 
-six-at-requires : tie.Need-six-at-requires
-six-at-requires c κs = search needs
-
-slice-aggregate-all-between : tie.Need-slice-aggregate-all-between
-slice-aggregate-all-between c = search needs
-
-all-between-requires : tie.Need-all-between-requires
-all-between-requires c κs = search needs
-
 returns : tie.Need-returns
 unfolding directionOk
 returns c =
     takes-refused 7
     (and-stop _ (ap (within directionLimit) (sym (c .before .before .before .six-at .ensures)) ∙ sym (c .before .all-between .ensures) ∙ not-true _ (c .if1 .taken)))
     (omega arith)
-
-slice-aggregate-zero-outside : tie.Need-slice-aggregate-zero-outside
-slice-aggregate-zero-outside c = search needs
-
-zero-outside-requires : tie.Need-zero-outside-requires
-zero-outside-requires c κs = search needs
 
 returns-2 : tie.Need-returns-2
 unfolding directionOk
@@ -48,15 +33,6 @@ returns-2 c =
     takes-refused 7
     (and-skip _ small ∙ ap not (sym (zeros-is _ _) ∙ ap (zeroOutside 0 0) (sym (at-if .before .before .before .six-at .ensures)) ∙ sym (c .before .zero-outside .ensures) ∙ c .if2 .taken))
     (omega arith)
-
-slice-aggregate-put-row : tie.Need-slice-aggregate-put-row
-slice-aggregate-put-row c = search needs
-
-put-row-requires : tie.Need-put-row-requires
-put-row-requires c κs = search needs
-
-add-model : tie.Need-add-model
-add-model c = search needs
 
 returns-3 : tie.Need-returns-3
 unfolding directionOk withDirection
@@ -76,14 +52,14 @@ pub take-direction-spec : {M : Type 1} → statement M
 take-direction-spec =
     tie.close
     (tie.spec
-    six-at-requires
-    slice-aggregate-all-between
-    all-between-requires
+    (λ c κs. search needs)
+    (λ c. search needs)
+    (λ c κs. search needs)
     returns
-    slice-aggregate-zero-outside
-    zero-outside-requires
+    (λ c. search needs)
+    (λ c κs. search needs)
     returns-2
-    slice-aggregate-put-row
-    put-row-requires
-    add-model
+    (λ c. search needs)
+    (λ c κs. search needs)
+    (λ c. search needs)
     returns-3)

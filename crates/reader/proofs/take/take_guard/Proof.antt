@@ -7,31 +7,10 @@ use Rattle.reader.proofs.take.Taking.{takenAs, takes-refused, takes-pas
 use Rattle.reader.proofs.take.take_guard.Statement.{statement}
 use Rattle.reader.proofs.take.take_guard.Tie as tie
 
-first-byte-requires : tie.Need-first-byte-requires
-first-byte-requires c κs = search needs
-
 returns : tie.Need-returns
 returns c =
     let s = c .before .before .before .before .before .args .state in
     takes-refused 8 (ap (λ (d : ℕ). ltb d (s .model .directions)) (sym (c .before .before .first-byte .ensures)) ∙ le-ltb _ _ (c .if1 .taken)) (omega arith)
-
-mul-watched : tie.Need-mul-watched
-mul-watched c = search needs
-
-array-write-watched : tie.Need-array-write-watched
-array-write-watched c = search needs
-
-i64-at-requires : tie.Need-i64-at-requires
-i64-at-requires c κs = search needs
-
-mul-levels : tie.Need-mul-levels
-mul-levels c = search needs
-
-array-set-from-levels : tie.Need-array-set-from-levels
-array-set-from-levels c = search needs
-
-add-model : tie.Need-add-model
-add-model c = search needs
 
 returns-2 : tie.Need-returns-2
 unfolding withGuard
@@ -48,12 +27,12 @@ pub take-guard-spec : {M : Type 1} → statement M
 take-guard-spec =
     tie.close
     (tie.spec
-    first-byte-requires
+    (λ c κs. search needs)
     returns
-    mul-watched
-    array-write-watched
-    i64-at-requires
-    mul-levels
-    array-set-from-levels
-    add-model
+    (λ c. search needs)
+    (λ c. search needs)
+    (λ c κs. search needs)
+    (λ c. search needs)
+    (λ c. search needs)
+    (λ c. search needs)
     returns-2)

@@ -8,15 +8,6 @@ use Rattle.reader.proofs.take.Taking.{takenAs, takes-refused, takes-pas
 use Rattle.reader.proofs.take.take_head.Statement.{statement}
 use Rattle.reader.proofs.take.take_head.Tie as tie
 
-first-byte-requires : tie.Need-first-byte-requires
-first-byte-requires c κs = search needs
-
-u16-at-requires : tie.Need-u16-at-requires
-u16-at-requires c κs = search needs
-
-cast-said : tie.Need-cast-said
-cast-said c = search needs
-
 -- the head's values as read
 values-are : (c : tie.After-u16-at) → headOk (c .before .before .before .args .body .now) ≡ headValuesOk (c .before .first-byte .result) (c .u16-at .result)
 values-are c = sym (ap₂ headValuesOk (c .before .first-byte .ensures) (c .u16-at .ensures))
@@ -46,4 +37,4 @@ returns-4 c =
 pub take-head-spec : {M : Type 1} → statement M
 take-head-spec =
     tie.close
-    (tie.spec first-byte-requires u16-at-requires cast-said returns returns-2 returns-3 returns-4)
+    (tie.spec (λ c κs. search needs) (λ c κs. search needs) (λ c. search needs) returns returns-2 returns-3 returns-4)

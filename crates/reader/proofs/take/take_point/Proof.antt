@@ -11,14 +11,8 @@ use Rattle.reader.proofs.take.Taking.{takenAs, takes-refused, takes-pas
 use Rattle.reader.proofs.take.take_point.Statement.{statement}
 use Rattle.reader.proofs.take.take_point.Tie as tie
 
-set-of-requires : tie.Need-set-of-requires
-set-of-requires c κs = search needs
-
 with-point-requires : tie.Need-with-point-requires
 with-point-requires c κs = rw (c .set-of .ensures) (c .before .before .before .pre)
-
-point-ok-requires : tie.Need-point-ok-requires
-point-ok-requires c κs = search needs
 
 -- the set with its point, and its test, as the definitions have them
 module _ (c : tie.After-point-ok) where
@@ -43,9 +37,6 @@ module _ (c : tie.After-point-ok) where
 returns : tie.Need-returns
 returns c = takes-refused 6 (test (c .before) ∙ not-true _ (c .if1 .taken)) (omega arith)
 
-with-set-requires : tie.Need-with-set-requires
-with-set-requires c κs = search needs
-
 returns-2 : tie.Need-returns-2
 unfolding withSetPoint
 returns-2 c =
@@ -57,9 +48,9 @@ pub take-point-spec : {M : Type 1} → statement M
 take-point-spec =
     tie.close
     (tie.spec
-    set-of-requires
+    (λ c κs. search needs)
     with-point-requires
-    point-ok-requires
+    (λ c κs. search needs)
     returns
-    with-set-requires
+    (λ c κs. search needs)
     returns-2)

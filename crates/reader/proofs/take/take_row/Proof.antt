@@ -12,23 +12,11 @@ use Rattle.reader.proofs.take.Taking.{takenAs, takes-refused, takes-pas
 use Rattle.reader.proofs.take.take_row.Statement.{statement}
 use Rattle.reader.proofs.take.take_row.Tie as tie
 
-first-byte-requires : tie.Need-first-byte-requires
-first-byte-requires c κs = search needs
-
 returns : tie.Need-returns
 unfolding rowOk
 returns c =
     let a = c .before .before .before .args in
     takes-refused 5 (and-stop _ (ne-eqb (firstByte (a .body .now)) (a .state .rows) (λ e. c .if1 .taken (c .before .first-byte .ensures ∙ e)))) (omega arith)
-
-six-at-requires : tie.Need-six-at-requires
-six-at-requires c κs = search needs
-
-slice-aggregate-all-between : tie.Need-slice-aggregate-all-between
-slice-aggregate-all-between c = search needs
-
-all-between-requires : tie.Need-all-between-requires
-all-between-requires c κs = search needs
 
 returns-2 : tie.Need-returns-2
 unfolding rowOk
@@ -38,9 +26,6 @@ returns-2 c =
     takes-refused 5
     (and-skip _ next ∙ ap (within entryLimit) (sym (c .before .before .before .six-at .ensures)) ∙ sym (c .before .all-between .ensures) ∙ not-true _ (c .if2 .taken))
     (omega arith)
-
-slice-aggregate-put-row : tie.Need-slice-aggregate-put-row
-slice-aggregate-put-row c = search needs
 
 -- the row number is a byte
 row-lt : (c : tie.After-first-byte) → c .first-byte .result < 256
@@ -84,13 +69,13 @@ pub take-row-spec : {M : Type 1} → statement M
 take-row-spec =
     tie.close
     (tie.spec
-    first-byte-requires
+    (λ c κs. search needs)
     returns
-    six-at-requires
-    slice-aggregate-all-between
-    all-between-requires
+    (λ c κs. search needs)
+    (λ c. search needs)
+    (λ c κs. search needs)
     returns-2
-    slice-aggregate-put-row
+    (λ c. search needs)
     put-row-requires
     add-next
     returns-3

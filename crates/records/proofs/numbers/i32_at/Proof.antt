@@ -7,9 +7,6 @@ use Rattle.records.proofs.TwosComplement.{signedAt-fits}
 use Rattle.records.proofs.numbers.i32_at.Statement.{statement}
 use Rattle.records.proofs.numbers.i32_at.Tie as tie
 
-unsigned-at-requires : tie.Need-unsigned-at-requires
-unsigned-at-requires c κs = search needs
-
 signed-requires : tie.Need-signed-requires
 signed-requires c κs =
     let a = c .before .before .args in
@@ -32,4 +29,4 @@ returns : tie.Need-returns
 returns c = ap (λ (z : ℤ). toZ w32 (ofZ w32 z)) (is c) ∙ toZ-ofZ (fits c)
 
 pub i32-at-spec : {M : Type 1} → statement M
-i32-at-spec = tie.close (tie.spec unsigned-at-requires signed-requires cast-result returns)
+i32-at-spec = tie.close (tie.spec (λ c κs. search needs) signed-requires cast-result returns)

@@ -4,15 +4,9 @@ use Rattle.records.specs.Numbers.{twosComplement}
 use Rattle.records.proofs.numbers.i64_at.Statement.{statement}
 use Rattle.records.proofs.numbers.i64_at.Tie as tie
 
-unsigned-at-requires : tie.Need-unsigned-at-requires
-unsigned-at-requires c κs = search needs
-
-signed-requires : tie.Need-signed-requires
-signed-requires c κs = search needs
-
 returns : tie.Need-returns
 returns c =
     toZ-ofZ (record { sfits = c .signed .ok }) ∙ c .signed .ensures ∙ ap (twosComplement 0x8000_0000_0000_0000) (c .before .unsigned-at .ensures)
 
 pub i64-at-spec : {M : Type 1} → statement M
-i64-at-spec = tie.close (tie.spec unsigned-at-requires signed-requires returns)
+i64-at-spec = tie.close (tie.spec (λ c κs. search needs) (λ c κs. search needs) returns)

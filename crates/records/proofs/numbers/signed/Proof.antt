@@ -6,18 +6,6 @@ use mir.Facts.{toZ-pos}
 use Rattle.records.proofs.numbers.signed.Statement.{statement}
 use Rattle.records.proofs.numbers.signed.Tie as tie
 
-cast-result : tie.Need-cast-result
-cast-result c = search needs
-
-sub-result : tie.Need-sub-result
-sub-result c = search needs
-
-sub-result-2 : tie.Need-sub-result-2
-sub-result-2 c = search needs
-
-cast-result-2 : tie.Need-cast-result-2
-cast-result-2 c = search needs
-
 module _ (c : tie.Else1) where
   abbrev n : ℕ
   n = c .before .args .n
@@ -45,4 +33,4 @@ returns-2 c = toZ-ofZ (fits c) ∙ is c
 pub signed-spec : {M : Type 1} → statement M
 signed-spec =
     tie.close
-    (tie.spec cast-result sub-result sub-result-2 cast-result-2 sub-result-3 returns returns-2)
+    (tie.spec (λ c. search needs) (λ c. search needs) (λ c. search needs) (λ c. search needs) sub-result-3 returns returns-2)

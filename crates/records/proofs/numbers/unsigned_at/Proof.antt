@@ -61,23 +61,11 @@ small c = joined-small (c .before .loop .inv) (c .loop-test .taken) (c .before .
 mul-n : tie.Need-mul-n Inv-loop μ-loop
 mul-n c = omega (arith, small c)
 
-sub-byte-at : tie.Need-sub-byte-at Inv-loop μ-loop
-sub-byte-at c = search needs
-
-byte-at-requires : tie.Need-byte-at-requires Inv-loop μ-loop
-byte-at-requires c κs = search needs
-
 add-n : tie.Need-add-n Inv-loop μ-loop
 add-n c =
     let a = c .before .before .before .before .args in
     let j = c .before .before .loop .j in
     omega (arith, small (c .before), c .byte-at .ensures, c .before .before .before .shared-slice-known .given (a .at + (j - 1)))
-
-sub-j : tie.Need-sub-j Inv-loop μ-loop
-sub-j c = search needs
-
-loop-less : tie.Need-loop-less Inv-loop μ-loop
-loop-less c = omega arith
 
 loop-again : tie.Need-loop-again Inv-loop μ-loop
 loop-again c = joined-more (c .before .before .loop .inv) (c .before .loop-test .taken) (c .byte-at .ensures)
@@ -95,10 +83,10 @@ unsigned-at-spec =
     μ-loop
     loop-holds
     mul-n
-    sub-byte-at
-    byte-at-requires
+    (λ c. search needs)
+    (λ c κs. search needs)
     add-n
-    sub-j
-    loop-less
+    (λ c. search needs)
+    (λ c. omega arith)
     loop-again
     returns)

@@ -26,9 +26,6 @@ returns-4 c =
     let at-n = at-least .before .before in
     simp (le-leb _ _ (at-n .before .if1 .left), le-leb _ _ (at-n .if2 .left), le-leb _ _ (at-least .if3 .left), lt-leb _ _ (c .if4 .taken))
 
-matrix-ok-requires : tie.Need-matrix-ok-requires
-matrix-ok-requires c κs = search needs
-
 -- n and the steps pass
 module _ (c : tie.Else4) where
   abbrev m : Model
@@ -49,9 +46,6 @@ returns-5 c =
     let b = c .before .before .before .before in
     simp (dimension b, steps b, sym (c .before .matrix-ok .ensures) ∙ not-true _ (c .if5 .taken))
 
-set-ok-requires : tie.Need-set-ok-requires
-set-ok-requires c κs = search needs
-
 frame : (c : tie.Else5) → frameOk (m (c .before .before .before .before) .n) (m (c .before .before .before .before) .steps) (m (c .before .before .before .before) .matrix) ≡ true
 frame c =
     let b = c .before .before .before .before in
@@ -62,9 +56,6 @@ returns-6 c =
     let at-frame = c .before .before .before .before .before in
     let b = at-frame .before .before .before .before in
     simp (frame at-frame, alone b (setAccepted (m b .n) (m b .initial)) _ (c .before .set-ok .ensures) ∙ not-true _ (c .if6 .taken))
-
-set-ok-requires-2 : tie.Need-set-ok-requires-2
-set-ok-requires-2 c κs = search needs
 
 module _ (c : tie.Else6) where
   abbrev at-frame : tie.Else5
@@ -81,9 +72,6 @@ returns-7 c =
     let b = c .before .before .before .before .before in
     let s = at-steps b in
     simp (frame (at-frame b), initial-passes b, alone s (setAccepted (m s .n) (m s .input)) _ (c .before .set-ok2 .ensures) ∙ not-true _ (c .if7 .taken))
-
-directions-ok-requires : tie.Need-directions-ok-requires
-directions-ok-requires c κs = search needs
 
 module _ (c : tie.Else7) where
   abbrev at-initial : tie.Else6
@@ -102,9 +90,6 @@ returns-8 c =
     let failed = sym (c .before .directions-ok .ensures) ∙ not-true _ (c .if8 .taken) in
     sym (and-skip _ (frame (at-frame (at-initial b))) ∙ and-skip _ (initial-passes (at-initial b)) ∙ and-skip _ (input-passes b) ∙ and-stop guards failed)
 
-guards-ok-requires : tie.Need-guards-ok-requires
-guards-ok-requires c κs = search needs
-
 returns-9 : tie.Need-returns-9
 returns-9 c =
     let at-directions = c .before .before .before .before .before in
@@ -120,13 +105,13 @@ accepts-spec =
     returns-2
     returns-3
     returns-4
-    matrix-ok-requires
+    (λ c κs. search needs)
     returns-5
-    set-ok-requires
+    (λ c κs. search needs)
     returns-6
-    set-ok-requires-2
+    (λ c κs. search needs)
     returns-7
-    directions-ok-requires
+    (λ c κs. search needs)
     returns-8
-    guards-ok-requires
+    (λ c κs. search needs)
     returns-9)

@@ -39,12 +39,6 @@ returns c =
     let a = at-loop .before .args in
     sym (passed-fails (at-loop .loop .inv) (c .before .before .loop-test .taken) (eqb-of-bits-nonzero w32 (matrix (a .entries .now) (a .k) (at-loop .loop .i)) (c .if1 .taken)))
 
-add-i : tie.Need-add-i Inv-loop μ-loop
-add-i c = omega arith
-
-loop-less : tie.Need-loop-less Inv-loop μ-loop
-loop-less c = omega arith
-
 loop-again : tie.Need-loop-again Inv-loop μ-loop
 loop-again c =
     let at-loop = c .before .before .before in
@@ -66,7 +60,7 @@ all-zero-spec =
     mul-if1-2
     element-copy-out-if1
     returns
-    add-i
-    loop-less
+    (λ c. omega arith)
+    (λ c. omega arith)
     loop-again
     returns-2)

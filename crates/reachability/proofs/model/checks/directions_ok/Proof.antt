@@ -27,9 +27,6 @@ returns c = simp (lt-leb _ _ (c .if1 .taken))
 returns-2 : tie.Need-returns-2 Inv-loop μ-loop
 returns-2 c = simp (le-leb _ _ (c .before .if1 .left), lt-leb _ _ (c .if2 .taken))
 
-zero-outside-requires : tie.Need-zero-outside-requires Inv-loop μ-loop
-zero-outside-requires c κs = search needs
-
 -- the count is in range
 module _ (c : tie.Else2 Inv-loop μ-loop) where
   least : leb 1 (c .before .before .args .count) ≡ true
@@ -42,9 +39,6 @@ returns-3 : tie.Need-returns-3 Inv-loop μ-loop
 returns-3 c =
     let b = c .before .before .before in
     simp (least b, most b, sym (c .before .zero-outside .ensures) ∙ not-true _ (c .if3 .taken))
-
-all-between-requires : tie.Need-all-between-requires Inv-loop μ-loop
-all-between-requires c κs = search needs
 
 outside : (c : tie.Else3 Inv-loop μ-loop) → zeroOutside (c .before .before .before .before .before .args .count) (c .before .before .before .before .before .args .n) (c .before .before .before .before .before .args .entries .now) ≡ true
 outside c = sym (c .before .zero-outside .ensures) ∙ not-false _ (c .if3 .left)
@@ -85,9 +79,6 @@ returns-5 c =
 add-k : tie.Need-add-k Inv-loop μ-loop
 add-k c = omega (arith, at-count (c .before .before .before .before) .if2 .left)
 
-loop-less : tie.Need-loop-less Inv-loop μ-loop
-loop-less c = omega arith
-
 loop-again : tie.Need-loop-again Inv-loop μ-loop
 loop-again c =
     passed-more (c .before .before .before .loop .inv) (c .before .before .loop-test .taken) (ap not (sym (c .before .all-zero .ensures) ∙ c .if5 .left))
@@ -105,14 +96,14 @@ directions-ok-spec =
     μ-loop
     returns
     returns-2
-    zero-outside-requires
+    (λ c κs. search needs)
     returns-3
-    all-between-requires
+    (λ c κs. search needs)
     returns-4
     loop-holds
     all-zero-requires
     returns-5
     add-k
-    loop-less
+    (λ c. omega arith)
     loop-again
     returns-6)

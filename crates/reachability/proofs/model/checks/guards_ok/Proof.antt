@@ -25,21 +25,6 @@ returns c = simp (lt-leb _ _ (c .if1 .taken))
 loop-holds : tie.Need-loop-holds Inv-loop μ-loop
 loop-holds c = passed-none 16 (guardAt (c .before .args .directions) (c .before .args .guards) (c .before .args .watched .now) (c .before .args .levels .now))
 
-mul-guard-ok : tie.Need-mul-guard-ok Inv-loop μ-loop
-mul-guard-ok c = omega arith
-
-element-copy-out-guard-ok : tie.Need-element-copy-out-guard-ok Inv-loop μ-loop
-element-copy-out-guard-ok c = omega arith
-
-mul-guard-ok-2 : tie.Need-mul-guard-ok-2 Inv-loop μ-loop
-mul-guard-ok-2 c = omega arith
-
-element-copy-out-guard-ok-2 : tie.Need-element-copy-out-guard-ok-2 Inv-loop μ-loop
-element-copy-out-guard-ok-2 c = omega arith
-
-guard-ok-requires : tie.Need-guard-ok-requires Inv-loop μ-loop
-guard-ok-requires c κs = search needs
-
 -- what the call says of the guard
 module _ (c : tie.After-guard-ok Inv-loop μ-loop) where
   abbrev g : ℕ
@@ -59,12 +44,6 @@ returns-2 c =
     let few = le-leb _ _ (b .before .before .before .before .before .if1 .left) in
     simp (few, passed-fails (b .before .before .before .before .loop .inv) (b .before .before .before .loop-test .taken) (sym (guard-is b) ∙ not-true _ (c .if2 .taken)))
 
-add-g : tie.Need-add-g Inv-loop μ-loop
-add-g c = omega arith
-
-loop-less : tie.Need-loop-less Inv-loop μ-loop
-loop-less c = omega arith
-
 loop-again : tie.Need-loop-again Inv-loop μ-loop
 loop-again c =
     let b = c .before in
@@ -82,13 +61,13 @@ guards-ok-spec =
     μ-loop
     returns
     loop-holds
-    mul-guard-ok
-    element-copy-out-guard-ok
-    mul-guard-ok-2
-    element-copy-out-guard-ok-2
-    guard-ok-requires
+    (λ c. omega arith)
+    (λ c. omega arith)
+    (λ c. omega arith)
+    (λ c. omega arith)
+    (λ c κs. search needs)
     returns-2
-    add-g
-    loop-less
+    (λ c. omega arith)
+    (λ c. omega arith)
     loop-again
     returns-3)

@@ -4,17 +4,8 @@ use borrow.Author.Tests.{lt-leb, le-leb}
 use Rattle.reachability.proofs.sets.checks.count_ok.Statement.{statement}
 use Rattle.reachability.proofs.sets.checks.count_ok.Tie as tie
 
-enum-told : tie.Need-enum-told
-enum-told c = search needs
-
-enum-told-2 : tie.Need-enum-told-2
-enum-told-2 c = search needs
-
 returns : tie.Need-returns
 returns c = rw (c .before .enum-told2 .given .1) (simp (lt-leb _ _ (c .if1 .taken)))
-
-enum-told-3 : tie.Need-enum-told-3
-enum-told-3 c = search needs
 
 returns-2 : tie.Need-returns-2
 returns-2 c = rw (c .before .enum-told3 .given .1) (simp (lt-leb _ _ (c .if2 .taken)))
@@ -30,4 +21,4 @@ returns-5 c = rw (c .before .enum-told3 .given .1) (simp (le-leb _ _ (c .if2 .le
 
 pub count-ok-spec : {M : Type 1} → statement M
 count-ok-spec =
-    tie.close (tie.spec enum-told enum-told-2 returns enum-told-3 returns-2 returns-3 returns-4 returns-5)
+    tie.close (tie.spec (λ c. search needs) (λ c. search needs) returns (λ c. search needs) returns-2 returns-3 returns-4 returns-5)

@@ -22,15 +22,6 @@ abbrev μ-loop : tie.MeasureT-loop
 loop-holds : tie.Need-loop-holds Inv-loop μ-loop
 loop-holds c = passed-none 6 (valueAt (c .args .n) (c .args .r .now))
 
-mul-value-ok : tie.Need-mul-value-ok Inv-loop μ-loop
-mul-value-ok c = omega arith
-
-element-copy-out-value-ok : tie.Need-element-copy-out-value-ok Inv-loop μ-loop
-element-copy-out-value-ok c = omega arith
-
-value-ok-requires : tie.Need-value-ok-requires Inv-loop μ-loop
-value-ok-requires c κs = search needs
-
 -- what the call says of the value
 module _ (c : tie.After-value-ok Inv-loop μ-loop) where
   abbrev i : ℕ
@@ -49,12 +40,6 @@ returns c =
     let b = c .before in
     sym (passed-fails (b .before .before .before .loop .inv) (b .before .before .loop-test .taken) (sym (value-is b) ∙ not-true _ (c .if1 .taken)))
 
-add-i : tie.Need-add-i Inv-loop μ-loop
-add-i c = omega arith
-
-loop-less : tie.Need-loop-less Inv-loop μ-loop
-loop-less c = omega arith
-
 loop-again : tie.Need-loop-again Inv-loop μ-loop
 loop-again c =
     let b = c .before in
@@ -70,11 +55,11 @@ direction-ok-spec =
     Inv-loop
     μ-loop
     loop-holds
-    mul-value-ok
-    element-copy-out-value-ok
-    value-ok-requires
+    (λ c. omega arith)
+    (λ c. omega arith)
+    (λ c κs. search needs)
     returns
-    add-i
-    loop-less
+    (λ c. omega arith)
+    (λ c. omega arith)
     loop-again
     returns-2)

@@ -18,9 +18,6 @@ returns c = simp (lt-leb _ _ (c .if1 .taken))
 returns-2 : tie.Need-returns-2
 returns-2 c = simp (le-leb _ _ (c .before .if1 .left), lt-leb _ _ (c .if2 .taken))
 
-count-ok-requires : tie.Need-count-ok-requires
-count-ok-requires c κs = search needs
-
 -- n from 1 to 6
 module _ (c : tie.Else2) where
   least : leb 1 (c .before .before .args .n) ≡ true
@@ -35,9 +32,6 @@ returns-3 c = simp (least (c .before .before), most (c .before .before), sym (c 
 counts : (c : tie.Else3) → countOk (c .before .before .before .before .args .shape) (c .before .before .before .before .args .count) ≡ true
 counts c = sym (c .before .count-ok .ensures) ∙ not-false _ (c .if3 .left)
 
-zero-outside-requires : tie.Need-zero-outside-requires
-zero-outside-requires c κs = search needs
-
 returns-4 : tie.Need-returns-4
 returns-4 c =
     let at-count = c .before .before .before in
@@ -45,9 +39,6 @@ returns-4 c =
 
 outside : (c : tie.Else4) → zeroOutside (c .before .before .before .before .before .before .before .args .count) (c .before .before .before .before .before .before .before .args .n) (c .before .before .before .before .before .before .before .args .points .now) ≡ true
 outside c = sym (c .before .zero-outside .ensures) ∙ not-false _ (c .if4 .left)
-
-reach-within-requires : tie.Need-reach-within-requires
-reach-within-requires c κs = search needs
 
 -- the count is from 1 to 16, so `reachWithin` is the test of the reach
 reach-is : (c : tie.After-reach-within) → c .reach-within .result ≡ reachOk (c .before .before .before .before .before .before .before .before .args .shape) (c .before .before .before .before .before .before .before .before .args .count) (points (c .before .before .before .before .before .before .before .before .args .points .now))
@@ -62,18 +53,6 @@ returns-5 c =
     let at-outside = c .before .before in
     let at-count = at-outside .before .before .before in
     simp (least (at-count .before .before), most (at-count .before .before), counts at-count, outside at-outside, sym (reach-is (c .before)) ∙ not-true _ (c .if5 .taken))
-
-enum-told : tie.Need-enum-told
-enum-told c = search needs
-
-corners-ordered-requires : tie.Need-corners-ordered-requires
-corners-ordered-requires c κs = search needs
-
-enum-told-2 : tie.Need-enum-told-2
-enum-told-2 c = search needs
-
-enum-told-3 : tie.Need-enum-told-3
-enum-told-3 c = search needs
 
 -- all but the order of a box's corners has passed
 ordered-left : (c : tie.Else5) → orderedOk (c .before .before .before .before .before .before .before .before .before .args .n) (c .before .before .before .before .before .before .before .before .before .args .shape) (points (c .before .before .before .before .before .before .before .before .before .args .points .now)) ≡ dimensionOk (c .before .before .before .before .before .before .before .before .before .args .n) && setOk (c .before .before .before .before .before .before .before .before .before .args .n) (c .before .before .before .before .before .before .before .before .before .args .shape) (c .before .before .before .before .before .before .before .before .before .args .count) (c .before .before .before .before .before .before .before .before .before .args .points .now)
@@ -108,16 +87,16 @@ set-ok-spec =
     (tie.spec
     returns
     returns-2
-    count-ok-requires
+    (λ c κs. search needs)
     returns-3
-    zero-outside-requires
+    (λ c κs. search needs)
     returns-4
-    reach-within-requires
+    (λ c κs. search needs)
     returns-5
-    enum-told
-    corners-ordered-requires
-    enum-told-2
-    enum-told-3
+    (λ c. search needs)
+    (λ c κs. search needs)
+    (λ c. search needs)
+    (λ c. search needs)
     returns-6
     returns-7
     returns-8)

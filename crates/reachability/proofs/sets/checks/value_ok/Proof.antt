@@ -6,9 +6,6 @@ use Rattle.stepping.specs.Limits.{growthLimit}
 use Rattle.reachability.proofs.sets.checks.value_ok.Statement.{statement}
 use Rattle.reachability.proofs.sets.checks.value_ok.Tie as tie
 
-magnitude-requires : tie.Need-magnitude-requires
-magnitude-requires c κs = search needs
-
 is : (c : tie.After-magnitude) → c .magnitude .result ≡ natAbs (c .before .args .x)
 is c = c .magnitude .ensures ∙ ap natAbs (toZ-ofZ (c .before .fits .x))
 
@@ -25,4 +22,4 @@ returns-3 : tie.Need-returns-3
 returns-3 c = simp (small (c .before), lt-ltb _ _ (c .if2 .left))
 
 pub value-ok-spec : {M : Type 1} → statement M
-value-ok-spec = tie.close (tie.spec magnitude-requires returns returns-2 returns-3)
+value-ok-spec = tie.close (tie.spec (λ c κs. search needs) returns returns-2 returns-3)

@@ -28,14 +28,8 @@ loop-holds c = (omega arith, none (sizeAt (c .args .points .now) (c .args .i)))
 size-requires : tie.Need-size-requires Inv-loop μ-loop
 size-requires c κs = (omega (arith, c .before .before .pre .0 .most, c .loop-test .taken), c .before .before .pre .1)
 
-larger-requires : tie.Need-larger-requires Inv-loop μ-loop
-larger-requires c κs = search needs
-
 add-k : tie.Need-add-k Inv-loop μ-loop
 add-k c = omega (arith, c .before .before .before .before .pre .0 .most)
-
-loop-less : tie.Need-loop-less Inv-loop μ-loop
-loop-less c = omega arith
 
 loop-again : tie.Need-loop-again Inv-loop μ-loop
 loop-again c =
@@ -59,8 +53,8 @@ largest-size-spec =
     μ-loop
     loop-holds
     size-requires
-    larger-requires
+    (λ c κs. search needs)
     add-k
-    loop-less
+    (λ c. omega arith)
     loop-again
     returns)

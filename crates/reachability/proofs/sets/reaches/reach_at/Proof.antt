@@ -8,26 +8,14 @@ use Rattle.reachability.specs.Sets.{points as pointsOf}
 use Rattle.reachability.proofs.sets.reaches.reach_at.Statement.{statement}
 use Rattle.reachability.proofs.sets.reaches.reach_at.Tie as tie
 
-enum-told : tie.Need-enum-told
-enum-told c = search needs
-
 size-requires : tie.Need-size-requires
 size-requires c κs = (omega arith, c .before .before .pre .1)
 
 size-requires-2 : tie.Need-size-requires-2
 size-requires-2 c κs = (omega arith, c .before .before .before .pre .1)
 
-larger-requires : tie.Need-larger-requires
-larger-requires c κs = search needs
-
-enum-told-2 : tie.Need-enum-told-2
-enum-told-2 c = search needs
-
 sum-of-sizes-requires : tie.Need-sum-of-sizes-requires
 sum-of-sizes-requires c κs = c .before .before .pre
-
-enum-told-3 : tie.Need-enum-told-3
-enum-told-3 c = search needs
 
 largest-size-requires : tie.Need-largest-size-requires
 largest-size-requires c κs = c .before .before .pre
@@ -50,13 +38,13 @@ pub reach-at-spec : {M : Type 1} → statement M
 reach-at-spec =
     tie.close
     (tie.spec
-    enum-told
+    (λ c. search needs)
     size-requires
     size-requires-2
-    larger-requires
-    enum-told-2
+    (λ c κs. search needs)
+    (λ c. search needs)
     sum-of-sizes-requires
-    enum-told-3
+    (λ c. search needs)
     largest-size-requires
     returns
     returns-2

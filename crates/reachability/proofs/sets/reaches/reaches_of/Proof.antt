@@ -31,18 +31,6 @@ small c =
 cast-reaches : tie.Need-cast-reaches Inv-loop μ-loop
 cast-reaches c = record { sfits = omega (arith, small c) }
 
-mul-reaches : tie.Need-mul-reaches Inv-loop μ-loop
-mul-reaches c = omega arith
-
-array-set-from-reaches : tie.Need-array-set-from-reaches Inv-loop μ-loop
-array-set-from-reaches c = omega arith
-
-add-i : tie.Need-add-i Inv-loop μ-loop
-add-i c = omega arith
-
-loop-less : tie.Need-loop-less Inv-loop μ-loop
-loop-less c = omega arith
-
 loop-again : tie.Need-loop-again Inv-loop μ-loop
 loop-again c =
     let at-loop = c .before .before in
@@ -67,9 +55,9 @@ reaches-of-spec =
     loop-holds
     reach-at-requires
     cast-reaches
-    mul-reaches
-    array-set-from-reaches
-    add-i
-    loop-less
+    (λ c. omega arith)
+    (λ c. omega arith)
+    (λ c. omega arith)
+    (λ c. omega arith)
     loop-again
     returns)

@@ -7,26 +7,11 @@ use Rattle.reachability.specs.Sets.{points as pointsOf}
 use Rattle.reachability.proofs.sets.reaches.size.Statement.{statement}
 use Rattle.reachability.proofs.sets.reaches.size.Tie as tie
 
-mul-magnitude : tie.Need-mul-magnitude
-mul-magnitude c = search needs
-
-add-magnitude : tie.Need-add-magnitude
-add-magnitude c = search needs
-
-mul-magnitude-2 : tie.Need-mul-magnitude-2
-mul-magnitude-2 c = search needs
-
-element-copy-out-magnitude : tie.Need-element-copy-out-magnitude
-element-copy-out-magnitude c = search needs
-
 fit : (c : tie.After-magnitude-arg) → SFits w32 (pointsOf (c .before .args .points .now) (c .before .args .k) (c .before .args .i))
 fit c = record { sfits = c .magnitude-arg .given }
 
 cast-magnitude : tie.Need-cast-magnitude
 cast-magnitude c = subst (SFits w64) (sym (toZ-ofZ (fit c))) (sfits-widen tt (fit c))
-
-magnitude-requires : tie.Need-magnitude-requires
-magnitude-requires c κs = search needs
 
 returns : tie.Need-returns
 returns c =
@@ -38,4 +23,4 @@ returns c =
 pub size-spec : {M : Type 1} → statement M
 size-spec =
     tie.close
-    (tie.spec mul-magnitude add-magnitude mul-magnitude-2 element-copy-out-magnitude cast-magnitude magnitude-requires returns)
+    (tie.spec (λ c. search needs) (λ c. search needs) (λ c. search needs) (λ c. search needs) cast-magnitude (λ c κs. search needs) returns)

@@ -28,9 +28,6 @@ add-sum c = omega (arith, c .before .before .loop .inv .small, c .size .ensures 
 add-j : tie.Need-add-j Inv-loop μ-loop
 add-j c = omega (arith, c .before .before .before .pre .0 .most)
 
-loop-less : tie.Need-loop-less Inv-loop μ-loop
-loop-less c = omega arith
-
 loop-again : tie.Need-loop-again Inv-loop μ-loop
 loop-again c =
     let at-loop = c .before .before in
@@ -49,6 +46,6 @@ sum-of-sizes-spec =
     size-requires
     add-sum
     add-j
-    loop-less
+    (λ c. omega arith)
     loop-again
     returns)

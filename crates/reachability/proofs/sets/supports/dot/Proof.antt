@@ -24,12 +24,6 @@ abbrev μ-loop : tie.MeasureT-loop
 loop-holds : tie.Need-loop-holds Inv-loop μ-loop
 loop-holds c = running-start 6 (product (c .args .points .now) (c .args .k) (c .args .r .now)) productLimit
 
-mul-times-add : tie.Need-mul-times-add Inv-loop μ-loop
-mul-times-add c = omega arith
-
-element-copy-out-times-add : tie.Need-element-copy-out-times-add Inv-loop μ-loop
-element-copy-out-times-add c = omega arith
-
 mul-times-add-2 : tie.Need-mul-times-add-2 Inv-loop μ-loop
 mul-times-add-2 c = omega (arith, c .before .before .before .pre .0)
 
@@ -76,12 +70,6 @@ times-add-requires c κs =
       coordinate-small = subst (λ (z : ℤ). natAbs z ≤ reachLimit) (sym (coordinate c)) (coordinate-small c);
     }
 
-add-i : tie.Need-add-i Inv-loop μ-loop
-add-i c = omega arith
-
-loop-less : tie.Need-loop-less Inv-loop μ-loop
-loop-less c = omega arith
-
 loop-again : tie.Need-loop-again Inv-loop μ-loop
 loop-again c =
     let b = c .before in
@@ -99,14 +87,14 @@ dot-spec =
     Inv-loop
     μ-loop
     loop-holds
-    mul-times-add
-    element-copy-out-times-add
+    (λ c. omega arith)
+    (λ c. omega arith)
     mul-times-add-2
     add-times-add
     mul-times-add-3
     element-copy-out-times-add-2
     times-add-requires
-    add-i
-    loop-less
+    (λ c. omega arith)
+    (λ c. omega arith)
     loop-again
     returns)

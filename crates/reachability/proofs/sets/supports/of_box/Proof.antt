@@ -30,36 +30,6 @@ abbrev μ-loop : tie.MeasureT-loop
 loop-holds : tie.Need-loop-holds Inv-loop μ-loop
 loop-holds c = running-start 6 (product (c .args .points .now) (c .args .r .now)) productLimit
 
-mul-corner : tie.Need-mul-corner Inv-loop μ-loop
-mul-corner c = omega arith
-
-element-copy-out-corner : tie.Need-element-copy-out-corner Inv-loop μ-loop
-element-copy-out-corner c = omega arith
-
-mul-corner-2 : tie.Need-mul-corner-2 Inv-loop μ-loop
-mul-corner-2 c = omega arith
-
-element-copy-out-corner-2 : tie.Need-element-copy-out-corner-2 Inv-loop μ-loop
-element-copy-out-corner-2 c = omega arith
-
-add-corner : tie.Need-add-corner Inv-loop μ-loop
-add-corner c = omega arith
-
-mul-corner-3 : tie.Need-mul-corner-3 Inv-loop μ-loop
-mul-corner-3 c = omega arith
-
-element-copy-out-corner-3 : tie.Need-element-copy-out-corner-3 Inv-loop μ-loop
-element-copy-out-corner-3 c = omega arith
-
-corner-requires : tie.Need-corner-requires Inv-loop μ-loop
-corner-requires c κs = search needs
-
-mul-times-add : tie.Need-mul-times-add Inv-loop μ-loop
-mul-times-add c = omega arith
-
-element-copy-out-times-add : tie.Need-element-copy-out-times-add Inv-loop μ-loop
-element-copy-out-times-add c = omega arith
-
 -- the corner and the value of a turn
 module _ (c : tie.After-times-add-arg Inv-loop μ-loop) where
   abbrev at-loop : tie.At-loop Inv-loop μ-loop
@@ -108,12 +78,6 @@ times-add-requires c κs =
       coordinate-small = subst (λ (z : ℤ). natAbs z ≤ reachLimit) (sym (taken c)) (corner-small c);
     }
 
-add-i : tie.Need-add-i Inv-loop μ-loop
-add-i c = omega arith
-
-loop-less : tie.Need-loop-less Inv-loop μ-loop
-loop-less c = omega arith
-
 loop-again : tie.Need-loop-again Inv-loop μ-loop
 loop-again c =
     let b = c .before in
@@ -130,18 +94,18 @@ of-box-spec =
     Inv-loop
     μ-loop
     loop-holds
-    mul-corner
-    element-copy-out-corner
-    mul-corner-2
-    element-copy-out-corner-2
-    add-corner
-    mul-corner-3
-    element-copy-out-corner-3
-    corner-requires
-    mul-times-add
-    element-copy-out-times-add
+    (λ c. omega arith)
+    (λ c. omega arith)
+    (λ c. omega arith)
+    (λ c. omega arith)
+    (λ c. omega arith)
+    (λ c. omega arith)
+    (λ c. omega arith)
+    (λ c κs. search needs)
+    (λ c. omega arith)
+    (λ c. omega arith)
     times-add-requires
-    add-i
-    loop-less
+    (λ c. omega arith)
+    (λ c. omega arith)
     loop-again
     returns)

@@ -30,14 +30,8 @@ dot-requires-2 c κs =
     let start = c .before .before .before in
     (omega (arith, start .pre .0 .most, c .loop-test .taken), start .pre .1)
 
-larger-requires : tie.Need-larger-requires Inv-loop μ-loop
-larger-requires c κs = search needs
-
 add-k : tie.Need-add-k Inv-loop μ-loop
 add-k c = omega (arith, c .before .before .before .before .before .pre .0 .most)
-
-loop-less : tie.Need-loop-less Inv-loop μ-loop
-loop-less c = omega arith
 
 loop-again : tie.Need-loop-again Inv-loop μ-loop
 loop-again c =
@@ -61,8 +55,8 @@ of-vertices-spec =
     dot-requires
     loop-holds
     dot-requires-2
-    larger-requires
+    (λ c κs. search needs)
     add-k
-    loop-less
+    (λ c. omega arith)
     loop-again
     returns)

@@ -34,9 +34,6 @@ dot-requires-2 c κs =
     let start = c .before .before .before in
     (omega (arith, start .pre .0 .most, c .loop-test .taken), start .pre .1)
 
-magnitude-requires : tie.Need-magnitude-requires Inv-loop μ-loop
-magnitude-requires c κs = search needs
-
 -- what a turn adds
 module _ (c : tie.After-magnitude Inv-loop μ-loop) where
   abbrev at-loop : tie.At-loop Inv-loop μ-loop
@@ -75,9 +72,6 @@ add-sum c = subst (SFits w64) (sym (sum-is c)) (sum-fits c)
 add-k : tie.Need-add-k Inv-loop μ-loop
 add-k c = omega (arith, start c .pre .0 .most)
 
-loop-less : tie.Need-loop-less Inv-loop μ-loop
-loop-less c = omega arith
-
 loop-again : tie.Need-loop-again Inv-loop μ-loop
 loop-again c =
     support-more (at-loop c .loop .inv) (c .before .before .loop-test .taken) (ap (λ (z : ℤ). toZ w64 (ofZ w64 z)) (sum-is c) ∙ toZ-ofZ (sum-fits c))
@@ -94,10 +88,10 @@ of-zonotope-spec =
     dot-requires
     loop-holds
     dot-requires-2
-    magnitude-requires
+    (λ c κs. search needs)
     cast-size
     add-sum
     add-k
-    loop-less
+    (λ c. omega arith)
     loop-again
     returns)

@@ -35,15 +35,6 @@ shrZ-small : (z : ℤ) → mag z < 9223372036854775808 → natAbs (shrZ z direct
 shrZ-small (pos a) h = omega arith
 shrZ-small (negsuc a) h = omega arith
 
-fraction-requires : tie.Need-fraction-requires
-fraction-requires c κs = search needs
-
-add-up : tie.Need-add-up
-add-up c = search needs
-
-add-up-2 : tie.Need-add-up-2
-add-up-2 c = search needs
-
 module _ (c : tie.After-fraction) where
   abbrev raw : ℤ
   raw = c .before .args .raw
@@ -93,4 +84,4 @@ returns c =
 
 pub bound-and-slack-spec : {M : Type 1} → statement M
 bound-and-slack-spec =
-    tie.close (tie.spec fraction-requires add-up add-up-2 cast-bound add-bound add-slack cast-slack returns)
+    tie.close (tie.spec (λ c κs. search needs) (λ c. search needs) (λ c. search needs) cast-bound add-bound add-slack cast-slack returns)

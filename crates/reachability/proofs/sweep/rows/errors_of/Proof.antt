@@ -30,12 +30,6 @@ loop-holds c = running-start 6 (λ j. pos (product (c .args .e .now) (c .args .r
 natural-cast : {z : ℤ} {b : ℕ} → toZ w64 (ofZ w64 z) ≡ z → T (nonNeg z) → natAbs z ≤ b → b < 2 ^ 64 → T (nonNeg (toZ w64 (ofZ w64 z))) × Fits w64 (natAbs (toZ w64 (ofZ w64 z)))
 natural-cast {z} {b} e n h k = subst (λ (x : ℤ). T (nonNeg x) × Fits w64 (natAbs x)) (sym e) (n, record { fits = omega (arith, h, k) })
 
-mul-sum : tie.Need-mul-sum Inv-loop μ-loop
-mul-sum c = omega arith
-
-element-copy-out-sum : tie.Need-element-copy-out-sum Inv-loop μ-loop
-element-copy-out-sum c = omega arith
-
 read-e : (c : tie.After-sum Inv-loop μ-loop) → toZ w64 (ofZ w64 (vector (c .before .before .before .args .e .now) (c .before .before .loop .i))) ≡ vector (c .before .before .before .args .e .now) (c .before .before .loop .i)
 read-e c = read-given w64 _ (c .sum .given)
 
@@ -44,12 +38,6 @@ cast-sum c =
     let pre = c .before .before .before .pre in
     let turn = c .before .loop-test .taken in
     natural-cast (read-e c) (pre .natural _ turn) (pre .small _ turn) (lit< tt)
-
-mul-sum-2 : tie.Need-mul-sum-2 Inv-loop μ-loop
-mul-sum-2 c = omega arith
-
-element-copy-out-sum-2 : tie.Need-element-copy-out-sum-2 Inv-loop μ-loop
-element-copy-out-sum-2 c = omega arith
 
 -- the two factors of a turn
 module _ (c : tie.After-sum2 Inv-loop μ-loop) where
@@ -88,12 +76,6 @@ add-sum : tie.Need-add-sum Inv-loop μ-loop
 add-sum c =
     omega (arith, product-is c, product-small c, c .before .before .before .loop .inv .small, c .before .before .loop-test .taken)
 
-add-i : tie.Need-add-i Inv-loop μ-loop
-add-i c = omega arith
-
-loop-less : tie.Need-loop-less Inv-loop μ-loop
-loop-less c = omega arith
-
 loop-again : tie.Need-loop-again Inv-loop μ-loop
 loop-again c =
     let at-loop = c .before .before .before in
@@ -109,15 +91,15 @@ errors-of-spec =
     Inv-loop
     μ-loop
     loop-holds
-    mul-sum
-    element-copy-out-sum
+    (λ c. omega arith)
+    (λ c. omega arith)
     cast-sum
-    mul-sum-2
-    element-copy-out-sum-2
+    (λ c. omega arith)
+    (λ c. omega arith)
     cast-sum-2
     mul-sum-3
     add-sum
-    add-i
-    loop-less
+    (λ c. omega arith)
+    (λ c. omega arith)
     loop-again
     returns)

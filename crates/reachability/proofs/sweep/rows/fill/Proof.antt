@@ -29,9 +29,6 @@ row-requires c κs =
     let start = c .before .before .before .before .before .before .before .before .before .before .before in
     lt-of-lt-of-le (start .pre .inside) (facts start .directions-most)
 
-first-requires : tie.Need-first-requires
-first-requires c κs = search needs
-
 -- the first working direction of the row is that of the direction
 first-own : (m : Model) (k : ℕ) (d r : List ℤ) → d ≡ tabulate 6 (matrix (m .entries) k) → r ≡ tabulate 6 (firstR (vector d)) → r ≡ tabulate 6 (firstR (matrix (m .entries) k))
 first-own m k d r p q =
@@ -61,9 +58,6 @@ fill-rows-requires c κs =
       },
     )
 
-returns : tie.Need-returns
-returns c = search needs
-
 pub fill-spec : {M : Type 1} → statement M
 fill-spec =
     tie.close
@@ -71,6 +65,6 @@ fill-spec =
     reaches-of-requires
     reaches-of-requires-2
     row-requires
-    first-requires
+    (λ c κs. search needs)
     fill-rows-requires
-    returns)
+    (λ c. search needs))

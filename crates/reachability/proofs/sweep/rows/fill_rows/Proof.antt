@@ -35,12 +35,6 @@ module _ (c : tie.Start Inv-loop μ-loop) where
   first-step : BeforeStep m d (c .args .r .now) (c .args .e .now) (pos 0) 0 0
   first-step = before-first m facts d (c .args .r .now) (c .args .e .now) (c .pre .1 .r-is) (c .pre .1 .e-is)
 
-growth-requires : tie.Need-growth-requires Inv-loop μ-loop
-growth-requires c κs = search needs
-
-sum-of-requires : tie.Need-sum-of-requires Inv-loop μ-loop
-sum-of-requires c κs = search needs
-
 loop-holds : tie.Need-loop-holds Inv-loop μ-loop
 loop-holds c =
     let start = c .before .before .before .before in
@@ -81,15 +75,6 @@ mul-slack c = omega (arith, few (c .before .before .before .before .before .befo
 
 element-set-from-slack : tie.Need-element-set-from-slack Inv-loop μ-loop
 element-set-from-slack c = omega (arith, few (c .before .before .before .before .before .before))
-
-larger-requires : tie.Need-larger-requires Inv-loop μ-loop
-larger-requires c κs = search needs
-
-step-requires : tie.Need-step-requires Inv-loop μ-loop
-step-requires c κs = search needs
-
-sum-of-requires-2 : tie.Need-sum-of-requires-2 Inv-loop μ-loop
-sum-of-requires-2 c κs = search needs
 
 add-k : tie.Need-add-k Inv-loop μ-loop
 add-k c = omega (arith, few (c .before .before .before .before .before .before .before .before .before .before .before .before))
@@ -133,8 +118,8 @@ fill-rows-spec =
     (tie.spec
     Inv-loop
     μ-loop
-    growth-requires
-    sum-of-requires
+    (λ c κs. search needs)
+    (λ c κs. search needs)
     loop-holds
     returns
     values-of-requires
@@ -142,9 +127,9 @@ fill-rows-spec =
     element-set-from-bound
     mul-slack
     element-set-from-slack
-    larger-requires
-    step-requires
-    sum-of-requires-2
+    (λ c κs. search needs)
+    (λ c κs. search needs)
+    (λ c κs. search needs)
     add-k
     loop-less
     loop-again

@@ -27,18 +27,6 @@ mul-d-2 c = omega (arith, c .before .before .pre)
 element-copy-out-d : tie.Need-element-copy-out-d Inv-loop μ-loop
 element-copy-out-d c = omega (arith, c .before .before .pre)
 
-mul-d-3 : tie.Need-mul-d-3 Inv-loop μ-loop
-mul-d-3 c = omega arith
-
-array-set-from-d : tie.Need-array-set-from-d Inv-loop μ-loop
-array-set-from-d c = omega arith
-
-add-i : tie.Need-add-i Inv-loop μ-loop
-add-i c = omega arith
-
-loop-less : tie.Need-loop-less Inv-loop μ-loop
-loop-less c = omega arith
-
 loop-again : tie.Need-loop-again Inv-loop μ-loop
 loop-again c =
     let at-loop = c .before .before in
@@ -65,9 +53,9 @@ row-spec =
     add-d
     mul-d-2
     element-copy-out-d
-    mul-d-3
-    array-set-from-d
-    add-i
-    loop-less
+    (λ c. omega arith)
+    (λ c. omega arith)
+    (λ c. omega arith)
+    (λ c. omega arith)
     loop-again
     returns)

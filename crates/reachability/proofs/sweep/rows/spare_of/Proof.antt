@@ -10,15 +10,6 @@ use Rattle.stepping.specs.declared.Spare.the-variants.{Bits, NoSpare}
 use Rattle.reachability.proofs.sweep.rows.spare_of.Statement.{statement}
 use Rattle.reachability.proofs.sweep.rows.spare_of.Tie as tie
 
-spare-bits-requires : tie.Need-spare-bits-requires
-spare-bits-requires c κs = search needs
-
-enum-known-h : tie.Need-enum-known-h
-enum-known-h c = search needs
-
-enum-told : tie.Need-enum-told
-enum-told c = search needs
-
 answer : (s : ℕ) → 1 ≤ s → s ≤ growthLimit → spareAnswer s ≡ Bits (spare s)
 answer s l h = ap (λ (t : Bool). cond t (Bits (spare s)) NoSpare) (ap₂ _&&_ (le-leb 1 s l) (le-leb s growthLimit h))
 
@@ -38,4 +29,4 @@ returns-2 : tie.Need-returns-2
 returns-2 c = never (c .enum-told .given .1) (is (c .before .before))
 
 pub spare-of-spec : {M : Type 1} → statement M
-spare-of-spec = tie.close (tie.spec spare-bits-requires enum-known-h enum-told returns returns-2)
+spare-of-spec = tie.close (tie.spec (λ c κs. search needs) (λ c. search needs) (λ c. search needs) returns returns-2)

@@ -8,12 +8,6 @@ use Rattle.reachability.proofs.sweep.Terms.{termErrors-small, termOf-sm
 use Rattle.reachability.proofs.sweep.rows.terms_of.Statement.{statement}
 use Rattle.reachability.proofs.sweep.rows.terms_of.Tie as tie
 
-support-of-requires : tie.Need-support-of-requires
-support-of-requires c κs = search needs
-
-errors-of-requires : tie.Need-errors-of-requires
-errors-of-requires c κs = search needs
-
 module _ (c : tie.After-errors-of) where
   abbrev start : tie.Start
   start = c .before .before
@@ -41,4 +35,4 @@ returns c = (ap (λ (z : ℤ). toZ w64 (ofZ w64 z)) (total-is c) ∙ toZ-ofZ (to
 
 pub terms-of-spec : {M : Type 1} → statement M
 terms-of-spec =
-    tie.close (tie.spec support-of-requires errors-of-requires cast-total add-total returns)
+    tie.close (tie.spec (λ c κs. search needs) (λ c κs. search needs) cast-total add-total returns)

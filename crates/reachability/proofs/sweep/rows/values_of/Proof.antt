@@ -77,9 +77,6 @@ mul-bound-and-slack c =
     let b = c .before .before .before .before .before .before in
     omega (arith, errors-here b, start b .pre .errors-small)
 
-bound-and-slack-requires : tie.Need-bound-and-slack-requires
-bound-and-slack-requires c κs = search needs
-
 -- the fields of the rounded values, read back from their bits
 module _ (c : tie.After-struct-told3) where
   read-bound : toZ w64 (ofZ w64 (c .before .bound-and-slack .result .bound)) ≡ c .before .bound-and-slack .result .bound
@@ -114,5 +111,5 @@ values-of-spec =
     add-raw
     add-bound-and-slack
     mul-bound-and-slack
-    bound-and-slack-requires
+    (λ c κs. search needs)
     returns)
