@@ -12,7 +12,7 @@ use Rattle.listing.proofs.Putting.{put-then, put-most, put-none, put-le
 use Rattle.listing.proofs.directions.put_directions.Statement.{statement}
 use Rattle.listing.proofs.directions.put_directions.Tie as tie
 
-record So (m : Model) (at : ℕ) (out₀ : List ℕ) (bounds slacks : List ℤ) (cases steps out : List ℕ) (end d : ℕ) : Type 0 where
+record DirectionsPut (m : Model) (at : ℕ) (out₀ : List ℕ) (bounds slacks : List ℤ) (cases steps out : List ℕ) (end d : ℕ) : Type 0 where
   passed : d ≤ m .directions
   bounds-long : length bounds ≡ suc (m .steps)
   slacks-long : length slacks ≡ suc (m .steps)
@@ -22,7 +22,7 @@ record So (m : Model) (at : ℕ) (out₀ : List ℕ) (bounds slacks : List ℤ) 
 
 abbrev Inv-loop : tie.InvT-loop
 Inv-loop model bounds₀ slacks₀ cases₀ steps₀ out₀ at end₀ d₀ bounds slacks cases steps out end d =
-    So model at out₀ bounds slacks cases steps out end d
+    DirectionsPut model at out₀ bounds slacks cases steps out end d
 
 abbrev μ-loop : tie.MeasureT-loop
 μ-loop model bounds₀ slacks₀ cases₀ steps₀ out₀ at end₀ d₀ bounds slacks cases steps out end d = model .directions - d

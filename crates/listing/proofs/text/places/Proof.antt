@@ -8,13 +8,13 @@ use Rattle.listing.proofs.Decimals.{Digits, digits-none, digits-pair, d
 use Rattle.listing.proofs.text.places.Statement.{statement}
 use Rattle.listing.proofs.text.places.Tie as tie
 
-record So (n rest k : ℕ) : Type 0 where
+record DividedSoFar (n rest k : ℕ) : Type 0 where
   t : List ℕ
   digits : Digits n rest t
   count : k ≡ suc (length t)
 
 abbrev Inv-loop : tie.InvT-loop
-Inv-loop n rest₀ k₀ rest k = So n rest k
+Inv-loop n rest₀ k₀ rest k = DividedSoFar n rest k
 
 abbrev μ-loop : tie.MeasureT-loop
 μ-loop n rest₀ k₀ rest k = rest

@@ -11,20 +11,20 @@ use Rattle.listing.proofs.Decimals.{Digits, digits-none, digits-pair, d
 use Rattle.listing.proofs.text.put_decimal.Statement.{statement}
 use Rattle.listing.proofs.text.put_decimal.Tie as tie
 
-record So (n : ℕ) (out₀ : List ℕ) (end : ℕ) (out : List ℕ) (rest i : ℕ) : Type 0 where
+record DigitsPut (n : ℕ) (out₀ : List ℕ) (end : ℕ) (out : List ℕ) (rest i : ℕ) : Type 0 where
   t : List ℕ
   digits : Digits n rest t
   here : i + length t ≡ end
   text : out ≡ splice out₀ i t
 
 abbrev Inv-loop : tie.InvT-loop
-Inv-loop out₀ at n end rest₀ i₀ out rest i = So n out₀ end out rest i
+Inv-loop out₀ at n end rest₀ i₀ out rest i = DigitsPut n out₀ end out rest i
 
 abbrev μ-loop : tie.MeasureT-loop
 μ-loop out₀ at n end rest₀ i₀ out rest i = rest
 
 -- the buffer keeps its length, and the digits passed lie inside it
-long : {n : ℕ} {b : List ℕ} {end : ℕ} {c : List ℕ} {rest i : ℕ} → So n b end c rest i → end ≤ length b → length c ≡ length b
+long : {n : ℕ} {b : List ℕ} {end : ℕ} {c : List ℕ} {rest i : ℕ} → DigitsPut n b end c rest i → end ≤ length b → length c ≡ length b
 long {b = b} {i = i} so h = ap length (so .text) ∙ length-splice b i (so .t) (subst (λ (k : ℕ). k ≤ length b) (sym (so .here)) h)
 
 -- the end, from `places`
@@ -63,7 +63,7 @@ module _ (c : tie.In-loop Inv-loop μ-loop) where
   abbrev i : ℕ
   i = c .before .loop .i
 
-  so : So n (places .before .before .args .out .now) (finish places) (c .before .loop .out) rest i
+  so : DigitsPut n (places .before .before .args .out .now) (finish places) (c .before .loop .out) rest i
   so = c .before .loop .inv
 
   some : 2 ≤ i
@@ -129,7 +129,7 @@ module _ (c : tie.After-loop Inv-loop μ-loop) where
   abbrev last : ℕ
   last = c .before .loop .rest
 
-  so-left : So m b (finish place) (c .before .loop .out) last (c .before .loop .i)
+  so-left : DigitsPut m b (finish place) (c .before .loop .out) last (c .before .loop .i)
   so-left = c .before .loop .inv
 
   -- two
