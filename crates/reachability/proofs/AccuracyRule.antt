@@ -21,7 +21,7 @@ use Rattle.stepping.specs.Recurrence.{firstR}
 use Rattle.stepping.proofs.Stands.{stands-first}
 use Rattle.reachability.specs.Sets.{points, supportOf, reachOf, Member}
 use Rattle.reachability.specs.Limits.{accepted}
-use Rattle.reachability.specs.Runs.{moves, direction, Run, state, value, denominator, Largest}
+use Rattle.reachability.specs.Runs.{moves, direction, Run, state, denominator, Largest}
 use Rattle.reachability.specs.Recurrence.{first, working, supportAt, errorAt, rawBound, bound, slack, firstPlace}
 use Rattle.reachability.specs.Verdicts.{hitAt, unknownAt, verdict}
 use Rattle.reachability.specs.Rule.{NoRunPasses, SomeRunWithin, ReachedBy, WithinSlackOf, VerdictHolds, Accurate, AccuracyRule}
