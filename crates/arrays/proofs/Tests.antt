@@ -1,5 +1,5 @@
--- What the tests over an array say of each element, also of a place past its end, where a stored vector is zero.
--- Assumes nothing.
+-- The tests over an array, and what is known of each element. In order: what a test that holds says of a place, also of one past
+-- the end, where a stored vector is zero; a test that holds by what is known of each place. Assumes nothing.
 use mathlib.Core.Path.{_≡_, refl, sym, ap, ap₂, subst, _∙_}
 use mathlib.Core.Bool.{Bool, true, false, _&&_, _||_}
 use mathlib.Core.List.{List}
@@ -11,10 +11,11 @@ use lib.Dec.{ltb, eqb}
 use lib.ListN.{length, List·getD-eq-default}
 use lib.IntN.{ℤ, pos, negℤ, natAbs}
 use lib.Signed.{leZ}
+use Rattle.integers.specs.Whole.{_⩽_}
 use Rattle.integers.specs.Sums.{vector, matrix}
 use Rattle.integers.proofs.Booleans.{and-true, and-false, or-true, or-false}
-use Rattle.integers.proofs.SignedParts.{v, #, neg, le?, abs! }
-use Rattle.integers.proofs.Order.{⩽-of-leZ}
+use Rattle.integers.proofs.SignedParts.{v, #, neg, _⊕_, le!, le?, abs!, abs?}
+use Rattle.integers.proofs.Order.{⩽-of-leZ, lt-of-leZ-false}
 use Rattle.integers.proofs.Sums.{allBelow-at, allBelow-intro}
 use Rattle.integers.proofs.Machine.{zero-of-natAbs}
 use Rattle.arrays.specs.Tests.{between, allBetween, zeroUnless, zeroOutside}
@@ -64,3 +65,42 @@ zeroOutside-wider {n} {n′} xs l t = allBelow-intro (length xs) (λ k. zeroUnle
         let both = and-true (ltb (k / 6) n) (ltb (k % 6) n) e in
         ap (λ (b : Bool). b || eqb (natAbs (vector xs k)) 0) (ap₂ _&&_ (lt-ltb (k / 6) n′ (omega (arith, ltb-true (k / 6) n (both .0)))) (lt-ltb (k % 6) n′ (omega (arith, ltb-true (k % 6) n (both .1)))))
     cases k false e = ap (λ (b : Bool). (ltb (k / 6) n′ && ltb (k % 6) n′) || b) (eq-eqb _ 0 (ap natAbs (zeroOutside-at n n xs t k e))) ∙ or-true (ltb (k / 6) n′ && ltb (k % 6) n′)
+
+-- ---- from each place
+
+-- place k of rows of six is in row k / 6 and column k % 6
+place : (k : ℕ) → 6 * (k / 6) + k % 6 ≡ k
+place k = omega arith
+
+-- Zero in the rows from `rows` on, and in the columns from `columns` on.
+pub record Zeros (rows columns : ℕ) (xs : List ℤ) : Type 0 where
+  pub row : (p i : ℕ) → i < 6 → rows ≤ p → matrix xs p i ≡ pos 0
+  pub column : (p i : ℕ) → i < 6 → columns ≤ i → matrix xs p i ≡ pos 0
+
+pub zeroOutside-of : (rows columns : ℕ) (xs : List ℤ) → Zeros rows columns xs → zeroOutside rows columns xs ≡ true
+zeroOutside-of rows columns xs z = allBelow-intro (length xs) (λ k. zeroUnless rows columns k (vector xs k)) (λ k h. here k)
+  where
+    outside : (k : ℕ) → vector xs k ≡ pos 0 → zeroUnless rows columns k (vector xs k) ≡ true
+    outside k e = ap (λ (x : ℤ). (ltb (k / 6) rows && ltb (k % 6) columns) || eqb (natAbs x) 0) e ∙ or-true (ltb (k / 6) rows && ltb (k % 6) columns)
+
+    here : (k : ℕ) → zeroUnless rows columns k (vector xs k) ≡ true
+    here k =
+        elim (decLt (k / 6) rows) [ yes r ↦ elim (decLt (k % 6) columns) [ yes c ↦ simp (lt-ltb (k / 6) rows r, lt-ltb (k % 6) columns c) | no g ↦ outside k (sym (ap (vector xs) (place k)) ∙ z .column (k / 6) (k % 6) (omega arith) (omega (arith, g))) ] | no g ↦ outside k (sym (ap (vector xs) (place k)) ∙ z .row (k / 6) (k % 6) (omega arith) (omega (arith, g))) ]
+
+pub record Small (limit : ℕ) (xs : List ℤ) : Type 0 where
+  pub at : (p i : ℕ) → i < 6 → natAbs (matrix xs p i) ≤ limit
+
+leZ-of : (a b : ℤ) → a ⩽ b → leZ a b ≡ true
+leZ-of a b h = split (leZ a b) refl
+  where
+    split : (t : Bool) → leZ a b ≡ t → leZ a b ≡ true
+    split true e = e
+    split false e = absurd (omega (arith, le? (v b ⊕ # 1) (v a) (lt-of-leZ-false a b e), le? (v a) (v b) h))
+
+between-of : (limit : ℕ) (x : ℤ) → natAbs x ≤ limit → between (negℤ (pos limit)) (pos limit) x ≡ true
+between-of limit x h =
+    let both = abs? (v x) limit h in
+    ap₂ _&&_ (leZ-of (negℤ (pos limit)) x (le! (neg (# limit)) (v x) (omega (arith, both .0, both .1)))) (leZ-of x (pos limit) (le! (v x) (# limit) (omega (arith, both .0, both .1))))
+
+pub allBetween-of : (limit : ℕ) (xs : List ℤ) → Small limit xs → allBetween (negℤ (pos limit)) (pos limit) xs ≡ true
+allBetween-of limit xs s = allBelow-intro (length xs) (λ k. between (negℤ (pos limit)) (pos limit) (vector xs k)) (λ k h. between-of limit (vector xs k) (subst (λ (j : ℕ). natAbs (vector xs j) ≤ limit) (place k) (s .at (k / 6) (k % 6) (omega arith))))

@@ -243,6 +243,11 @@ unfolding allBelow
 allBelow-intro zero f h = refl
 allBelow-intro (suc n) f h = ap₂ _&&_ (allBelow-intro n f (λ i l. h i (wider l))) (h n (here n))
 
+pub allBelow-cong : (n : ℕ) (f g : ℕ → Bool) → ((i : ℕ) → i < n → f i ≡ g i) → allBelow n f ≡ allBelow n g
+unfolding allBelow
+allBelow-cong zero f g e = refl
+allBelow-cong (suc n) f g e = ap₂ _&&_ (allBelow-cong n f g (λ i l. e i (wider l))) (e n (here n))
+
 -- ---- matrices
 
 -- The direction meets the matrix times the state as the transpose times the direction meets the state.

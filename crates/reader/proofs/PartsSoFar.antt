@@ -14,7 +14,7 @@ use lib.IntN.{ℤ, pos}
 use Rattle.integers.specs.Sums.{vector, tabulate}
 use Rattle.integers.proofs.Machine.{getD-tabulate}
 use Rattle.integers.proofs.Booleans.{and-true}
-use Rattle.arrays.proofs.Introduction.{Zeros, Small, zeroOutside-of}
+use Rattle.arrays.proofs.Tests.{Zeros, Small, zeroOutside-of}
 use Rattle.stepping.specs.Limits.{entryLimit}
 use Rattle.stepping.specs.Refusals.{dimensionOk}
 use Rattle.records.specs.Numbers.{signedAt}

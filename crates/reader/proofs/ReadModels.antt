@@ -12,7 +12,7 @@ use lib.ListN.{length, take, length-take}
 use lib.Seq.{take-all}
 use Rattle.records.specs.Records.{Record, recordAt, recordKind, recordBody}
 use Rattle.records.proofs.RecordAt.{whole-length, recordAt-take, reaches-of-le}
-use Rattle.arrays.proofs.Introduction.{Zeros, zeroOutside-of, allBetween-of}
+use Rattle.arrays.proofs.Tests.{Zeros, zeroOutside-of, allBetween-of}
 use Rattle.stepping.specs.Limits.{entryLimit}
 use Rattle.reachability.specs.Limits.{accepted, frameOk, directionsOk, directionLimit}
 use Rattle.reader.specs.declared.Status.the-variants.{Read}

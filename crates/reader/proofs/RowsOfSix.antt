@@ -13,10 +13,9 @@ use lib.ListN.{length, getD, set, replicate}
 use lib.Seq.{getD-set-same, getD-set-other}
 use lib.IntN.{ℤ, pos, negℤ, natAbs}
 use Rattle.integers.specs.Sums.{vector, matrix}
-use Rattle.integers.proofs.Sums.{allBelow-intro}
+use Rattle.integers.proofs.Sums.{allBelow-intro, allBelow-cong}
 use Rattle.arrays.specs.Tests.{allBetween}
-use Rattle.arrays.proofs.Tests.{allBetween-at}
-use Rattle.arrays.proofs.Introduction.{Zeros, Small, allBelow-cong}
+use Rattle.arrays.proofs.Tests.{allBetween-at, Zeros, Small}
 use Rattle.reachability.specs.Limits.{allZero, someNonzero, guardOk, guardsOk}
 use Rattle.reader.specs.Models.{zeros, putRow}
 use Rattle.reader.proofs.store.PutRow.{putRow-other, putRow-same}
