@@ -12,7 +12,7 @@ use lib.Seq.{getD-set-same, getD-set-other}
 use Rattle.reachability.specs.Limits.{accepted}
 use Rattle.reachability.specs.declared.model.Model.{Model}
 use Rattle.reachability.specs.declared.judge.Judged.{Judged}
-use Rattle.reachability.proofs.JudgeAnswers.{guards-most, watches}
+use Rattle.reachability.proofs.model.Facts.{model-facts}
 use Rattle.listing.specs.Listing.{judgeOf}
 use Rattle.listing.specs.Inner.{Notes, Noted, AllNoted}
 
@@ -63,4 +63,4 @@ module _ (m : Model) (note : Judged → ℕ) where
 
   -- every guard watches a direction
   pub noted-all : (xs : List ℕ) → accepted m ≡ true → Noted m (m .directions) note xs → AllNoted m note xs
-  noted-all xs ok n = record { guards-most = guards-most m ok; is = λ g l. n .is g l (watches m g ok l) }
+  noted-all xs ok n = record { guards-most = model-facts m ok .guards-most; is = λ g l. n .is g l (model-facts m ok .watches g l) }

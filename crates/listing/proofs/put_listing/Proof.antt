@@ -6,7 +6,7 @@ use lib.ListN.{take}
 use lib.Seq.{length-take-le}
 use Rattle.reachability.specs.Limits.{accepted}
 use Rattle.reachability.specs.declared.model.Model.{Model}
-use Rattle.reachability.proofs.JudgeAnswers.{guards-most}
+use Rattle.reachability.proofs.model.Facts.{model-facts}
 use Rattle.listing.specs.Text.{word, line, each}
 use Rattle.listing.specs.Listing.{directionText, guardText, listingText, replyRoom}
 use Rattle.listing.specs.Inner.{Put}
@@ -81,7 +81,7 @@ put-guards-requires c κs =
     let done = c .before .before .before .before .before .before .before .put-directions .ensures in (
       done .cases-noted,
       done .steps-noted,
-      omega (arith, put-length (done .lines), put-near (done .lines), put-length head, put-near head, start .pre .1, directions-range m ok .1, guards-most m ok),
+      omega (arith, put-length (done .lines), put-near (done .lines), put-length head, put-near head, start .pre .1, directions-range m ok .1, model-facts m ok .guards-most),
     )
 
 same-length : tie.Need-same-length
@@ -97,7 +97,7 @@ returns c =
     let start = c .before .before .before .before .before .before .before .before .before .before .before .before .before .before .before .before .before .before .before .before .before .before .before .before .before .before in
     let m = start .args .model in
     let ok = start .pre .0 in
-    listed m (omega (arith, directions-range m ok .1, guards-most m ok)) (put-then (put-then (c .before .before .before .before .before .before .before .before .before .before .before .before .before .before .before .before .before .before .put-line .ensures) (c .before .before .before .before .before .before .before .before .before .before .put-directions .ensures .lines)) (c .before .before .put-guards .ensures))
+    listed m (omega (arith, directions-range m ok .1, model-facts m ok .guards-most)) (put-then (put-then (c .before .before .before .before .before .before .before .before .before .before .before .before .before .before .before .before .before .before .put-line .ensures) (c .before .before .before .before .before .before .before .before .before .before .put-directions .ensures .lines)) (c .before .before .put-guards .ensures))
 
 pub put-listing-spec : {M : Type 1} → statement M
 put-listing-spec =

@@ -3,7 +3,7 @@ use Rattle.integers.proofs.Basics.{_≡_, refl, sym, ap, ap₂, subst, _∙_, t
 use mathlib.Core.List.{List, [], _∷_, _++_}
 use Rattle.reachability.specs.Answers.{SweepLeaves}
 use Rattle.reachability.specs.declared.model.Model.{Model}
-use Rattle.reachability.proofs.JudgeAnswers.{guards-most}
+use Rattle.reachability.proofs.model.Facts.{model-facts}
 use Rattle.listing.specs.Inner.{Askable}
 use Rattle.listing.proofs.Answers.{swept-lines, guard-answer, steps-most}
 use Rattle.listing.proofs.Putting.{put-is, put-most}
@@ -45,7 +45,7 @@ module _ (c : tie.After-sweep) where
 note-requires : tie.Need-note-requires
 note-requires c κs =
     let w = c .before .before .before .before .before .before in
-    (record { guards-most = guards-most (m w) (ask w .accepts); answers = λ g l e. guard-answer (m w) (d w) _ _ (ask w) g l e (w .sweep .result) (b w) (s w) (left w) }, start w .pre .1, start w .pre .2)
+    (record { guards-most = model-facts (m w) (ask w .accepts) .guards-most; answers = λ g l e. guard-answer (m w) (d w) _ _ (ask w) g l e (w .sweep .result) (b w) (s w) (left w) }, start w .pre .1, start w .pre .2)
 
 put-swept-requires : tie.Need-put-swept-requires
 put-swept-requires c κs =
