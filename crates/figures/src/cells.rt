@@ -1,6 +1,23 @@
-// Numbers of a row. A row has words between spaces: a name, numbers, and bars that part it into sections. A cell's number has
-// the section in its high hexadecimal digit and the place in the low one; a bar stands at place 0 of the section that it opens.
-// Numbers are decimal, and one that is missing is 0.
+// The numbers of a row. A row has words between spaces: a name, numbers, and bars that part it into sections. A number's cell
+// has the section in its high hexadecimal digit and the place in the low one; a bar stands at place 0 of the section that it
+// opens. Numbers are decimal, and one that is missing is 0.
+ghost use mathlib.Core.Path.{_≡_};
+ghost use Prim.Native.Nat.{_≤_};
+ghost use lib.ListN.{length, take};
+
+// A list with x in each place: one longer than the longest that K + 1 can be.
+pub fn list_of(x: i64) -> [i64; 258]
+    ensures { λ r. ⌜ 258 ≡ length r ⌝ }
+{
+    [x; 258]
+}
+
+// The length that is asked of a list, and no more than the list has.
+pub fn length_of(asked: usize, xs: &[i64]) -> usize
+    ensures { λ r. ⌜ (r ≤ length (now (xs .entry))) × (r ≡ length (take r (now (xs .entry)))) ⌝ }
+{
+    if asked < xs.len() { asked } else { xs.len() }
+}
 
 // The byte at a place of the row, 0 beyond its end.
 pub fn letter(row: &[u8], k: usize) -> u8 {
@@ -41,28 +58,31 @@ fn signed(negative: bool, size: u64) -> i64 {
     }
 }
 
-pub fn number(row: &[u8], cell: u8) -> i64 {
+// Puts each number of a row into its cell.
+pub fn read(row: &[u8], cells: &mut [i64; 258]) {
+    let mut at: u8 = 0;
     let mut size: u64 = 0;
     let mut negative = false;
-    let mut at: u8 = 0;
     let mut before = b' ';
     let mut k: usize = 0;
     while k < row.len() {
         let b = row[k];
-        at = cell_after(at, before, b);
-        if at == cell {
-            size = with_digit(size, b);
-            negative = negative | (b == b'-');
+        let next = cell_after(at, before, b);
+        if next != at {
+            size = 0;
+            negative = false;
         }
+        at = next;
+        size = with_digit(size, b);
+        negative = negative | (b == b'-');
+        cells[at as usize] = signed(negative, size);
         before = b;
         k += 1;
     }
-    signed(negative, size)
 }
 
-// The same as a number of 32 bits, 0 where it does not fit.
-pub fn entry(row: &[u8], cell: u8) -> i32 {
-    let x = number(row, cell);
+// A number of 32 bits, 0 where it does not fit.
+pub fn entry(x: i64) -> i32 {
     if x < -2147483648 {
         return 0;
     }
@@ -72,7 +92,16 @@ pub fn entry(row: &[u8], cell: u8) -> i32 {
     x as i32
 }
 
-// The same without its sign.
-pub fn count(row: &[u8], cell: u8) -> usize {
-    arrays::magnitude(number(row, cell)) as usize
+// A number without its sign.
+pub fn count(x: i64) -> usize {
+    arrays::magnitude(x) as usize
+}
+
+// A natural number, -1 where it does not fit.
+pub fn exact(x: u64) -> i64 {
+    if x < 0x8000_0000_0000_0000 {
+        x as i64
+    } else {
+        -1
+    }
 }

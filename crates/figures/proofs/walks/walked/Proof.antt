@@ -4,22 +4,31 @@ use Rattle.figures.proofs.walks.walked.Statement.{statement}
 use Rattle.figures.proofs.walks.walked.Tie as tie
 
 abbrev Inv-loop : tie.InvT-loop
-Inv-loop row steps s₀ counter₀ s counter = Unit {0}
+Inv-loop n steps matrix r₀ e₀ sum₀ most₀ k₀ r e sum most k = Unit {0}
 
 abbrev μ-loop : tie.MeasureT-loop
-μ-loop row steps s₀ counter₀ s counter = steps - counter
+μ-loop n steps matrix r₀ e₀ sum₀ most₀ k₀ r e sum most k = steps - k
 
-first-of-requires : tie.Need-first-of-requires Inv-loop μ-loop
-first-of-requires c κs = tt
+growth-requires : tie.Need-growth-requires Inv-loop μ-loop
+growth-requires c κs = tt
+
+sum-of-requires : tie.Need-sum-of-requires Inv-loop μ-loop
+sum-of-requires c κs = tt
 
 loop-holds : tie.Need-loop-holds Inv-loop μ-loop
 loop-holds c = tt
 
-next-of-requires : tie.Need-next-of-requires Inv-loop μ-loop
-next-of-requires c κs = tt
+step-requires : tie.Need-step-requires Inv-loop μ-loop
+step-requires c κs = tt
 
-add-counter : tie.Need-add-counter Inv-loop μ-loop
-add-counter c = omega arith
+sum-of-requires-2 : tie.Need-sum-of-requires-2 Inv-loop μ-loop
+sum-of-requires-2 c κs = tt
+
+larger-requires : tie.Need-larger-requires Inv-loop μ-loop
+larger-requires c κs = tt
+
+add-k : tie.Need-add-k Inv-loop μ-loop
+add-k c = omega arith
 
 loop-less : tie.Need-loop-less Inv-loop μ-loop
 loop-less c = omega arith
@@ -30,16 +39,23 @@ loop-again c = tt
 returns : tie.Need-returns Inv-loop μ-loop
 returns c = tt
 
+returns-2 : tie.Need-returns-2 Inv-loop μ-loop
+returns-2 c = tt
+
 pub walked-spec : {M : Type 1} → statement M
 walked-spec =
     tie.close
     (tie.spec
     Inv-loop
     μ-loop
-    first-of-requires
+    growth-requires
+    sum-of-requires
     loop-holds
-    next-of-requires
-    add-counter
+    step-requires
+    sum-of-requires-2
+    larger-requires
+    add-k
     loop-less
     loop-again
-    returns)
+    returns
+    returns-2)
