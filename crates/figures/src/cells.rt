@@ -96,12 +96,3 @@ pub fn entry(x: i64) -> i32 {
 pub fn count(x: i64) -> usize {
     arrays::magnitude(x) as usize
 }
-
-// A natural number, -1 where it does not fit.
-pub fn exact(x: u64) -> i64 {
-    if x < 0x8000_0000_0000_0000 {
-        x as i64
-    } else {
-        -1
-    }
-}

@@ -1,32 +1,44 @@
-// What a case tells, and its text.
+// Writing to standard output.
 use libc::STDOUT_FILENO;
 
-// The first `count` numbers are told.
-pub struct Row {
-    pub count: usize,
-    pub numbers: [i64; 6],
+// A space and a natural number.
+pub fn natural(x: u64) {
+    io::write_all(STDOUT_FILENO, b" ");
+    io::print_decimal(STDOUT_FILENO, x);
 }
 
-// A space and a number.
-fn write_number(x: i64) {
+pub fn number(x: i64) {
+    let size = arrays::magnitude(x);
     if x < 0 {
         io::write_all(STDOUT_FILENO, b" -");
+        io::print_decimal(STDOUT_FILENO, size);
     } else {
-        io::write_all(STDOUT_FILENO, b" ");
+        natural(size);
     }
-    io::print_decimal(STDOUT_FILENO, arrays::magnitude(x));
 }
 
 // The numbers of a list, or the first `most`.
-pub fn write(xs: &[i64], most: usize) {
+pub fn list(xs: &[i64], most: usize) {
     let mut k: usize = 0;
     while k < xs.len() {
         if k == most {
             break;
         }
-        write_number(xs[k]);
+        number(xs[k]);
         k += 1;
     }
+}
+
+// The first two numbers of six.
+pub fn pair(xs: [i64; 6]) {
+    number(xs[0]);
+    number(xs[1]);
+}
+
+// A number and a figure.
+pub fn answer(number: u64, figure: u64) {
+    natural(number);
+    natural(figure);
 }
 
 pub fn end() {

@@ -1,23 +1,41 @@
 // The sweep and the judge: the answer for a small model.
 use crate::cells::count;
 use crate::cells::entry;
-use crate::cells::exact;
-use crate::output::Row;
+use crate::cells::length_of;
+use crate::cells::list_of;
+use crate::output::answer;
+use crate::output::list;
+use crate::output::natural;
 use crate::sets::set_of;
 use crate::walks::matrix_of;
 use reachability::model::Model;
 use reachability::sweep::Swept;
 use reachability::verdicts::Judged;
 
+// What the first guard watches.
+fn watched_of(direction: usize) -> [usize; 16] {
+    let mut watched = [0usize; 16];
+    watched[0] = direction;
+    watched
+}
+
+// The level of the first guard.
+fn levels_of(level: i64) -> [i64; 16] {
+    let mut levels = [0i64; 16];
+    levels[0] = level;
+    levels
+}
+
+// The first two entries of the first direction.
+fn entries_of(a: i32, b: i32) -> [i32; 96] {
+    let mut entries = [0i32; 96];
+    entries[0] = a;
+    entries[1] = b;
+    entries
+}
+
 // The model of a row: one direction with two entries, and the first guard's direction and level.
 fn model_of(cells: &[i64; 258]) -> Model {
-    let mut entries = [0i32; 96];
-    entries[0] = entry(cells[0x21]);
-    entries[1] = entry(cells[0x22]);
-    let mut watched = [0usize; 16];
-    watched[0] = count(cells[0x52]);
-    let mut levels = [0i64; 16];
-    levels[0] = cells[0x53];
     Model {
         n: count(cells[0x02]),
         steps: count(cells[0x03]),
@@ -25,59 +43,85 @@ fn model_of(cells: &[i64; 258]) -> Model {
         initial: set_of(cells, 3),
         input: set_of(cells, 4),
         directions: 1,
-        entries,
+        entries: entries_of(entry(cells[0x21]), entry(cells[0x22])),
         guards: count(cells[0x51]),
-        watched,
-        levels,
+        watched: watched_of(count(cells[0x52])),
+        levels: levels_of(cells[0x53]),
     }
 }
 
+fn told(number: u64, verdict: u64, figure: u64) {
+    natural(number);
+    answer(verdict, figure);
+}
+
 // The number, no verdict, and the spare figure or the step.
-fn of_swept(a: Swept) -> [i64; 3] {
+fn swept(a: Swept) {
     match a {
-        Swept::Spare(h) => [0, 0, h as i64],
-        Swept::Invalid => [11, 0, 0],
-        Swept::NoDirection => [12, 0, 0],
-        Swept::WrongLength => [13, 0, 0],
-        Swept::Growth(k) => [14, 0, exact(k as u64)],
+        Swept::Spare(h) => told(0, 0, h as u64),
+        Swept::Invalid => told(11, 0, 0),
+        Swept::NoDirection => told(12, 0, 0),
+        Swept::WrongLength => told(13, 0, 0),
+        Swept::Growth(k) => told(14, 0, k as u64),
     }
 }
 
 // The number, the verdict (0 none, 1 HIT, 2 UNKNOWN, 3 CLEAR), and the step.
-fn of_judged(a: Judged) -> [i64; 3] {
+fn judged(a: Judged) {
     match a {
-        Judged::Hit(k) => [0, 1, exact(k as u64)],
-        Judged::Unknown(k) => [0, 2, exact(k as u64)],
-        Judged::Clear => [0, 3, 0],
-        Judged::Invalid => [11, 0, 0],
-        Judged::NoGuard => [12, 0, 0],
-        Judged::WrongLength => [13, 0, 0],
-        Judged::Growth(k) => [14, 0, exact(k as u64)],
+        Judged::Hit(k) => told(0, 1, k as u64),
+        Judged::Unknown(k) => told(0, 2, k as u64),
+        Judged::Clear => told(0, 3, 0),
+        Judged::Invalid => told(11, 0, 0),
+        Judged::NoGuard => told(12, 0, 0),
+        Judged::WrongLength => told(13, 0, 0),
+        Judged::Growth(k) => told(14, 0, k as u64),
     }
 }
 
-fn answer(routine: u8, cells: &[i64; 258], bounds: &mut [i64], slacks: &mut [i64]) -> [i64; 3] {
-    let asked = count(cells[0x61]);
+// The lengths of the lists, and the first twelve numbers of each.
+fn lists(bounds: &[i64], slacks: &[i64]) {
+    answer(bounds.len() as u64, slacks.len() as u64);
+    list(bounds, 12);
+    list(slacks, 12);
+}
+
+fn sweep(cells: &[i64; 258], bounds: &mut [i64], slacks: &mut [i64]) {
+    swept(reachability::sweep::sweep(model_of(cells), count(cells[0x61]), bounds, slacks));
+    lists(bounds, slacks);
+}
+
+fn judge(cells: &[i64; 258], bounds: &mut [i64], slacks: &mut [i64]) {
+    judged(judge::judge(model_of(cells), count(cells[0x61]), bounds, slacks));
+    lists(bounds, slacks);
+}
+
+// The verdict by lists that no sweep filled.
+fn verdict(cells: &[i64; 258], bounds: &[i64], slacks: &[i64]) {
+    judged(judge::verdict(Swept::Spare(0), cells[0x53], bounds, slacks));
+    lists(bounds, slacks);
+}
+
+// The answer of a sweep, a judge or a verdict, and the lists as they are left.
+fn lend(routine: u8, cells: &[i64; 258], bounds: &mut [i64], slacks: &mut [i64]) {
     match routine {
         b's' => {
-            return of_swept(reachability::sweep::sweep(model_of(cells), asked, bounds, slacks));
+            return sweep(cells, bounds, slacks);
         }
         b'j' => {
-            return of_judged(judge::judge(model_of(cells), asked, bounds, slacks));
+            return judge(cells, bounds, slacks);
         }
         _ => {
-            return of_judged(judge::verdict(Swept::Spare(0), cells[0x53], bounds, slacks));
+            return verdict(cells, bounds, slacks);
         }
     }
 }
 
-// A sweep, a judge, or a verdict by lists that no sweep filled: the answer, and the lengths of the lists.
-pub fn lend(routine: u8, cells: &[i64; 258], bounds: &mut [i64], slacks: &mut [i64]) -> Row {
-    let a = answer(routine, cells, bounds, slacks);
-    let b = bounds.len();
-    let s = slacks.len();
-    Row {
-        count: 5,
-        numbers: [a[0], a[1], a[2], exact(b as u64), exact(s as u64), 0],
-    }
+// The same by lists with 7 in each bound and 9 in each slack.
+pub fn run(routine: u8, cells: &[i64; 258]) {
+    let mut bounds = list_of(7);
+    let mut slacks = list_of(9);
+    let b = length_of(count(cells[0x62]), &bounds);
+    let s = length_of(count(cells[0x63]), &slacks);
+    lend(routine, cells, &mut bounds[..b], &mut slacks[..s]);
 }

@@ -1,8 +1,10 @@
 // The stepping arithmetic: working directions step by step, growth, spare, and the refusals of `step`.
 use crate::cells::count;
 use crate::cells::entry;
-use crate::cells::exact;
-use crate::output::Row;
+use crate::output::answer;
+use crate::output::natural;
+use crate::output::number;
+use crate::output::pair;
 use stepping::Spare;
 use stepping::Stepped;
 
@@ -16,18 +18,21 @@ pub fn matrix_of(cells: &[i64; 258]) -> [i32; 36] {
     m
 }
 
-// The number and the spare figure, or the given number and figure where there is no spare.
-pub fn spare(most: u64, number: i64, figure: i64) -> Row {
+// Six numbers, of which a row has the first two.
+pub fn six_of(cells: &[i64; 258], at: u8) -> [i64; 6] {
+    [cells[at as usize], cells[at as usize + 1], 0, 0, 0, 0]
+}
+
+// The spare figure, or the given number and figure where there is none.
+fn spare_or(most: u64, number: u64, figure: u64) {
     match stepping::spare_bits(most) {
-        Spare::Bits(h) => Row {
-            count: 2,
-            numbers: [0, h as i64, 0, 0, 0, 0],
-        },
-        Spare::NoSpare => Row {
-            count: 2,
-            numbers: [number, figure, 0, 0, 0, 0],
-        },
+        Spare::Bits(h) => answer(0, h as u64),
+        Spare::NoSpare => answer(number, figure),
     }
+}
+
+pub fn spare(cells: &[i64; 258]) {
+    spare_or(arrays::magnitude(cells[0x02]), 11, 0);
 }
 
 // The growth sum, 0 for a refusal.
@@ -67,54 +72,53 @@ fn walked(
     Ending { step: k, sum, most }
 }
 
-// Steps 0 to K from a row's direction. `walk` tells the last step, the first two coordinates of r and of e, and the growth sum;
-// `last` the number and the spare figure, or 14 and the step of growth.
-pub fn walk(cells: &[i64; 258], last: bool) -> Row {
-    let matrix = matrix_of(cells);
+// The steps 0 to K from a row's direction, or to growth: r and e at the last.
+fn walk_of(cells: &[i64; 258], r: &mut [i64; 6], e: &mut [i64; 6]) -> Ending {
     let d = [entry(cells[0x21]), entry(cells[0x22]), 0, 0, 0, 0];
+    stepping::first(&d, r, e);
+    let matrix = matrix_of(cells);
+    walked(count(cells[0x02]), count(cells[0x03]), &matrix, r, e)
+}
+
+// The last step, the first two coordinates of r and of e, and the growth sum.
+pub fn walk(cells: &[i64; 258]) {
     let mut r = [0i64; 6];
     let mut e = [0i64; 6];
-    stepping::first(&d, &mut r, &mut e);
-    let w = walked(
-        count(cells[0x02]),
-        count(cells[0x03]),
-        &matrix,
-        &mut r,
-        &mut e,
-    );
-    if last {
-        return spare(w.most, 14, exact(w.step as u64));
-    }
-    Row {
-        count: 6,
-        numbers: [exact(w.step as u64), r[0], r[1], e[0], e[1], exact(w.sum)],
-    }
+    let end = walk_of(cells, &mut r, &mut e);
+    natural(end.step as u64);
+    pair(r);
+    pair(e);
+    natural(end.sum);
 }
 
-// The number and the growth sum, then r and e.
-fn told(count: usize, a: Stepped, r: [i64; 6], e: [i64; 6]) -> Row {
+// The number and the spare figure, or 14 and the step of growth.
+pub fn last(cells: &[i64; 258]) {
+    let mut r = [0i64; 6];
+    let mut e = [0i64; 6];
+    let end = walk_of(cells, &mut r, &mut e);
+    spare_or(end.most, 14, end.step as u64);
+}
+
+// The number and the growth sum.
+fn stepped(a: Stepped) {
     match a {
-        Stepped::Sum(sum) => Row {
-            count,
-            numbers: [0, exact(sum), r[0], r[1], e[0], e[1]],
-        },
-        Stepped::Refused => Row {
-            count,
-            numbers: [11, 0, r[0], r[1], e[0], e[1]],
-        },
+        Stepped::Sum(sum) => answer(0, sum),
+        Stepped::Refused => answer(11, 0),
     }
 }
 
-// One step, or the growth sum alone: the answer, and what r and e hold after it.
-pub fn step(cells: &[i64; 258], growth: bool) -> Row {
-    let n = count(cells[0x02]);
-    let mut r = [cells[0x21], cells[0x22], 0, 0, 0, 0];
-    let mut e = [cells[0x23], cells[0x24], 0, 0, 0, 0];
-    if growth {
-        let a = stepping::growth(n, &r, &e);
-        return told(2, a, r, e);
-    }
+// One step: the answer, and what r and e hold after it.
+pub fn step(cells: &[i64; 258]) {
     let matrix = matrix_of(cells);
-    let a = stepping::step(n, &matrix, &mut r, &mut e);
-    told(5, a, r, e)
+    let mut r = six_of(cells, 0x21);
+    let mut e = six_of(cells, 0x23);
+    stepped(stepping::step(count(cells[0x02]), &matrix, &mut r, &mut e));
+    pair(r);
+    number(e[0]);
+}
+
+pub fn growth(cells: &[i64; 258]) {
+    let r = six_of(cells, 0x21);
+    let e = six_of(cells, 0x23);
+    stepped(stepping::growth(count(cells[0x02]), &r, &e));
 }

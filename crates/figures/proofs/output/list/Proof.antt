@@ -1,7 +1,7 @@
--- `figures::output::write` is safe and ends: the measure is what is left of the list. Assumes nothing.
+-- `figures::output::list` is safe and ends: the measure is what is left of the list. Assumes nothing.
 use Rattle.integers.proofs.Basics.{_-_, _≤_, arith, needs, length}
-use Rattle.figures.proofs.output.write.Statement.{statement}
-use Rattle.figures.proofs.output.write.Tie as tie
+use Rattle.figures.proofs.output.list.Statement.{statement}
+use Rattle.figures.proofs.output.list.Tie as tie
 
 abbrev Inv-loop : tie.InvT-loop
 Inv-loop xs most k₀ k = k ≤ length xs
@@ -12,14 +12,14 @@ abbrev μ-loop : tie.MeasureT-loop
 loop-holds : tie.Need-loop-holds Inv-loop μ-loop
 loop-holds c = omega arith
 
-mul-write-number : tie.Need-mul-write-number Inv-loop μ-loop
-mul-write-number c = search needs
+mul-number : tie.Need-mul-number Inv-loop μ-loop
+mul-number c = search needs
 
-shared-slice-copy-out-write-number : tie.Need-shared-slice-copy-out-write-number Inv-loop μ-loop
-shared-slice-copy-out-write-number c = omega arith
+shared-slice-copy-out-number : tie.Need-shared-slice-copy-out-number Inv-loop μ-loop
+shared-slice-copy-out-number c = omega arith
 
-write-number-requires : tie.Need-write-number-requires Inv-loop μ-loop
-write-number-requires c κs = tt
+number-requires : tie.Need-number-requires Inv-loop μ-loop
+number-requires c κs = tt
 
 add-k : tie.Need-add-k Inv-loop μ-loop
 add-k c = omega arith
@@ -36,16 +36,16 @@ returns c = tt
 returns-2 : tie.Need-returns-2 Inv-loop μ-loop
 returns-2 c = tt
 
-pub write-spec : {M : Type 1} → statement M
-write-spec =
+pub list-spec : {M : Type 1} → statement M
+list-spec =
     tie.close
     (tie.spec
     Inv-loop
     μ-loop
     loop-holds
-    mul-write-number
-    shared-slice-copy-out-write-number
-    write-number-requires
+    mul-number
+    shared-slice-copy-out-number
+    number-requires
     add-k
     loop-less
     loop-again
