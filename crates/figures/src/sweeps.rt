@@ -86,33 +86,20 @@ fn lists(bounds: &[i64], slacks: &[i64]) {
     list(slacks, 12);
 }
 
-fn sweep(cells: &[i64; 258], bounds: &mut [i64], slacks: &mut [i64]) {
-    swept(reachability::sweep::sweep(model_of(cells), count(cells, 0x61), bounds, slacks));
-    lists(bounds, slacks);
-}
-
-fn judge(cells: &[i64; 258], bounds: &mut [i64], slacks: &mut [i64]) {
-    judged(judge::judge(model_of(cells), count(cells, 0x61), bounds, slacks));
-    lists(bounds, slacks);
-}
-
-// The verdict by lists that no sweep filled.
-fn verdict(cells: &[i64; 258], bounds: &[i64], slacks: &[i64]) {
-    judged(judge::verdict(Swept::Spare(0), cells[0x53], bounds, slacks));
-    lists(bounds, slacks);
-}
-
-// The answer of a sweep, a judge or a verdict, and the lists as they are left.
+// The answer of a sweep, of a judge, or of a verdict by lists that no sweep filled; then the lists as they are left.
 fn lend(routine: u8, cells: &[i64; 258], bounds: &mut [i64], slacks: &mut [i64]) {
     match routine {
         b's' => {
-            return sweep(cells, bounds, slacks);
+            swept(reachability::sweep::sweep(model_of(cells), count(cells, 0x61), bounds, slacks));
+            return lists(bounds, slacks);
         }
         b'j' => {
-            return judge(cells, bounds, slacks);
+            judged(judge::judge(model_of(cells), count(cells, 0x61), bounds, slacks));
+            return lists(bounds, slacks);
         }
         _ => {
-            return verdict(cells, bounds, slacks);
+            judged(judge::verdict(Swept::Spare(0), cells[0x53], bounds, slacks));
+            return lists(bounds, slacks);
         }
     }
 }

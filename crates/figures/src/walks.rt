@@ -111,19 +111,14 @@ fn stepped(a: Stepped) {
     }
 }
 
-fn tell_step(a: Stepped, r: [i64; 6], e: [i64; 6]) {
-    stepped(a);
-    pair(r);
-    number(e[0]);
-}
-
 // One step: the answer, and what r and e hold after it.
 pub fn step(cells: &[i64; 258]) {
     let matrix = matrix_of(cells);
     let mut r = six_of(cells, 0x21);
     let mut e = six_of(cells, 0x23);
-    let a = stepping::step(count(cells, 0x02), &matrix, &mut r, &mut e);
-    tell_step(a, r, e);
+    stepped(stepping::step(count(cells, 0x02), &matrix, &mut r, &mut e));
+    pair(r);
+    number(e[0]);
 }
 
 pub fn growth(cells: &[i64; 258]) {
