@@ -81,8 +81,9 @@ pub fn read(row: &[u8], cells: &mut [i64; 258]) {
     }
 }
 
-// A number of 32 bits, 0 where it does not fit.
-pub fn entry(x: i64) -> i32 {
+// A cell as a number of 32 bits, 0 where it does not fit.
+pub fn entry(cells: &[i64; 258], cell: u8) -> i32 {
+    let x = cells[cell as usize];
     if x < -2147483648 {
         return 0;
     }
@@ -92,7 +93,7 @@ pub fn entry(x: i64) -> i32 {
     x as i32
 }
 
-// A number without its sign.
-pub fn count(x: i64) -> usize {
-    arrays::magnitude(x) as usize
+// A cell without its sign.
+pub fn count(cells: &[i64; 258], cell: u8) -> usize {
+    arrays::magnitude(cells[cell as usize]) as usize
 }

@@ -10,7 +10,7 @@ use reachability::sets::Set;
 use reachability::sets::Shape;
 use reachability::sets::Supported;
 
-fn shape_of(number: i64) -> Shape {
+fn shape_of(number: usize) -> Shape {
     match number {
         0 => Shape::Box,
         1 => Shape::Zonotope,
@@ -19,21 +19,21 @@ fn shape_of(number: i64) -> Shape {
 }
 
 // The first two coordinates of the first three points.
-fn points_of(cells: &[i64; 258], section: usize) -> [i32; 96] {
+fn points_of(cells: &[i64; 258], section: u8) -> [i32; 96] {
     let mut points = [0i32; 96];
-    let mut k: usize = 0;
+    let mut k: u8 = 0;
     while k < 6 {
-        points[k / 2 * 6 + k % 2] = entry(cells[16 * (section % 8) + 3 + k]);
+        points[(k / 2 * 6 + k % 2) as usize] = entry(cells, section % 128 + 3 + k);
         k += 1;
     }
     points
 }
 
-// The set of a section below 8: shape, count and points.
-pub fn set_of(cells: &[i64; 258], section: usize) -> Set {
+// The set of a section that starts at a cell below 128: shape, count and points.
+pub fn set_of(cells: &[i64; 258], section: u8) -> Set {
     Set {
-        shape: shape_of(cells[16 * (section % 8) + 1]),
-        count: count(cells[16 * (section % 8) + 2]),
+        shape: shape_of(count(cells, section % 128 + 1)),
+        count: count(cells, section % 128 + 2),
         points: points_of(cells, section),
     }
 }
@@ -41,7 +41,7 @@ pub fn set_of(cells: &[i64; 258], section: usize) -> Set {
 // The number and the support.
 pub fn support(cells: &[i64; 258]) {
     let r = six_of(cells, 0x21);
-    match reachability::sets::support(count(cells[0x02]), set_of(cells, 3), &r) {
+    match reachability::sets::support(count(cells, 0x02), set_of(cells, 0x30), &r) {
         Supported::Value(v) => {
             natural(0);
             number(v);
@@ -52,7 +52,7 @@ pub fn support(cells: &[i64; 258]) {
 
 // The number, and the reach in the first two coordinates.
 pub fn reach(cells: &[i64; 258]) {
-    let a = reachability::sets::reach(count(cells[0x02]), set_of(cells, 3));
+    let a = reachability::sets::reach(count(cells, 0x02), set_of(cells, 0x30));
     let reaches = a.reaches;
     natural(a.number as u64);
     pair(reaches);

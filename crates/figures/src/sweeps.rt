@@ -13,40 +13,40 @@ use reachability::sweep::Swept;
 use reachability::verdicts::Judged;
 
 // What the first guard watches.
-fn watched_of(direction: usize) -> [usize; 16] {
+fn watched_of(cells: &[i64; 258]) -> [usize; 16] {
     let mut watched = [0usize; 16];
-    watched[0] = direction;
+    watched[0] = count(cells, 0x52);
     watched
 }
 
 // The level of the first guard.
-fn levels_of(level: i64) -> [i64; 16] {
+fn levels_of(cells: &[i64; 258]) -> [i64; 16] {
     let mut levels = [0i64; 16];
-    levels[0] = level;
+    levels[0] = cells[0x53];
     levels
 }
 
 // The first two entries of the first direction.
-fn entries_of(a: i32, b: i32) -> [i32; 96] {
+fn entries_of(cells: &[i64; 258]) -> [i32; 96] {
     let mut entries = [0i32; 96];
-    entries[0] = a;
-    entries[1] = b;
+    entries[0] = entry(cells, 0x21);
+    entries[1] = entry(cells, 0x22);
     entries
 }
 
 // The model of a row: one direction with two entries, and the first guard's direction and level.
 fn model_of(cells: &[i64; 258]) -> Model {
     Model {
-        n: count(cells[0x02]),
-        steps: count(cells[0x03]),
+        n: count(cells, 0x02),
+        steps: count(cells, 0x03),
         matrix: matrix_of(cells),
-        initial: set_of(cells, 3),
-        input: set_of(cells, 4),
+        initial: set_of(cells, 0x30),
+        input: set_of(cells, 0x40),
         directions: 1,
-        entries: entries_of(entry(cells[0x21]), entry(cells[0x22])),
-        guards: count(cells[0x51]),
-        watched: watched_of(count(cells[0x52])),
-        levels: levels_of(cells[0x53]),
+        entries: entries_of(cells),
+        guards: count(cells, 0x51),
+        watched: watched_of(cells),
+        levels: levels_of(cells),
     }
 }
 
@@ -86,33 +86,20 @@ fn lists(bounds: &[i64], slacks: &[i64]) {
     list(slacks, 12);
 }
 
-fn sweep(cells: &[i64; 258], bounds: &mut [i64], slacks: &mut [i64]) {
-    swept(reachability::sweep::sweep(model_of(cells), count(cells[0x61]), bounds, slacks));
-    lists(bounds, slacks);
-}
-
-fn judge(cells: &[i64; 258], bounds: &mut [i64], slacks: &mut [i64]) {
-    judged(judge::judge(model_of(cells), count(cells[0x61]), bounds, slacks));
-    lists(bounds, slacks);
-}
-
-// The verdict by lists that no sweep filled.
-fn verdict(cells: &[i64; 258], bounds: &[i64], slacks: &[i64]) {
-    judged(judge::verdict(Swept::Spare(0), cells[0x53], bounds, slacks));
-    lists(bounds, slacks);
-}
-
-// The answer of a sweep, a judge or a verdict, and the lists as they are left.
+// The answer of a sweep, of a judge, or of a verdict by lists that no sweep filled; then the lists as they are left.
 fn lend(routine: u8, cells: &[i64; 258], bounds: &mut [i64], slacks: &mut [i64]) {
     match routine {
         b's' => {
-            return sweep(cells, bounds, slacks);
+            swept(reachability::sweep::sweep(model_of(cells), count(cells, 0x61), bounds, slacks));
+            return lists(bounds, slacks);
         }
         b'j' => {
-            return judge(cells, bounds, slacks);
+            judged(judge::judge(model_of(cells), count(cells, 0x61), bounds, slacks));
+            return lists(bounds, slacks);
         }
         _ => {
-            return verdict(cells, bounds, slacks);
+            judged(judge::verdict(Swept::Spare(0), cells[0x53], bounds, slacks));
+            return lists(bounds, slacks);
         }
     }
 }
@@ -121,7 +108,7 @@ fn lend(routine: u8, cells: &[i64; 258], bounds: &mut [i64], slacks: &mut [i64])
 pub fn run(routine: u8, cells: &[i64; 258]) {
     let mut bounds = list_of(7);
     let mut slacks = list_of(9);
-    let b = length_of(count(cells[0x62]), &bounds);
-    let s = length_of(count(cells[0x63]), &slacks);
+    let b = length_of(count(cells, 0x62), &bounds);
+    let s = length_of(count(cells, 0x63), &slacks);
     lend(routine, cells, &mut bounds[..b], &mut slacks[..s]);
 }

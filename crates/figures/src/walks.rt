@@ -11,10 +11,10 @@ use stepping::Stepped;
 // The matrix of a row: the first two entries of its first two rows.
 pub fn matrix_of(cells: &[i64; 258]) -> [i32; 36] {
     let mut m = [0i32; 36];
-    m[0] = entry(cells[0x11]);
-    m[1] = entry(cells[0x12]);
-    m[6] = entry(cells[0x13]);
-    m[7] = entry(cells[0x14]);
+    m[0] = entry(cells, 0x11);
+    m[1] = entry(cells, 0x12);
+    m[6] = entry(cells, 0x13);
+    m[7] = entry(cells, 0x14);
     m
 }
 
@@ -72,12 +72,16 @@ fn walked(
     Ending { step: k, sum, most }
 }
 
+fn direction_of(cells: &[i64; 258]) -> [i32; 6] {
+    [entry(cells, 0x21), entry(cells, 0x22), 0, 0, 0, 0]
+}
+
 // The steps 0 to K from a row's direction, or to growth: r and e at the last.
 fn walk_of(cells: &[i64; 258], r: &mut [i64; 6], e: &mut [i64; 6]) -> Ending {
-    let d = [entry(cells[0x21]), entry(cells[0x22]), 0, 0, 0, 0];
-    stepping::first(&d, r, e);
+    let direction = direction_of(cells);
+    stepping::first(&direction, r, e);
     let matrix = matrix_of(cells);
-    walked(count(cells[0x02]), count(cells[0x03]), &matrix, r, e)
+    walked(count(cells, 0x02), count(cells, 0x03), &matrix, r, e)
 }
 
 // The last step, the first two coordinates of r and of e, and the growth sum.
@@ -112,7 +116,7 @@ pub fn step(cells: &[i64; 258]) {
     let matrix = matrix_of(cells);
     let mut r = six_of(cells, 0x21);
     let mut e = six_of(cells, 0x23);
-    stepped(stepping::step(count(cells[0x02]), &matrix, &mut r, &mut e));
+    stepped(stepping::step(count(cells, 0x02), &matrix, &mut r, &mut e));
     pair(r);
     number(e[0]);
 }
@@ -120,5 +124,5 @@ pub fn step(cells: &[i64; 258]) {
 pub fn growth(cells: &[i64; 258]) {
     let r = six_of(cells, 0x21);
     let e = six_of(cells, 0x23);
-    stepped(stepping::growth(count(cells[0x02]), &r, &e));
+    stepped(stepping::growth(count(cells, 0x02), &r, &e));
 }

@@ -12,20 +12,11 @@ abbrev μ-loop : tie.MeasureT-loop
 loop-holds : tie.Need-loop-holds Inv-loop μ-loop
 loop-holds c = tt
 
-mul-entry : tie.Need-mul-entry Inv-loop μ-loop
-mul-entry c = omega arith
-
 add-entry : tie.Need-add-entry Inv-loop μ-loop
 add-entry c = omega arith
 
 add-entry-2 : tie.Need-add-entry-2 Inv-loop μ-loop
 add-entry-2 c = omega arith
-
-mul-entry-2 : tie.Need-mul-entry-2 Inv-loop μ-loop
-mul-entry-2 c = search needs
-
-element-copy-out-entry : tie.Need-element-copy-out-entry Inv-loop μ-loop
-element-copy-out-entry c = search needs
 
 entry-requires : tie.Need-entry-requires Inv-loop μ-loop
 entry-requires c κs = tt
@@ -35,6 +26,9 @@ mul-points c = omega arith
 
 add-points : tie.Need-add-points Inv-loop μ-loop
 add-points c = omega arith
+
+cast-points : tie.Need-cast-points Inv-loop μ-loop
+cast-points c = search needs
 
 mul-points-2 : tie.Need-mul-points-2 Inv-loop μ-loop
 mul-points-2 c = search needs
@@ -61,14 +55,12 @@ points-of-spec =
     Inv-loop
     μ-loop
     loop-holds
-    mul-entry
     add-entry
     add-entry-2
-    mul-entry-2
-    element-copy-out-entry
     entry-requires
     mul-points
     add-points
+    cast-points
     mul-points-2
     array-set-from-points
     add-k
