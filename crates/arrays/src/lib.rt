@@ -25,17 +25,16 @@ pub fn larger(a: u64, b: u64) -> u64
 }
 
 // 1 where x isn't a multiple of `unit`, else 0. Only 0 is a multiple of 0.
-pub fn fraction(x: i64, unit: u64) -> u64
+pub fn fraction(x: i64, unit: u32) -> u64
     ensures { λ f. ⌜ f ≡ fractionOf x unit ⌝ }
 {
-    let size = magnitude(x);
     if unit == 0 {
-        if size == 0 {
+        if x == 0 {
             return 0;
         }
         return 1;
     }
-    if size % unit == 0 { 0 } else { 1 }
+    if x % (unit as i64) == 0 { 0 } else { 1 }
 }
 
 // x is from low to high.

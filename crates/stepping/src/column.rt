@@ -36,21 +36,13 @@ pub(crate) fn error_sum(matrix: &[i32; 36], e: &[i64; 6], i: usize) -> u64
     sum
 }
 
-// 1 where N isn't a multiple of 65,536, else 0. This is `arrays::fraction` at 65,536 by the bits that a shift drops.
-fn inexact(sum: i64) -> u64
-    ensures { λ f. ⌜ f ≡ fraction sum matrixUnit ⌝ }
-{
-    let floor = sum >> 16;
-    if sum == 65536 * floor { 0 } else { 1 }
-}
-
 // The next e of column i, whose N is `sum`.
 fn column_error(matrix: &[i32; 36], e: &[i64; 6], i: usize, sum: i64) -> i64
     requires { ⌜ (i < 6) × BoundedErrors (now matrix) (now e) ⌝ }
     ensures { λ x. ⌜ x ≡ pos (ceilDivℕ (errorSum 6 (matrixOf (now (matrix .entry))) (magnitudes (now (e .entry))) i) matrixUnit + fraction sum matrixUnit) ⌝ }
 {
     let errors = error_sum(matrix, e, i);
-    ((errors + 65535) / 65536 + inexact(sum)) as i64
+    ((errors + 65535) / 65536 + arrays::fraction(sum, 65536)) as i64
 }
 
 // r and e one step on, in place. The six columns stand in a straight line, so that r and e are stored once each and as a

@@ -13,7 +13,8 @@ pub fn bound_and_slack(raw: i64, raw_slack: u64) -> Rounded
     ensures { λ a. ⌜ Rounds raw «raw_slack» (a .bound) (a .slack) ⌝ }
 {
     let part = arrays::fraction(raw, 1048576);
-    let up = raw_slack / 1048576 + (raw_slack % 1048576 + 1048575) / 1048576;
+    let rest = arrays::fraction((raw_slack % 1048576) as i64, 1048576);
+    let up = raw_slack / 1048576 + rest;
     let bound = (raw >> 20) + (part as i64);
     let slack = (up + part) as i64;
     Rounded { bound, slack }

@@ -18,9 +18,9 @@ few c =
 add-result : tie.Need-add-result
 add-result c = omega (arith, few c)
 
-at-most-one : (c : tie.After-inexact) → c .inexact .result ≤ 1
+at-most-one : (c : tie.After-fraction) → c .fraction .result ≤ 1
 at-most-one c =
-    subst (λ (k : ℕ). k ≤ 1) (sym (c .inexact .ensures)) (fraction-le-one (toZ w64 (ofZ w64 (c .before .before .args .sum))) matrixUnit)
+    subst (λ (k : ℕ). k ≤ 1) (sym (c .fraction .ensures)) (fraction-le-one (toZ w64 (ofZ w64 (c .before .before .args .sum))) matrixUnit)
 
 add-result-2 : tie.Need-add-result-2
 add-result-2 c = omega (arith, at-most-one c, few (c .before))
@@ -31,7 +31,7 @@ cast-result c = record { sfits = omega (arith, at-most-one c, few (c .before)) }
 returns : tie.Need-returns
 returns c =
     toZ-pos w64 (omega (arith, at-most-one c, few (c .before)))
-    ∙ ap₂ (λ (s k : ℕ). pos (ceilDivℕ s matrixUnit + k)) (c .before .error-sum .ensures) (c .inexact .ensures ∙ ap (λ (z : ℤ). fraction z matrixUnit) (toZ-ofZ (c .before .before .fits .sum)))
+    ∙ ap₂ (λ (s k : ℕ). pos (ceilDivℕ s matrixUnit + k)) (c .before .error-sum .ensures) (c .fraction .ensures ∙ ap (λ (z : ℤ). fraction z matrixUnit) (toZ-ofZ (c .before .before .fits .sum)))
 
 pub column-error-spec : {M : Type 1} → statement M
 column-error-spec =

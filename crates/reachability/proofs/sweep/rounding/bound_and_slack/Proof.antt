@@ -35,6 +35,15 @@ shrZ-small : (z : ℤ) → mag z < 9223372036854775808 → natAbs (shrZ z direct
 shrZ-small (pos a) h = omega arith
 shrZ-small (negsuc a) h = omega arith
 
+-- a remainder that is left, and a quotient rounded up
+round-up : (s : ℕ) → s / directionUnit + fractionOf (pos (s % directionUnit)) directionUnit ≡ (s + 1048575) / directionUnit
+round-up s = cases (eqb (s % directionUnit % directionUnit) 0) refl
+  where
+    cases : (b : Bool) → eqb (s % directionUnit % directionUnit) 0 ≡ b → s / directionUnit + cond b 0 1 ≡ (s + 1048575) / directionUnit
+    cases true e = omega (arith, eqb-true (s % directionUnit % directionUnit) 0 e)
+    cases false e = omega (arith, eqb-false (s % directionUnit % directionUnit) 0 e)
+
+-- the raw bound, rounded up
 module _ (c : tie.After-fraction) where
   abbrev raw : ℤ
   raw = c .before .args .raw
@@ -60,28 +69,53 @@ module _ (c : tie.After-fraction) where
   sum-fits : SFits w64 (shrZ raw directionUnit +ℤ pos (c .fraction .result))
   sum-fits = sfits-of-natAbs w64 {b = 8796093022209} (omega (arith, natAbs-add (shrZ raw directionUnit) (pos (c .fraction .result)), down-small, part-small)) (lit< tt)
 
+-- the raw slack, rounded up
+module _ (c : tie.After-fraction2) where
+  abbrev first : tie.After-fraction
+  first = c .before
+
+  abbrev slack : ℕ
+  slack = first .before .args .raw-slack
+
+  rest-is : c .fraction2 .result ≡ fractionOf (pos (slack % directionUnit)) directionUnit
+  rest-is = c .fraction2 .ensures ∙ ap (λ (z : ℤ). fractionOf z directionUnit) (toZ-pos w64 {n = slack % directionUnit} (omega arith))
+
+  up-is : slack / directionUnit + c .fraction2 .result ≡ (slack + 1048575) / directionUnit
+  up-is = ap (λ (k : ℕ). slack / directionUnit + k) rest-is ∙ round-up slack
+
+add-up : tie.Need-add-up
+add-up c = omega (arith, up-is c)
+
 cast-bound : tie.Need-cast-bound
-cast-bound c = record { sfits = omega (arith, part-small c) }
+cast-bound c = record { sfits = omega (arith, part-small (first c)) }
 
 add-bound : tie.Need-add-bound
-add-bound c = subst (SFits w64) (sym (sum-is c)) (sum-fits c)
+add-bound c = subst (SFits w64) (sym (sum-is (first c))) (sum-fits (first c))
 
 add-slack : tie.Need-add-slack
-add-slack c = omega (arith, part-small c)
+add-slack c = omega (arith, up-is c, part-small (first c))
 
 cast-slack : tie.Need-cast-slack
-cast-slack c = record { sfits = omega (arith, part-small c) }
+cast-slack c = record { sfits = omega (arith, up-is c, part-small (first c)) }
 
 returns : tie.Need-returns
 returns c =
+    let b = first c in
     record {
-      bound-is = ap (λ (z : ℤ). toZ w64 (ofZ w64 z)) (sum-is c) ∙ toZ-ofZ (sum-fits c) ∙ ap (λ (k : ℕ). shrZ (raw c) directionUnit +ℤ pos k) (part-is c) ∙ sym (ceilDiv-floorDiv (raw c));
-      slack-is = toZ-pos w64 (omega (arith, part-small c)) ∙ ap pos (rounded-up (c .before .args .raw-slack) (part-is c));
+      bound-is = ap (λ (z : ℤ). toZ w64 (ofZ w64 z)) (sum-is b) ∙ toZ-ofZ (sum-fits b) ∙ ap (λ (k : ℕ). shrZ (raw b) directionUnit +ℤ pos k) (part-is b) ∙ sym (ceilDiv-floorDiv (raw b));
+      slack-is = toZ-pos w64 (omega (arith, up-is c, part-small b)) ∙ ap₂ (λ (k l : ℕ). pos (k + l)) (up-is c) (part-is b);
     }
-  where
-    rounded-up : (s : ℕ) {x y : ℕ} → x ≡ y → (s / directionUnit + (s % directionUnit + 1048575) / directionUnit) + x ≡ (s + 1048575) / directionUnit + y
-    rounded-up s e = omega (arith, e)
 
 pub bound-and-slack-spec : {M : Type 1} → statement M
 bound-and-slack-spec =
-    tie.close (tie.spec (λ c κs. search needs) (λ c. search needs) (λ c. search needs) cast-bound add-bound add-slack cast-slack returns)
+    tie.close
+    (tie.spec
+    (λ c κs. search needs)
+    (λ c. search needs)
+    (λ c κs. search needs)
+    add-up
+    cast-bound
+    add-bound
+    add-slack
+    cast-slack
+    returns)
