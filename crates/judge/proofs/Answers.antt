@@ -13,7 +13,8 @@ use lib.IntN.{ℤ, pos}
 use Rattle.integers.specs.Sums.{vector}
 use Rattle.integers.proofs.Machine.{length-tabulate}
 use Rattle.integers.proofs.Booleans.{and-false, and-skip, and-stop}
-use Rattle.reachability.specs.Limits.{accepted, stepsOk}
+use Rattle.limits.specs.Limits.{stepsOk}
+use Rattle.reachability.specs.Limits.{accepted}
 use Rattle.reachability.specs.Recurrence.{firstPlace, growthStep, spareFigure, bound, slack}
 use Rattle.reachability.specs.Verdicts.{hitAt, unknownAt, verdictBelow, verdict}
 use Rattle.reachability.specs.Rule.{VerdictHolds}

@@ -9,7 +9,8 @@ use lib.Dec.{leb, ltb, eqb}
 use lib.ListN.{length, getD}
 use lib.IntN.{ℤ}
 use Rattle.integers.specs.Sums.{vector}
-use Rattle.reachability.specs.Limits.{accepted, stepsOk}
+use Rattle.limits.specs.Limits.{stepsOk}
+use Rattle.reachability.specs.Limits.{accepted}
 use Rattle.reachability.specs.Recurrence.{growthStep}
 use Rattle.reachability.specs.Verdicts.{verdictBelow, verdict}
 use Rattle.reachability.specs.Rule.{Accurate, VerdictHolds}

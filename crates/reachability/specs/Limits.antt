@@ -1,49 +1,12 @@
--- Document 01, "Limits", and which models are accepted. Definitions only. The limits of the stepping arithmetic are in its own
--- crate, those of a set's points are in `Sets`.
+-- Document 01, "Limits": which models are accepted. Definitions only. The limits of the stepping arithmetic are in its own crate,
+-- those of n, steps, matrix, directions and guards in `limits`, those of a set's points in `Sets`.
 -- Assumes nothing.
-use mathlib.Core.Bool.{Bool, cond, not, _&&_}
-use mathlib.Core.List.{List}
+use mathlib.Core.Bool.{Bool, _&&_}
 use Prim.Native.Nat.{ℕ}
-use lib.Dec.{leb, ltb, eqb}
-use lib.ListN.{getD}
-use lib.IntN.{ℤ, pos, negℤ, natAbs}
-use Rattle.integers.specs.Sums.{vector, matrix, allBelow}
-use Rattle.arrays.specs.Tests.{allBetween, zeroOutside}
-use Rattle.stepping.specs.Refusals.{dimensionOk, matrixOk}
+use Rattle.limits.specs.Limits.{frameOk, directionsOk, guardsOk}
 use Rattle.reachability.specs.Sets.{setOk}
 use Rattle.reachability.specs.declared.sets.Set.{Set}
 use Rattle.reachability.specs.declared.model.Model.{Model}
-
--- "K 1 to 256".
-abbrev pub stepsOk : ℕ → Bool
-stepsOk k = leb 1 k && leb k 256
-
--- "Direction entries -1,000 to 1,000, not all zero. 1 to 16 directions". Directions stand in rows of six.
-abbrev pub directionLimit : ℕ
-directionLimit = 1000
-
-abbrev pub allZero : List ℤ → ℕ → Bool
-allZero xs k = allBelow 6 (λ i. eqb (natAbs (matrix xs k i)) 0)
-
-abbrev pub someNonzero : ℕ → List ℤ → Bool
-someNonzero count xs = allBelow count (λ k. not (allZero xs k))
-
-abbrev pub directionsOk : ℕ → ℕ → List ℤ → Bool
-directionsOk n count xs =
-    (leb 1 count && leb count 16)
-    && (zeroOutside count n xs && (allBetween (negℤ (pos directionLimit)) (pos directionLimit) xs && someNonzero count xs))
-
--- "0 to 16 guards. A guard is a direction's number and a level, any signed 64-bit whole number. A model value holds zero beyond
--- n and beyond each count."
-abbrev pub guardOk : ℕ → ℕ → ℕ → ℕ → ℤ → Bool
-guardOk directions guards g watched level = cond (ltb g guards) (ltb watched directions) (eqb watched 0 && eqb (natAbs level) 0)
-
-abbrev pub guardsOk : ℕ → ℕ → List ℕ → List ℤ → Bool
-guardsOk directions guards watched levels = leb guards 16 && allBelow 16 (λ g. guardOk directions guards g (getD watched g 0) (vector levels g))
-
--- n, the steps and the matrix.
-abbrev pub frameOk : ℕ → ℕ → List ℤ → Bool
-frameOk n steps m = dimensionOk n && (stepsOk steps && matrixOk n m)
 
 abbrev pub setAccepted : ℕ → Set → Bool
 setAccepted n s = setOk n (s .shape) (s .count) (s .points)

@@ -1,8 +1,8 @@
 // The model of document 01, as a value that anyone can make by hand, and the rules that number 11 tests.
-mod checks;
-
 use crate::sets::Set;
-pub use checks::accepts;
+use crate::sets::set_ok;
+ghost use mathlib.Core.Path.{_≡_};
+ghost use Rattle.reachability.specs.Limits.{accepted};
 
 // A model: n coordinates, `steps` steps, the matrix in six rows of six, the initial set and the input set, the directions in
 // sixteen rows of six, and the guards, each the number of the direction that it watches and a level. What lies beyond n and
@@ -18,4 +18,31 @@ pub struct Model {
     pub guards: usize,
     pub watched: [usize; 16],
     pub levels: [i64; 16],
+}
+
+// The model breaks no rule of "The three sets" and "Limits".
+pub fn accepts(model: Model) -> bool
+    ensures { λ b. ⌜ b ≡ accepted model ⌝ }
+{
+    let n = model.n;
+    let matrix = model.matrix;
+    if !limits::frame_ok(n, model.steps, &matrix) {
+        return false;
+    }
+    let initial = model.initial;
+    if !set_ok(n, initial) {
+        return false;
+    }
+    let input = model.input;
+    if !set_ok(n, input) {
+        return false;
+    }
+    let directions = model.directions;
+    let entries = model.entries;
+    if !limits::directions_ok(n, directions, &entries) {
+        return false;
+    }
+    let watched = model.watched;
+    let levels = model.levels;
+    limits::guards_ok(directions, model.guards, &watched, &levels)
 }

@@ -40,15 +40,15 @@ pub struct Reached {
 pub fn support(n: usize, set: Set, r: &[i64; 6]) -> Supported
     ensures { λ a. ⌜ Supports n set (now (r .entry)) a ⌝ }
 {
-    let shape = set.shape;
-    let count = set.count;
-    let points = set.points;
-    if !set_ok(n, shape, count, &points) {
+    if !set_ok(n, set) {
         return Supported::Refused;
     }
     if !checks::direction_ok(n, r) {
         return Supported::Refused;
     }
+    let shape = set.shape;
+    let count = set.count;
+    let points = set.points;
     Supported::Value(support_of(shape, count, &points, r))
 }
 
@@ -56,15 +56,15 @@ pub fn support(n: usize, set: Set, r: &[i64; 6]) -> Supported
 pub fn reach(n: usize, set: Set) -> Reached
     ensures { λ a. ⌜ ReachAnswer n set (a .number) (a .reaches) ⌝ }
 {
-    let shape = set.shape;
-    let count = set.count;
-    let points = set.points;
-    if !set_ok(n, shape, count, &points) {
+    if !set_ok(n, set) {
         return Reached {
             number: 11,
             reaches: [0i64; 6],
         };
     }
+    let shape = set.shape;
+    let count = set.count;
+    let points = set.points;
     let reaches = reaches_of(shape, count, &points);
     Reached { number: 0, reaches }
 }

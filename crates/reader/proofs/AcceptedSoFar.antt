@@ -12,7 +12,7 @@ use Rattle.integers.proofs.Booleans.{and-true}
 use Rattle.stepping.specs.Limits.{entryLimit}
 use Rattle.stepping.specs.Refusals.{dimensionOk}
 use Rattle.records.specs.Numbers.{littleEndian, signedAt}
-use Rattle.reachability.specs.Limits.{directionLimit, stepsOk}
+use Rattle.limits.specs.Limits.{directionLimit, stepsOk}
 use Rattle.reader.specs.declared.order.Part.{Part}
 use Rattle.reader.specs.declared.order.Part.the-variants.{Head, Row, Initial, Input, Direction, Guard, End}
 use Rattle.reader.specs.declared.state.State.{State}

@@ -22,7 +22,8 @@ use Rattle.reachability.specs.declared.sets.Shape.{Shape}
 use Rattle.reachability.specs.declared.sets.Shape.the-variants.{Box, Zonotope, Vertices}
 use Rattle.reachability.specs.declared.sets.Set.{Set}
 use Rattle.reachability.specs.Sets.{points, countOk, orderedOk, reachOk, setOk, reachWithin}
-use Rattle.reachability.specs.Limits.{directionLimit, stepsOk, setAccepted, allZero}
+use Rattle.limits.specs.Limits.{directionLimit, stepsOk, allZero}
+use Rattle.reachability.specs.Limits.{setAccepted}
 use Rattle.reader.specs.Order.{shapeOf, isUpper, mostOf}
 use Rattle.reader.specs.Models.{entryAt, sixAt, putRow, rowPlace, withPoint}
 use Rattle.reader.specs.Values.{within, pointOk, directionOk, unless}

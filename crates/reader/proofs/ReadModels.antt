@@ -14,7 +14,8 @@ use Rattle.records.specs.Records.{Record, recordAt, recordKind, recordBody}
 use Rattle.records.proofs.RecordAt.{whole-length, recordAt-take, reaches-of-le}
 use Rattle.arrays.proofs.Tests.{Zeros, zeroOutside-of, allBetween-of}
 use Rattle.stepping.specs.Limits.{entryLimit}
-use Rattle.reachability.specs.Limits.{accepted, frameOk, directionsOk, directionLimit}
+use Rattle.limits.specs.Limits.{frameOk, directionsOk, directionLimit}
+use Rattle.reachability.specs.Limits.{accepted}
 use Rattle.reader.specs.declared.Status.the-variants.{Read}
 use Rattle.reader.specs.declared.Reading.{Reading}
 use Rattle.reader.specs.declared.state.State.{State}

@@ -16,7 +16,7 @@ use Rattle.integers.specs.Sums.{vector, matrix}
 use Rattle.integers.proofs.Sums.{allBelow-intro, allBelow-cong}
 use Rattle.arrays.specs.Tests.{allBetween}
 use Rattle.arrays.proofs.Tests.{allBetween-at, Zeros, Small}
-use Rattle.reachability.specs.Limits.{allZero, someNonzero, guardOk, guardsOk}
+use Rattle.limits.specs.Limits.{allZero, someNonzero, guardOk, guardsOk}
 use Rattle.reader.specs.Models.{zeros, putRow}
 use Rattle.reader.proofs.store.PutRow.{putRow-other, putRow-same}
 

@@ -9,7 +9,7 @@ use Rattle.stepping.specs.Limits.{entryLimit}
 use Rattle.stepping.specs.Refusals.{dimensionOk}
 use Rattle.records.specs.Numbers.{littleEndian}
 use Rattle.reachability.specs.Sets.{reachWithin, cornersOrdered}
-use Rattle.reachability.specs.Limits.{directionLimit, allZero}
+use Rattle.limits.specs.Limits.{directionLimit, allZero}
 use Rattle.reachability.specs.declared.sets.Set.{Set}
 use Rattle.reader.specs.declared.order.Part.{Part}
 use Rattle.reader.specs.declared.order.Part.the-variants.{Head, Row, Initial, Input, Direction, Guard, End}

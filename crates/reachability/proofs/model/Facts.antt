@@ -15,7 +15,8 @@ use Rattle.integers.proofs.Booleans.{and-true}
 use Rattle.arrays.proofs.Tests.{allBetween-at, zeroOutside-column}
 use Rattle.stepping.specs.Limits.{entryLimit}
 use Rattle.stepping.specs.Refusals.{dimensionOk, matrixOk}
-use Rattle.reachability.specs.Limits.{accepted, stepsOk, frameOk, setAccepted, directionLimit, allZero, someNonzero, directionsOk, guardOk, guardsOk}
+use Rattle.limits.specs.Limits.{stepsOk, frameOk, directionLimit, allZero, someNonzero, directionsOk, guardOk, guardsOk}
+use Rattle.reachability.specs.Limits.{accepted, setAccepted}
 use Rattle.reachability.specs.Runs.{direction}
 use Rattle.reachability.specs.declared.model.Model.{Model}
 use Rattle.reachability.proofs.sets.Facts.{SetFacts, set-facts, n-range}

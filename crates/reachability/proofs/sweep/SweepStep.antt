@@ -19,7 +19,7 @@ use Rattle.stepping.specs.declared.Stepped.{Stepped}
 use Rattle.stepping.specs.declared.Stepped.the-variants.{Sum, Refused}
 use Rattle.stepping.proofs.Recurrence.{growthSum-first}
 use Rattle.stepping.proofs.Beyond.{steps-six}
-use Rattle.reachability.specs.Limits.{directionLimit}
+use Rattle.limits.specs.Limits.{directionLimit}
 use Rattle.reachability.specs.Runs.{moves, direction}
 use Rattle.reachability.specs.Recurrence.{Working, first, next, walk, working, sumAt, errorAt, rawBound, rawSlack, bound, slack, boundOf, slackOf}
 use Rattle.reachability.specs.SweepInner.{errorsLimit, addedLimit, termErrors, termOf, StepAsks, StepGives, sumOf, reachesOf}

@@ -1,4 +1,5 @@
 // The rules that number 11 tests of a set and of a direction for it.
+use crate::sets::Set;
 use crate::sets::Shape;
 use crate::sets::corners_ordered;
 use crate::sets::reach_within;
@@ -29,8 +30,8 @@ fn count_ok(shape: Shape, count: usize) -> bool
 }
 
 // n and the set break no rule.
-pub(crate) fn set_ok(n: usize, shape: Shape, count: usize, points: &[i32; 96]) -> bool
-    ensures { λ b. ⌜ b ≡ dimensionOk n && setOk n shape count (now (points .entry)) ⌝ }
+pub(crate) fn set_ok(n: usize, set: Set) -> bool
+    ensures { λ b. ⌜ b ≡ dimensionOk n && setOk n (set .shape) (set .count) (set .points) ⌝ }
 {
     if n < 1 {
         return false;
@@ -38,17 +39,20 @@ pub(crate) fn set_ok(n: usize, shape: Shape, count: usize, points: &[i32; 96]) -
     if 6 < n {
         return false;
     }
+    let shape = set.shape;
+    let count = set.count;
     if !count_ok(shape, count) {
         return false;
     }
-    if !arrays::zero_outside(count, n, points) {
+    let points = set.points;
+    if !arrays::zero_outside(count, n, &points) {
         return false;
     }
-    if !reach_within(shape, count, points) {
+    if !reach_within(shape, count, &points) {
         return false;
     }
     match shape {
-        Shape::Box => corners_ordered(n, points),
+        Shape::Box => corners_ordered(n, &points),
         Shape::Zonotope => true,
         Shape::Vertices => true,
     }

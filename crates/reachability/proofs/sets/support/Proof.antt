@@ -31,39 +31,39 @@ settled n s r a e = record { answer = e; number = ap supportNumber e ∙ number-
 
 returns : tie.Need-returns
 returns c =
-    let a = c .before .before .before .before .args in
+    let a = c .before .before .args in
     let s = a .set in
     settled (a .n) s (a .r .now) Refused
     (simp (fails (dimensionOk (a .n)) (setOk (a .n) (s .shape) (s .count) (s .points)) (directionOk (a .n) (a .r .now)) (sym (not-true _ (c .if1 .taken)) ∙ c .before .set-ok .ensures)))
 
-passed : (c : tie.Else1) → (dimensionOk (c .before .before .before .before .args .n) ≡ true) × (setOk (c .before .before .before .before .args .n) (c .before .before .before .before .args .set .shape) (c .before .before .before .before .args .set .count) (c .before .before .before .before .args .set .points) ≡ true)
-passed c = split (c .before .before .before .before .args .n) (c .before .before .before .before .args .set) (c .before .set-ok .result) (c .before .set-ok .ensures) (not-false _ (c .if1 .left))
+passed : (c : tie.Else1) → (dimensionOk (c .before .before .args .n) ≡ true) × (setOk (c .before .before .args .n) (c .before .before .args .set .shape) (c .before .before .args .set .count) (c .before .before .args .set .points) ≡ true)
+passed c = split (c .before .before .args .n) (c .before .before .args .set) (c .before .set-ok .result) (c .before .set-ok .ensures) (not-false _ (c .if1 .left))
 
 returns-2 : tie.Need-returns-2
 returns-2 c =
-    let a = c .before .before .before .before .before .before .args in
+    let a = c .before .before .before .before .args in
     settled (a .n) (a .set) (a .r .now) Refused (simp (passed (c .before .before) .0, passed (c .before .before) .1, sym (c .before .direction-ok .ensures) ∙ not-true _ (c .if2 .taken)))
 
 -- after both tests
 module _ (c : tie.Else2) where
-  facts : SetFacts (c .before .before .before .before .before .before .args .n) (c .before .before .before .before .before .before .args .set .shape) (c .before .before .before .before .before .before .args .set .count) (c .before .before .before .before .before .before .args .set .points)
+  facts : SetFacts (c .before .before .before .before .args .n) (c .before .before .before .before .args .set .shape) (c .before .before .before .before .args .set .count) (c .before .before .before .before .args .set .points)
   facts =
-      let a = c .before .before .before .before .before .before .args in
+      let a = c .before .before .before .before .args in
       set-facts (a .n) (a .set .shape) (a .set .count) (a .set .points) (passed (c .before .before) .1)
 
-  direction : directionOk (c .before .before .before .before .before .before .args .n) (c .before .before .before .before .before .before .args .r .now) ≡ true
+  direction : directionOk (c .before .before .before .before .args .n) (c .before .before .before .before .args .r .now) ≡ true
   direction = sym (c .before .direction-ok .ensures) ∙ not-false _ (c .if2 .left)
 
 support-of-requires : tie.Need-support-of-requires
 support-of-requires c κs =
-    let b = c .before in
-    let a = b .before .before .before .before .before .before .args in
+    let b = c .before .before in
+    let a = b .before .before .before .before .args in
     (facts b .counted, record { coordinates = facts b .coordinates; values = direction-small (a .n) (a .r .now) (direction b) })
 
 returns-3 : tie.Need-returns-3
 returns-3 c =
-    let b = c .before .before in
-    let a = b .before .before .before .before .before .before .args in
+    let b = c .before .before .before in
+    let a = b .before .before .before .before .args in
     let ok = passed (b .before .before) in
     let value = read-given w64 (c .support-of .result) (c .support-of .ok) ∙ c .support-of .ensures ∙ supportOf-six (a .n) (n-range (a .n) (ok .0) .1) (a .set .count) (a .set .points) (facts b .outside) (a .set .shape) (vector (a .r .now)) in
     settled (a .n) (a .set) (a .r .now) _ (simp (ok .0, ok .1, direction b) (ap Value value))

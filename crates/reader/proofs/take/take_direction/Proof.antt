@@ -6,7 +6,7 @@ use mathlib.Core.List.{List}
 use Rattle.integers.specs.Sums.{allBelow}
 use Rattle.arrays.specs.Tests.{zeroOutside}
 use Rattle.integers.proofs.Booleans.{and-skip, and-stop}
-use Rattle.reachability.specs.Limits.{allZero, directionLimit}
+use Rattle.limits.specs.Limits.{allZero, directionLimit}
 use Rattle.reader.specs.Models.{setDirections, sixAt, putRow, stateOf, withDirection}
 use Rattle.reader.specs.Values.{within, directionOk}
 use Rattle.reader.proofs.take.Taking.{takenAs, takes-refused, takes-passed}

@@ -1,5 +1,5 @@
 -- `reachability::sets::checks::set_ok` meets its contract, test by test. Assumes nothing.
-use Rattle.integers.proofs.Basics.{_≡_, sym, ap, ap₂, _∙_, true, needs}
+use Rattle.integers.proofs.Basics.{_≡_, sym, ap, ap₂, _∙_, true, ℕ, needs}
 use mathlib.Core.Bool.{_&&_}
 use borrow.Author.Tests.{lt-leb, le-leb, not-true, not-false}
 use lib.Dec.{leb}
@@ -8,6 +8,7 @@ use Rattle.integers.proofs.Booleans.{and-skip}
 use Rattle.stepping.specs.Refusals.{dimensionOk}
 use Rattle.reachability.specs.Sets.{countOk, orderedOk, reachOk, setOk, points}
 use Rattle.reachability.specs.declared.sets.Shape.{Shape}
+use Rattle.reachability.specs.declared.sets.Set.{Set}
 use Rattle.reachability.proofs.sets.Facts.{counted-of}
 use Rattle.reachability.proofs.sets.checks.set_ok.Statement.{statement}
 use Rattle.reachability.proofs.sets.checks.set_ok.Tie as tie
@@ -29,57 +30,68 @@ module _ (c : tie.Else2) where
 returns-3 : tie.Need-returns-3
 returns-3 c = simp (least (c .before .before), most (c .before .before), sym (c .before .count-ok .ensures) ∙ not-true _ (c .if3 .taken))
 
-counts : (c : tie.Else3) → countOk (c .before .before .before .before .args .shape) (c .before .before .before .before .args .count) ≡ true
-counts c = sym (c .before .count-ok .ensures) ∙ not-false _ (c .if3 .left)
+-- a count that the shape allows
+module _ (c : tie.Else3) where
+  abbrev range : tie.Else2
+  range = c .before .before
+
+  abbrev n : ℕ
+  n = range .before .before .args .n
+
+  abbrev set : Set
+  set = range .before .before .args .set
+
+  counts : countOk (set .shape) (set .count) ≡ true
+  counts = sym (c .before .count-ok .ensures) ∙ not-false _ (c .if3 .left)
 
 returns-4 : tie.Need-returns-4
 returns-4 c =
-    let at-count = c .before .before .before in
-    simp (least (at-count .before .before), most (at-count .before .before), counts at-count, sym (c .before .zero-outside .ensures) ∙ not-true _ (c .if4 .taken))
+    let b = c .before .before .before .before in
+    simp (least (range b), most (range b), counts b, sym (c .before .zero-outside .ensures) ∙ not-true _ (c .if4 .taken))
 
-outside : (c : tie.Else4) → zeroOutside (c .before .before .before .before .before .before .before .args .count) (c .before .before .before .before .before .before .before .args .n) (c .before .before .before .before .before .before .before .args .points .now) ≡ true
-outside c = sym (c .before .zero-outside .ensures) ∙ not-false _ (c .if4 .left)
+-- and zero where it has to be
+module _ (c : tie.Else4) where
+  abbrev counted : tie.Else3
+  counted = c .before .before .before .before
+
+  outside : zeroOutside (set counted .count) (n counted) (set counted .points) ≡ true
+  outside = sym (c .before .zero-outside .ensures) ∙ not-false _ (c .if4 .left)
 
 -- the count is from 1 to 16, so `reachWithin` is the test of the reach
-reach-is : (c : tie.After-reach-within) → c .reach-within .result ≡ reachOk (c .before .before .before .before .before .before .before .before .args .shape) (c .before .before .before .before .before .before .before .before .args .count) (points (c .before .before .before .before .before .before .before .before .args .points .now))
+reach-is : (c : tie.After-reach-within) → c .reach-within .result ≡ reachOk (set (counted (c .before .before)) .shape) (set (counted (c .before .before)) .count) (points (set (counted (c .before .before)) .points))
 reach-is c =
-    let at-count = c .before .before .before .before in
-    let a = at-count .before .before .before .before .args in
-    let counted = counted-of (a .shape) (a .count) (counts at-count) in
-    c .reach-within .ensures ∙ and-skip _ (ap₂ _&&_ (le-leb _ _ (counted .some)) (le-leb _ _ (counted .most)))
+    let b = counted (c .before .before) in
+    let k = counted-of (set b .shape) (set b .count) (counts b) in
+    c .reach-within .ensures ∙ and-skip _ (ap₂ _&&_ (le-leb _ _ (k .some)) (le-leb _ _ (k .most)))
 
 returns-5 : tie.Need-returns-5
 returns-5 c =
-    let at-outside = c .before .before in
-    let at-count = at-outside .before .before .before in
-    simp (least (at-count .before .before), most (at-count .before .before), counts at-count, outside at-outside, sym (reach-is (c .before)) ∙ not-true _ (c .if5 .taken))
+    let at-outside = c .before .before .before in
+    let b = counted at-outside in
+    simp (least (range b), most (range b), counts b, outside at-outside, sym (reach-is (c .before)) ∙ not-true _ (c .if5 .taken))
 
--- all but the order of a box's corners has passed
-ordered-left : (c : tie.Else5) → orderedOk (c .before .before .before .before .before .before .before .before .before .args .n) (c .before .before .before .before .before .before .before .before .before .args .shape) (points (c .before .before .before .before .before .before .before .before .before .args .points .now)) ≡ dimensionOk (c .before .before .before .before .before .before .before .before .before .args .n) && setOk (c .before .before .before .before .before .before .before .before .before .args .n) (c .before .before .before .before .before .before .before .before .before .args .shape) (c .before .before .before .before .before .before .before .before .before .args .count) (c .before .before .before .before .before .before .before .before .before .args .points .now)
-ordered-left c =
-    let at-outside = c .before .before in
-    let at-count = at-outside .before .before .before in
-    let b = at-count .before .before in
-    sym (and-skip _ (ap₂ _&&_ (least b) (most b)) ∙ and-skip _ (counts at-count) ∙ and-skip _ (outside at-outside) ∙ and-skip _ (sym (reach-is (c .before)) ∙ not-false _ (c .if5 .left)))
+-- and a reach within its limit: all but the order of a box's corners has passed
+module _ (c : tie.Else5) where
+  abbrev at-count : tie.Else3
+  at-count = counted (c .before .before .before)
+
+  ordered-left : orderedOk (n at-count) (set at-count .shape) (points (set at-count .points)) ≡ dimensionOk (n at-count) && setOk (n at-count) (set at-count .shape) (set at-count .count) (set at-count .points)
+  ordered-left =
+      sym (and-skip _ (ap₂ _&&_ (least (range at-count)) (most (range at-count))) ∙ and-skip _ (counts at-count) ∙ and-skip _ (outside (c .before .before .before)) ∙ and-skip _ (sym (reach-is (c .before)) ∙ not-false _ (c .if5 .left)))
+
+  of-shape : (s : Shape) → set at-count .shape ≡ s → orderedOk (n at-count) s (points (set at-count .points)) ≡ dimensionOk (n at-count) && setOk (n at-count) (set at-count .shape) (set at-count .count) (set at-count .points)
+  of-shape s e = ap (λ (t : Shape). orderedOk (n at-count) t (points (set at-count .points))) (sym e) ∙ ordered-left
 
 returns-6 : tie.Need-returns-6
 returns-6 c =
-    let at-reach = c .before .before .before in
-    let a = at-reach .before .before .before .before .before .before .before .before .before .args in
-    let b = at-reach .before .before .before .before .before .before .before in
-    c .corners-ordered .ensures ∙ and-skip _ (most b) ∙ ap (λ (s : Shape). orderedOk (a .n) s (points (a .points .now))) (sym (c .before .enum-told .given .1)) ∙ ordered-left at-reach
+    let b = c .before .before .before .before in
+    c .corners-ordered .ensures ∙ and-skip _ (most (range (at-count b))) ∙ of-shape b _ (c .before .before .enum-told .given .1)
 
 returns-7 : tie.Need-returns-7
-returns-7 c =
-    let at-reach = c .before .before in
-    let a = at-reach .before .before .before .before .before .before .before .before .before .args in
-    ap (λ (s : Shape). orderedOk (a .n) s (points (a .points .now))) (sym (c .enum-told2 .given .1)) ∙ ordered-left at-reach
+returns-7 c = of-shape (c .before .before) _ (c .enum-told2 .given .1)
 
 returns-8 : tie.Need-returns-8
-returns-8 c =
-    let at-reach = c .before .before in
-    let a = at-reach .before .before .before .before .before .before .before .before .before .args in
-    ap (λ (s : Shape). orderedOk (a .n) s (points (a .points .now))) (sym (c .enum-told3 .given .1)) ∙ ordered-left at-reach
+returns-8 c = of-shape (c .before .before) _ (c .enum-told3 .given .1)
 
 pub set-ok-spec : {M : Type 1} → statement M
 set-ok-spec =
@@ -89,6 +101,7 @@ set-ok-spec =
     returns-2
     (λ c κs. search needs)
     returns-3
+    (λ c. search needs)
     (λ c κs. search needs)
     returns-4
     (λ c κs. search needs)

@@ -1,4 +1,4 @@
--- `reachability::model::checks::directions_ok` meets its contract, test by test; no direction that the loop passed is zero. The
+-- `limits::directions_ok` meets its contract, test by test; no direction that the loop passed is zero. The
 -- measure is what is left of the count. Assumes nothing.
 use Rattle.integers.proofs.Basics.{_≡_, sym, ap, _∙_, Bool, true, ℕ, _-_, arith, needs, ℤ}
 use mathlib.Core.Bool.{not}
@@ -8,9 +8,9 @@ use lib.Dec.{leb}
 use lib.IntN.{pos, negℤ}
 use Rattle.integers.proofs.EarlyReturn.{PassedSoFar, passed-none, passed-more, passed-fails, passed-all}
 use Rattle.arrays.specs.Tests.{allBetween, zeroOutside}
-use Rattle.reachability.specs.Limits.{directionLimit, allZero}
-use Rattle.reachability.proofs.model.checks.directions_ok.Statement.{statement}
-use Rattle.reachability.proofs.model.checks.directions_ok.Tie as tie
+use Rattle.limits.specs.Limits.{directionLimit, allZero}
+use Rattle.limits.proofs.directions_ok.Statement.{statement}
+use Rattle.limits.proofs.directions_ok.Tie as tie
 
 abbrev nonzeroAt : List ℤ → ℕ → Bool
 nonzeroAt xs k = not (allZero xs k)

@@ -1,4 +1,4 @@
--- `reachability::model::checks::all_zero` meets its contract: the test holds of every entry passed. The measure is what is left of
+-- `limits::all_zero` meets its contract: the test holds of every entry passed. The measure is what is left of
 -- six. Assumes nothing.
 use Rattle.integers.proofs.Basics.{sym, Bool, ℕ, _-_, arith, ℤ, natAbs, w32}
 use mathlib.Core.List.{List}
@@ -6,8 +6,8 @@ use lib.Dec.{eqb}
 use Rattle.integers.specs.Sums.{matrix}
 use Rattle.integers.proofs.EarlyReturn.{PassedSoFar, passed-none, passed-more, passed-fails, passed-all}
 use Rattle.integers.proofs.Machine.{eqb-of-bits-zero, eqb-of-bits-nonzero}
-use Rattle.reachability.proofs.model.checks.all_zero.Statement.{statement}
-use Rattle.reachability.proofs.model.checks.all_zero.Tie as tie
+use Rattle.limits.proofs.all_zero.Statement.{statement}
+use Rattle.limits.proofs.all_zero.Tie as tie
 
 abbrev zeroAt : List ℤ → ℕ → ℕ → Bool
 zeroAt xs k i = eqb (natAbs (matrix xs k i)) 0

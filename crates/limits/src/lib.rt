@@ -1,9 +1,28 @@
-// Number 11 for the sweep and the judge: the rules of "The three sets" and "Limits".
-use crate::model::Model;
-use crate::sets::set_ok;
+// What number 11 tests of a model apart from its sets, document 01, "Limits": n, steps and matrix; directions; guards.
+//
+// No public function has a `requires`.
 ghost use mathlib.Core.Path.{_≡_};
 ghost use Prim.Native.Nat.{_<_};
-ghost use Rattle.reachability.specs.Limits.{allZero, directionsOk, guardOk, guardsOk, accepted};
+ghost use Rattle.limits.specs.Limits.{frameOk, allZero, directionsOk, guardOk, guardsOk};
+
+// n is 1 to 6, the steps are 1 to 256, and the matrix is one of n by n.
+pub fn frame_ok(n: usize, steps: usize, matrix: &[i32; 36]) -> bool
+    ensures { λ b. ⌜ b ≡ frameOk n steps (now (matrix .entry)) ⌝ }
+{
+    if n < 1 {
+        return false;
+    }
+    if 6 < n {
+        return false;
+    }
+    if steps < 1 {
+        return false;
+    }
+    if 256 < steps {
+        return false;
+    }
+    stepping::matrix_ok(n, matrix)
+}
 
 // Each of the six entries of direction k is zero.
 fn all_zero(entries: &[i32; 96], k: usize) -> bool
@@ -21,7 +40,7 @@ fn all_zero(entries: &[i32; 96], k: usize) -> bool
 }
 
 // 1 to 16 directions, each entry from -1,000 to 1,000, none of them zero, zero beyond n and beyond the count.
-fn directions_ok(n: usize, count: usize, entries: &[i32; 96]) -> bool
+pub fn directions_ok(n: usize, count: usize, entries: &[i32; 96]) -> bool
     ensures { λ b. ⌜ b ≡ directionsOk n count (now (entries .entry)) ⌝ }
 {
     if count < 1 {
@@ -60,7 +79,7 @@ fn guard_ok(directions: usize, guards: usize, g: usize, watched: usize, level: i
 }
 
 // 0 to 16 guards, each on a direction, zero beyond the count.
-fn guards_ok(directions: usize, guards: usize, watched: &[usize; 16], levels: &[i64; 16]) -> bool
+pub fn guards_ok(directions: usize, guards: usize, watched: &[usize; 16], levels: &[i64; 16]) -> bool
     ensures { λ b. ⌜ b ≡ guardsOk directions guards (now (watched .entry)) (now (levels .entry)) ⌝ }
 {
     if 16 < guards {
@@ -74,47 +93,4 @@ fn guards_ok(directions: usize, guards: usize, watched: &[usize; 16], levels: &[
         g += 1;
     }
     true
-}
-
-// The model breaks no rule of "The three sets" and "Limits".
-pub fn accepts(model: Model) -> bool
-    ensures { λ b. ⌜ b ≡ accepted model ⌝ }
-{
-    let n = model.n;
-    if n < 1 {
-        return false;
-    }
-    if 6 < n {
-        return false;
-    }
-    if model.steps < 1 {
-        return false;
-    }
-    if 256 < model.steps {
-        return false;
-    }
-    let matrix = model.matrix;
-    if !stepping::matrix_ok(n, &matrix) {
-        return false;
-    }
-    let initial = model.initial;
-    let initial_shape = initial.shape;
-    let initial_points = initial.points;
-    if !set_ok(n, initial_shape, initial.count, &initial_points) {
-        return false;
-    }
-    let input = model.input;
-    let input_shape = input.shape;
-    let input_points = input.points;
-    if !set_ok(n, input_shape, input.count, &input_points) {
-        return false;
-    }
-    let directions = model.directions;
-    let entries = model.entries;
-    if !directions_ok(n, directions, &entries) {
-        return false;
-    }
-    let watched = model.watched;
-    let levels = model.levels;
-    guards_ok(directions, model.guards, &watched, &levels)
 }

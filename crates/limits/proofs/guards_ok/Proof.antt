@@ -1,4 +1,4 @@
--- `reachability::model::checks::guards_ok` meets its contract: the test holds of every guard passed. The measure is what is left of
+-- `limits::guards_ok` meets its contract: the test holds of every guard passed. The measure is what is left of
 -- sixteen. Assumes nothing.
 use Rattle.integers.proofs.Basics.{_≡_, sym, ap, _∙_, Bool, ℕ, _-_, arith, needs, getD, ℤ, w64}
 use mathlib.Core.List.{List}
@@ -6,9 +6,9 @@ use borrow.Author.Tests.{lt-leb, le-leb, not-true, not-false}
 use Rattle.integers.specs.Sums.{vector}
 use Rattle.integers.proofs.EarlyReturn.{PassedSoFar, passed-none, passed-more, passed-fails, passed-all}
 use Rattle.integers.proofs.Machine.{read-given}
-use Rattle.reachability.specs.Limits.{guardOk}
-use Rattle.reachability.proofs.model.checks.guards_ok.Statement.{statement}
-use Rattle.reachability.proofs.model.checks.guards_ok.Tie as tie
+use Rattle.limits.specs.Limits.{guardOk}
+use Rattle.limits.proofs.guards_ok.Statement.{statement}
+use Rattle.limits.proofs.guards_ok.Tie as tie
 
 abbrev guardAt : ℕ → ℕ → List ℕ → List ℤ → ℕ → Bool
 guardAt directions guards watched levels g = guardOk directions guards g (getD watched g 0) (vector levels g)

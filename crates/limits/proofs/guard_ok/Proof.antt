@@ -1,9 +1,9 @@
--- `reachability::model::checks::guard_ok` meets its contract, test by test. Assumes nothing.
+-- `limits::guard_ok` meets its contract, test by test. Assumes nothing.
 use Rattle.integers.proofs.Basics.{w64}
 use borrow.Author.Tests.{lt-ltb, le-ltb, eq-eqb, ne-eqb}
 use Rattle.integers.proofs.Machine.{eqb-of-bits}
-use Rattle.reachability.proofs.model.checks.guard_ok.Statement.{statement}
-use Rattle.reachability.proofs.model.checks.guard_ok.Tie as tie
+use Rattle.limits.proofs.guard_ok.Statement.{statement}
+use Rattle.limits.proofs.guard_ok.Tie as tie
 
 returns : tie.Need-returns
 returns c = simp (lt-ltb _ _ (c .if1 .taken))
