@@ -52,8 +52,9 @@ fn of_box(points: &[i32; 96], r: &[i64; 6]) -> i64
     let mut sum: i64 = 0;
     let mut i: usize = 0;
     while i < 6 {
-        let c = corner(r[i], points[i], points[6 + i]);
-        sum = times_add(sum, r[i], c);
+        let x = r[i];
+        let c = corner(x, points[i], points[6 + i]);
+        sum = times_add(sum, x, c);
         i += 1;
     }
     sum

@@ -31,9 +31,9 @@ loop-holds : tie.Need-loop-holds Inv-loop μ-loop
 loop-holds c = running-start 6 (product (c .args .points .now) (c .args .r .now)) productLimit
 
 -- the corner and the value of a turn
-module _ (c : tie.After-times-add-arg Inv-loop μ-loop) where
+module _ (c : tie.After-corner Inv-loop μ-loop) where
   abbrev at-loop : tie.At-loop Inv-loop μ-loop
-  at-loop = c .before .before .before .before .before .before
+  at-loop = c .before .before .before .before .before
 
   abbrev xs : List ℤ
   xs = at-loop .before .args .points .now
@@ -45,18 +45,18 @@ module _ (c : tie.After-times-add-arg Inv-loop μ-loop) where
   i = at-loop .loop .i
 
   value : toZ w64 (ofZ w64 (vector r i)) ≡ vector r i
-  value = read-given w64 (vector r i) (c .times-add-arg .given)
+  value = read-given w64 (vector r i) (c .before .before .before .x .given)
 
   low : toZ w32 (ofZ w32 (vector xs i)) ≡ pointsOf xs 0 i
-  low = read-given w32 (vector xs i) (c .before .before .before .corner-arg2 .given) ∙ ap (vector xs) (sym (zero-add i))
+  low = read-given w32 (vector xs i) (c .before .before .corner-arg .given) ∙ ap (vector xs) (sym (zero-add i))
 
   high : toZ w32 (ofZ w32 (vector xs (6 + i))) ≡ pointsOf xs 1 i
-  high = read-given w32 (vector xs (6 + i)) (c .before .before .corner-arg3 .given)
+  high = read-given w32 (vector xs (6 + i)) (c .before .corner-arg2 .given)
 
-  taken : toZ w32 (ofZ w32 (c .before .corner .result)) ≡ cornerAt xs r i
+  taken : toZ w32 (ofZ w32 (c .corner .result)) ≡ cornerAt xs r i
   taken =
-      read-given w32 (c .before .corner .result) (c .before .corner .ok)
-      ∙ c .before .corner .ensures
+      read-given w32 (c .corner .result) (c .corner .ok)
+      ∙ c .corner .ensures
       ∙ ap₂ (λ (x y : ℤ). cond (ltZ (pos 0) (toZ w64 (ofZ w64 (vector r i)))) x y) high low
       ∙ ap (λ (z : ℤ). cond (ltZ (pos 0) z) (pointsOf xs 1 i) (pointsOf xs 0 i)) value
 
@@ -73,7 +73,7 @@ module _ (c : tie.After-times-add-arg Inv-loop μ-loop) where
 times-add-requires : tie.Need-times-add-requires Inv-loop μ-loop
 times-add-requires c κs =
     record {
-      sum-small = omega (arith, at-loop c .loop .inv .small, c .before .before .before .before .before .loop-test .taken);
+      sum-small = omega (arith, at-loop c .loop .inv .small, c .before .before .before .before .loop-test .taken);
       value-small = subst (λ (z : ℤ). natAbs z ≤ growthLimit) (sym (value c)) (value-small c);
       coordinate-small = subst (λ (z : ℤ). natAbs z ≤ reachLimit) (sym (taken c)) (corner-small c);
     }
@@ -81,7 +81,7 @@ times-add-requires c κs =
 loop-again : tie.Need-loop-again Inv-loop μ-loop
 loop-again c =
     let b = c .before in
-    running-more (at-loop b .loop .inv) (b .before .before .before .before .before .loop-test .taken) (natAbs-mul-le (vector (r b) (i b)) (cornerAt (xs b) (r b) (i b)) (value-small b) (corner-small b))
+    running-more (at-loop b .loop .inv) (b .before .before .before .before .loop-test .taken) (natAbs-mul-le (vector (r b) (i b)) (cornerAt (xs b) (r b) (i b)) (value-small b) (corner-small b))
     (read-given w64 (c .times-add .result) (c .times-add .ok) ∙ c .times-add .ensures ∙ ap₂ (λ (x y : ℤ). toZ w64 (at-loop b .loop .sum) +ℤ x *ℤ y) (value b) (taken b))
 
 returns : tie.Need-returns Inv-loop μ-loop
@@ -102,8 +102,6 @@ of-box-spec =
     (λ c. omega arith)
     (λ c. omega arith)
     (λ c κs. search needs)
-    (λ c. omega arith)
-    (λ c. omega arith)
     times-add-requires
     (λ c. omega arith)
     (λ c. omega arith)
