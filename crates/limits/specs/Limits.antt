@@ -1,7 +1,7 @@
--- Document 01, "Limits": which n, steps, matrix, directions and guards a model may have. Definitions only. The limits of the stepping
+-- Document 01, "Limits": which n, steps, matrix, directions and guards a model may have, and which r a set. Definitions only. The limits of the stepping
 -- arithmetic are in its own crate, those of a set's points in `reachability`.
 -- Assumes nothing.
-use mathlib.Core.Bool.{Bool, cond, not, _&&_}
+use mathlib.Core.Bool.{Bool, cond, not, _&&_, _||_}
 use mathlib.Core.List.{List}
 use Prim.Native.Nat.{ℕ}
 use lib.Dec.{leb, ltb, eqb}
@@ -9,6 +9,7 @@ use lib.ListN.{getD}
 use lib.IntN.{ℤ, pos, negℤ, natAbs}
 use Rattle.integers.specs.Sums.{vector, matrix, allBelow}
 use Rattle.arrays.specs.Tests.{allBetween, zeroOutside}
+use Rattle.stepping.specs.Limits.{growthLimit}
 use Rattle.stepping.specs.Refusals.{dimensionOk, matrixOk}
 
 -- "K 1 to 256".
@@ -41,3 +42,12 @@ guardsOk directions guards watched levels = leb guards 16 && allBelow 16 (λ g. 
 -- n, the steps and the matrix.
 abbrev pub frameOk : ℕ → ℕ → List ℤ → Bool
 frameOk n steps m = dimensionOk n && (stepsOk steps && matrixOk n m)
+
+-- ---- "Refusals by place", the row "stepping, set routines": an r for a set
+
+-- A value of r in coordinate i. "for a set, r alone": no magnitude above 1,073,741,824. "a nonzero value beyond n": none.
+abbrev pub valueOk : ℕ → ℕ → ℤ → Bool
+valueOk n i x = leb (natAbs x) growthLimit && (ltb i n || eqb (natAbs x) 0)
+
+abbrev pub directionOk : ℕ → List ℤ → Bool
+directionOk n r = allBelow 6 (λ i. valueOk n i (vector r i))

@@ -1,9 +1,9 @@
-// What number 11 tests of a model apart from its sets, document 01, "Limits": n, steps and matrix; directions; guards.
+// What number 11 tests apart from sets, document 01, "Limits": n, steps and matrix; directions; guards; a direction for a set.
 //
 // No public function has a `requires`.
 ghost use mathlib.Core.Path.{_≡_};
 ghost use Prim.Native.Nat.{_<_};
-ghost use Rattle.limits.specs.Limits.{frameOk, allZero, directionsOk, guardOk, guardsOk};
+ghost use Rattle.limits.specs.Limits.{frameOk, allZero, directionsOk, guardOk, guardsOk, valueOk, directionOk};
 
 // n is 1 to 6, the steps are 1 to 256, and the matrix is one of n by n.
 pub fn frame_ok(n: usize, steps: usize, matrix: &[i32; 36]) -> bool
@@ -79,7 +79,12 @@ fn guard_ok(directions: usize, guards: usize, g: usize, watched: usize, level: i
 }
 
 // 0 to 16 guards, each on a direction, zero beyond the count.
-pub fn guards_ok(directions: usize, guards: usize, watched: &[usize; 16], levels: &[i64; 16]) -> bool
+pub fn guards_ok(
+    directions: usize,
+    guards: usize,
+    watched: &[usize; 16],
+    levels: &[i64; 16],
+) -> bool
     ensures { λ b. ⌜ b ≡ guardsOk directions guards (now (watched .entry)) (now (levels .entry)) ⌝ }
 {
     if 16 < guards {
@@ -91,6 +96,34 @@ pub fn guards_ok(directions: usize, guards: usize, watched: &[usize; 16], levels
             return false;
         }
         g += 1;
+    }
+    true
+}
+
+// A direction r for a set: no value beyond n, and no magnitude above 1,073,741,824.
+pub fn direction_ok(n: usize, r: &[i64; 6]) -> bool
+    ensures { λ b. ⌜ b ≡ directionOk n (now (r .entry)) ⌝ }
+{
+    let mut i: usize = 0;
+    while i < 6 {
+        if !value_ok(n, i, r[i]) {
+            return false;
+        }
+        i += 1;
+    }
+    true
+}
+
+// One value of r: at most 1,073,741,824 in magnitude, and zero from n on.
+fn value_ok(n: usize, i: usize, x: i64) -> bool
+    ensures { λ b. ⌜ b ≡ valueOk n i x ⌝ }
+{
+    let m = arrays::magnitude(x);
+    if 1073741824 < m {
+        return false;
+    }
+    if n <= i {
+        return m == 0;
     }
     true
 }

@@ -3,14 +3,11 @@
 -- For step k the walk starts at the direction and goes back through the moves k - 1 down to 0. With one matrix per model the
 -- walk of every step is the same, and its j-th working direction is document 01's r(j) and e(j).
 -- Assumes nothing.
-use mathlib.Core.Path.{_≡_}
 use mathlib.Core.Bool.{Bool, cond}
 use Prim.Native.Nat.{ℕ, zero, suc, _+_, _*_, _-_}
 use lib.IntN.{ℤ, pos, _+ℤ_}
-use Rattle.integers.specs.Whole.{ceilDiv, ceilDivℕ, fraction}
 use Rattle.integers.specs.Sums.{sum, sumℕ, maxℕ, dotℕ}
-use Rattle.stepping.specs.Limits.{directionUnit}
-use Rattle.stepping.specs.Recurrence.{firstR, firstE, nextR, nextE, growthSum, grows, spare}
+use Rattle.stepping.specs.Recurrence.{firstR, firstE, nextR, nextE, growthSum, grows, spare, boundOf, slackOf}
 use Rattle.reachability.specs.Sets.{points, supportOf, reachOf}
 use Rattle.reachability.specs.Runs.{moves, direction}
 use Rattle.reachability.specs.declared.sets.Set.{Set}
@@ -78,19 +75,7 @@ abbrev pub rawSlack : Model → ℕ → ℕ → ℕ
 rawSlack m d k =
     2 * (errorAt (m .n) (m .initial) (working m d k k) + sumℕ k (λ j. errorAt (m .n) (m .input) (working m d k j)))
 
--- "Bound: raw bound / 1,048,576 rounded up."
-abbrev pub boundOf : ℤ → ℤ
-boundOf raw = ceilDiv raw directionUnit
-
--- "Its slack is raw slack / 1,048,576 rounded up, plus 1 if the raw bound isn't a multiple of 1,048,576."
-abbrev pub slackOf : ℤ → ℕ → ℕ
-slackOf raw slack = ceilDivℕ slack directionUnit + fraction raw directionUnit
-
--- What the rounding of a raw bound and a raw slack gives.
-pub record Rounds (raw : ℤ) (rawSlack : ℕ) (b s : ℤ) : Type 0 where
-  pub bound-is : b ≡ boundOf raw
-  pub slack-is : s ≡ pos (slackOf raw rawSlack)
-
+-- The bound and the slack of a step: these, rounded.
 abbrev pub bound : Model → ℕ → ℕ → ℤ
 bound m d k = boundOf (rawBound m d k)
 

@@ -11,8 +11,8 @@ use lib.Signed.{ltZ, leZ}
 use Rattle.integers.specs.Whole.{_⩽_}
 use Rattle.integers.specs.Sums.{vector, matrix, sum, sumℕ, maxℕ, dot, allBelow, tabulate}
 use Rattle.arrays.specs.Tests.{zeroOutside}
-use Rattle.stepping.specs.Limits.{growthLimit}
 use Rattle.stepping.specs.Refusals.{dimensionOk}
+use Rattle.limits.specs.Limits.{directionOk}
 use Rattle.reachability.specs.declared.sets.Shape.{Shape}
 use Rattle.reachability.specs.declared.sets.Shape.the-variants.{Box, Zonotope, Vertices}
 use Rattle.reachability.specs.declared.sets.Set.{Set}
@@ -100,13 +100,6 @@ abbrev pub setOk : ℕ → Shape → ℕ → List ℤ → Bool
 setOk n shape count xs = countOk shape count && (zeroOutside count n xs && (reachOk shape count (points xs) && orderedOk n shape (points xs)))
 
 -- ---- "Refusals by place", the row "stepping, set routines": what the set routines answer
-
--- A value of r in coordinate i. "for a set, r alone": no magnitude above 1,073,741,824. "a nonzero value beyond n": none.
-abbrev pub valueOk : ℕ → ℕ → ℤ → Bool
-valueOk n i x = leb (natAbs x) growthLimit && (ltb i n || eqb (natAbs x) 0)
-
-abbrev pub directionOk : ℕ → List ℤ → Bool
-directionOk n r = allBelow 6 (λ i. valueOk n i (vector r i))
 
 -- No condition of number 11 holds for a support.
 abbrev pub supportOk : ℕ → Set → List ℤ → Bool

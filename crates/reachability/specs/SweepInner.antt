@@ -10,7 +10,7 @@ use lib.IntN.{ℤ, pos, natAbs, _+ℤ_}
 use lib.Signed.{nonNeg}
 use Rattle.integers.specs.Sums.{vector, magnitudes, maxℕ, dotℕ, tabulate}
 use Rattle.stepping.specs.Limits.{errorLimit}
-use Rattle.stepping.specs.Recurrence.{firstR, firstE}
+use Rattle.stepping.specs.Recurrence.{firstR, firstE, Rounds}
 use Rattle.stepping.specs.declared.Stepped.{Stepped}
 use Rattle.stepping.specs.declared.Stepped.the-variants.{Sum, Refused}
 use Rattle.reachability.specs.Sets.{points, supportOf, reachOf, reachLimit}
@@ -19,7 +19,7 @@ use Rattle.reachability.specs.Runs.{direction}
 use Rattle.reachability.specs.declared.sets.Shape.{Shape}
 use Rattle.reachability.specs.declared.sets.Set.{Set}
 use Rattle.reachability.specs.Limits.{accepted}
-use Rattle.reachability.specs.Recurrence.{growthStep, sumAt, Rounds, bound, slack}
+use Rattle.reachability.specs.Recurrence.{growthStep, sumAt, bound, slack}
 use Rattle.reachability.specs.declared.model.Model.{Model}
 
 -- The most that e · reach, and all that a set adds to a step, can come to.

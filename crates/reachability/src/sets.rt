@@ -43,7 +43,7 @@ pub fn support(n: usize, set: Set, r: &[i64; 6]) -> Supported
     if !set_ok(n, set) {
         return Supported::Refused;
     }
-    if !checks::direction_ok(n, r) {
+    if !limits::direction_ok(n, r) {
         return Supported::Refused;
     }
     let shape = set.shape;

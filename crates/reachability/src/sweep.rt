@@ -1,5 +1,4 @@
 // The sweep of a direction: bounds and slacks for every step.
-pub mod rounding;
 mod rows;
 
 use crate::model::Model;

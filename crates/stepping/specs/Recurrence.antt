@@ -1,11 +1,13 @@
--- Document 01, "The recurrence", first part: working directions with their errors, growth and the spare figure.
+-- Document 01, "The recurrence", first part: working directions with their errors, growth, the spare figure, and the rounding of a
+-- step.
 -- Definitions only. r is a vector of whole numbers, e of natural numbers, n the number of coordinates.
 -- Assumes nothing.
+use mathlib.Core.Path.{_≡_}
 use Prim.Native.Nat.{ℕ, zero, suc, _+_, _*_, _^_}
 use mathlib.Core.Bool.{Bool, cond}
 use lib.Dec.{leb, ltb}
 use lib.IntN.{ℤ, pos, natAbs, _*ℤ_}
-use Rattle.integers.specs.Whole.{floorDiv, ceilDivℕ, fraction}
+use Rattle.integers.specs.Whole.{floorDiv, ceilDiv, ceilDivℕ, fraction}
 use Rattle.integers.specs.Sums.{transposed, sumℕ, maxℕ}
 use Rattle.stepping.specs.Limits.{matrixUnit, directionUnit, growthLimit}
 
@@ -46,3 +48,16 @@ greatest (suc k) p = cond (p (suc k)) (suc k) (greatest k p)
 -- For a sum above 0 no h above 30 passes.
 abbrev pub spare : ℕ → ℕ
 spare s = greatest 30 (λ h. leb (2 ^ h * s) growthLimit)
+
+-- "Bound: raw bound / 1,048,576 rounded up."
+abbrev pub boundOf : ℤ → ℤ
+boundOf raw = ceilDiv raw directionUnit
+
+-- "Its slack is raw slack / 1,048,576 rounded up, plus 1 if the raw bound isn't a multiple of 1,048,576."
+abbrev pub slackOf : ℤ → ℕ → ℕ
+slackOf raw slack = ceilDivℕ slack directionUnit + fraction raw directionUnit
+
+-- What the rounding of a raw bound and a raw slack gives.
+pub record Rounds (raw : ℤ) (rawSlack : ℕ) (b s : ℤ) : Type 0 where
+  pub bound-is : b ≡ boundOf raw
+  pub slack-is : s ≡ pos (slackOf raw rawSlack)

@@ -1,10 +1,11 @@
 // The stepping arithmetic of document 01, "The recurrence": the first working direction of a direction, one step of it
-// with its errors, the growth sum and the spare figure; and the test of a matrix.
+// with its errors, the growth sum, the spare figure and the rounding of a step; and the test of a matrix.
 //
 // No public function has a `requires`. A working direction is six numbers r in units of 1/1,048,576 with six errors e;
 // what lies beyond the n coordinates is zero. A refusal is number 11, and leaves r and e as they were.
 mod column;
 mod refusals;
+pub mod rounding;
 
 ghost use mathlib.Core.Path.{_≡_};
 ghost use Rattle.stepping.specs.Refusals.{First, Grows, matrixOk, Steps, Spares};

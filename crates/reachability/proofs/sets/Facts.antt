@@ -16,7 +16,8 @@ use Rattle.integers.proofs.Booleans.{and-true}
 use Rattle.arrays.proofs.Tests.{zeroOutside-row}
 use Rattle.stepping.specs.Limits.{growthLimit}
 use Rattle.stepping.specs.Refusals.{dimensionOk}
-use Rattle.reachability.specs.Sets.{points, reachOf, reachLimit, countOk, orderedOk, reachOk, setOk, directionOk, valueOk, Member, supportOf}
+use Rattle.limits.specs.Limits.{directionOk, valueOk}
+use Rattle.reachability.specs.Sets.{points, reachOf, reachLimit, countOk, orderedOk, reachOk, setOk, Member, supportOf}
 use Rattle.reachability.specs.SetsInner.{Counted, ReachSmall}
 use Rattle.reachability.specs.declared.sets.Shape.{Shape}
 use Rattle.reachability.specs.declared.sets.Shape.the-variants.{Box, Zonotope, Vertices}

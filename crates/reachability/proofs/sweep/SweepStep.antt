@@ -13,7 +13,7 @@ use Rattle.integers.specs.Sums.{vector, magnitudes, matrix, tabulate}
 use Rattle.integers.proofs.Sums.{sum-cong, sumℕ-cong, pos-sumℕ}
 use Rattle.integers.proofs.RunningSum.{RunningSum, running-start, running-more}
 use Rattle.stepping.specs.Limits.{directionUnit, growthLimit}
-use Rattle.stepping.specs.Recurrence.{firstR, firstE, growthSum}
+use Rattle.stepping.specs.Recurrence.{firstR, firstE, growthSum, boundOf, slackOf}
 use Rattle.stepping.specs.Refusals.{stepOk, growthAnswer, Steps}
 use Rattle.stepping.specs.declared.Stepped.{Stepped}
 use Rattle.stepping.specs.declared.Stepped.the-variants.{Sum, Refused}
@@ -21,7 +21,7 @@ use Rattle.stepping.proofs.Recurrence.{growthSum-first}
 use Rattle.stepping.proofs.Beyond.{steps-six}
 use Rattle.limits.specs.Limits.{directionLimit}
 use Rattle.reachability.specs.Runs.{moves, direction}
-use Rattle.reachability.specs.Recurrence.{Working, first, next, walk, working, sumAt, errorAt, rawBound, rawSlack, bound, slack, boundOf, slackOf}
+use Rattle.reachability.specs.Recurrence.{Working, first, next, walk, working, sumAt, errorAt, rawBound, rawSlack, bound, slack}
 use Rattle.reachability.specs.SweepInner.{errorsLimit, addedLimit, termErrors, termOf, StepAsks, StepGives, sumOf, reachesOf}
 use Rattle.reachability.specs.declared.model.Model.{Model}
 use Rattle.reachability.proofs.model.Facts.{ModelFacts}

@@ -8,7 +8,8 @@ use Rattle.integers.specs.Sums.{vector}
 use Rattle.integers.proofs.Machine.{read-given}
 use Rattle.integers.proofs.Booleans.{and-true, number-cond}
 use Rattle.stepping.specs.Refusals.{dimensionOk}
-use Rattle.reachability.specs.Sets.{points, setOk, directionOk, supportOf, supportOk, supportAnswer, supportNumber, Supports}
+use Rattle.limits.specs.Limits.{directionOk}
+use Rattle.reachability.specs.Sets.{points, setOk, supportOf, supportOk, supportAnswer, supportNumber, Supports}
 use Rattle.reachability.specs.declared.sets.Set.{Set}
 use Rattle.reachability.specs.declared.sets.Supported.{Supported}
 use Rattle.reachability.specs.declared.sets.Supported.the-variants.{Value, Refused}

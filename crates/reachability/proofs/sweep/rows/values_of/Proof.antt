@@ -4,7 +4,7 @@ use Rattle.integers.proofs.Basics.{_≡_, sym, ap, ap₂, subst, _∙_, ℕ, _+
 use lib.Dec.{lit<}
 use Rattle.integers.proofs.Order.{natAbs-add}
 use Rattle.integers.proofs.Machine.{sfits-of-natAbs}
-use Rattle.reachability.specs.Recurrence.{boundOf, slackOf}
+use Rattle.stepping.specs.Recurrence.{boundOf, slackOf}
 use Rattle.reachability.specs.SweepInner.{errorsLimit, addedLimit, termOf}
 use Rattle.reachability.proofs.sweep.Terms.{termErrors-small, termOf-small}
 use Rattle.reachability.proofs.sweep.rows.values_of.Statement.{statement}

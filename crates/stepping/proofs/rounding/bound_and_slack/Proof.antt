@@ -1,4 +1,4 @@
--- `reachability::sweep::rounding::bound_and_slack` meets its contract: a quotient rounded up is the one rounded down, plus 1 where
+-- `stepping::rounding::bound_and_slack` meets its contract: a quotient rounded up is the one rounded down, plus 1 where
 -- there is a fraction; a shift rounds down. Nothing wraps, since a quotient is far inside its width. Assumes nothing.
 use Rattle.integers.proofs.Basics.{_≡_, refl, sym, ap, ap₂, subst, _∙_, Bool, true, false, ℕ, suc, _+_, _≤_, _<_, arith, needs, ℤ, pos, negsuc, natAbs, _+ℤ_, w64, SFits, toZ, ofZ, toZ-ofZ}
 use Prim.Native.Nat.{zero, _/_, _%_}
@@ -13,9 +13,9 @@ use Rattle.integers.proofs.SignedParts.{v, #, neg, _⊕_, eq! }
 use Rattle.integers.proofs.Order.{natAbs-add}
 use Rattle.integers.proofs.Rounding.{fraction-le-one}
 use Rattle.integers.proofs.Machine.{sfits-of-natAbs}
 use Rattle.stepping.specs.Limits.{directionUnit}
-use Rattle.reachability.proofs.sweep.rounding.bound_and_slack.Statement.{statement}
-use Rattle.reachability.proofs.sweep.rounding.bound_and_slack.Tie as tie
+use Rattle.stepping.proofs.rounding.bound_and_slack.Statement.{statement}
+use Rattle.stepping.proofs.rounding.bound_and_slack.Tie as tie
 
 ceilDiv-floorDiv : (a : ℤ) → ceilDiv a directionUnit ≡ floorDiv a directionUnit +ℤ pos (fractionOf a directionUnit)
 ceilDiv-floorDiv (pos zero) = refl

@@ -1,10 +1,10 @@
--- `reachability::sets::checks::value_ok` meets its contract, test by test. Assumes nothing.
+-- `limits::value_ok` meets its contract, test by test. Assumes nothing.
 use Rattle.integers.proofs.Basics.{_≡_, ap, subst, _∙_, true, ℕ, _≤_, _<_, needs, natAbs, toZ-ofZ}
 use borrow.Author.Tests.{lt-leb, le-leb, lt-ltb, le-ltb}
 use lib.Dec.{leb, eqb}
 use Rattle.stepping.specs.Limits.{growthLimit}
-use Rattle.reachability.proofs.sets.checks.value_ok.Statement.{statement}
-use Rattle.reachability.proofs.sets.checks.value_ok.Tie as tie
+use Rattle.limits.proofs.value_ok.Statement.{statement}
+use Rattle.limits.proofs.value_ok.Tie as tie
 
 is : (c : tie.After-magnitude) → c .magnitude .result ≡ natAbs (c .before .args .x)
 is c = c .magnitude .ensures ∙ ap natAbs (toZ-ofZ (c .before .fits .x))

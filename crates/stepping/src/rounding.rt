@@ -1,5 +1,5 @@
 // The bound and the slack of a step from its raw bound and raw slack, for every raw bound and raw slack.
-ghost use Rattle.reachability.specs.Recurrence.{Rounds};
+ghost use Rattle.stepping.specs.Recurrence.{Rounds};
 
 // A bound and its slack.
 pub struct Rounded {

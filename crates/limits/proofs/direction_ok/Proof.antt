@@ -1,4 +1,4 @@
--- `reachability::sets::checks::direction_ok` meets its contract: the test holds of every value passed. The measure is what is left of
+-- `limits::direction_ok` meets its contract: the test holds of every value passed. The measure is what is left of
 -- six. Assumes nothing.
 use Rattle.integers.proofs.Basics.{_≡_, sym, ap, _∙_, Bool, ℕ, _-_, arith, needs, ℤ, w64}
 use mathlib.Core.List.{List}
@@ -6,9 +6,9 @@ use borrow.Author.Tests.{not-true, not-false}
 use Rattle.integers.specs.Sums.{vector}
 use Rattle.integers.proofs.EarlyReturn.{PassedSoFar, passed-none, passed-more, passed-fails, passed-all}
 use Rattle.integers.proofs.Machine.{read-given}
-use Rattle.reachability.specs.Sets.{valueOk}
-use Rattle.reachability.proofs.sets.checks.direction_ok.Statement.{statement}
-use Rattle.reachability.proofs.sets.checks.direction_ok.Tie as tie
+use Rattle.limits.specs.Limits.{valueOk}
+use Rattle.limits.proofs.direction_ok.Statement.{statement}
+use Rattle.limits.proofs.direction_ok.Tie as tie
 
 abbrev valueAt : ℕ → List ℤ → ℕ → Bool
 valueAt n r i = valueOk n i (vector r i)
