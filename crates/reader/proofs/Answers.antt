@@ -10,11 +10,11 @@ use lib.Dec.{eqb, ltb}
 use lib.ListN.{length}
 use Rattle.records.specs.Records.{Record, whole, short, unknown, nothing, recordAt}
 use Rattle.records.proofs.RecordAt.{whole-of}
-use Rattle.reader.specs.declared.order.Part.{Part}
-use Rattle.reader.specs.declared.order.Part.the-variants.{Head, Row, Initial, Input, Direction, Guard, End}
+use Rattle.records.specs.declared.order.Part.{Part}
+use Rattle.records.specs.declared.order.Part.the-variants.{Head, Row, Initial, Input, Direction, Guard, End}
 use Rattle.reader.specs.declared.Status.the-variants.{Refused}
 use Rattle.reader.specs.declared.state.State.{State}
-use Rattle.reader.specs.Order.{partOf}
+use Rattle.records.specs.Order.{partOf}
 use Rattle.reader.specs.Models.{start, withPoint}
 use Rattle.reader.specs.Values.{headOk, rowOk, pointOk, directionOk, guardOk, unless, valueNumber}
 use Rattle.reader.specs.Refusals.{kindNumber, firstOf, refusal}

@@ -8,9 +8,9 @@ use native.Mathlib.Omega.{arith}
 use borrow.Author.Tests.{eqb-true, ne-eqb, le-leb, lt-leb}
 use lib.Dec.{eqb, leb, ltb}
 use Rattle.integers.proofs.Booleans.{and-true, or-true}
-use Rattle.reader.specs.declared.order.Part.{Part}
-use Rattle.reader.specs.declared.order.Part.the-variants.{Head, Row, Initial, Input, Direction, Guard, End}
-use Rattle.reader.specs.Order.{order, listed, mayFollow, partOf}
+use Rattle.records.specs.declared.order.Part.{Part}
+use Rattle.records.specs.declared.order.Part.the-variants.{Head, Row, Initial, Input, Direction, Guard, End}
+use Rattle.records.specs.Order.{order, listed, mayFollow, partOf}
 
 -- ---- what every pair passes holds where a kind may stand
 

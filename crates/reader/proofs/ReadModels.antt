@@ -19,7 +19,7 @@ use Rattle.reachability.specs.Limits.{accepted}
 use Rattle.reader.specs.declared.Status.the-variants.{Read}
 use Rattle.reader.specs.declared.Reading.{Reading}
 use Rattle.reader.specs.declared.state.State.{State}
-use Rattle.reader.specs.Order.{mayFollow, partOf}
+use Rattle.records.specs.Order.{mayFollow, partOf}
 use Rattle.reader.specs.Models.{blankModel, start}
 use Rattle.reader.specs.Refusals.{firstOf, refusal, stored}
 use Rattle.reader.specs.Reading.{Stop, stopHere, goesOn, behind, storedRecord, stopFor, stopFrom, numberAt, offsetAt, refused, readAs, readingAt, readFrom, readModel, readNumber, readOffset, statusNumber, statusOffset, Reads}

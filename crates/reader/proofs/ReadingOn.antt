@@ -12,7 +12,7 @@ use Rattle.integers.proofs.Booleans.{and-true, and-false}
 use Rattle.records.specs.Records.{Record, whole, short, unknown, nothing, recordAt, recordKind, recordBody}
 use Rattle.records.proofs.RecordAt.{whole-of}
 use Rattle.reader.specs.declared.state.State.{State}
-use Rattle.reader.specs.Order.{partOf}
+use Rattle.records.specs.Order.{partOf}
 use Rattle.reader.specs.Values.{valueNumber}
 use Rattle.reader.specs.Refusals.{kindNumber, firstOf, refusal, stored}
 use Rattle.reader.specs.Reading.{Stop, stopHere, goesOn, behind, storedRecord, stopFor, numberAt, offsetAt, refused, readAs, readingAt, readFrom}

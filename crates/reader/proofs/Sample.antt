@@ -12,7 +12,7 @@ use Rattle.records.specs.Numbers.{littleEndian}
 use Rattle.reachability.specs.declared.sets.Shape.the-variants.{Box}
 use Rattle.reachability.specs.declared.model.Model.{Model}
 use Rattle.reader.specs.declared.Status.the-variants.{Read}
-use Rattle.reader.specs.Order.{mayFollow, partOf}
+use Rattle.records.specs.Order.{mayFollow, partOf}
 use Rattle.reader.specs.Models.{zeros, blankSet, blankModel, start, sixAt, putRow, withHead, withRow, withPoint, withSetPoint, withDirection, withGuard}
 use Rattle.reader.specs.Values.{rowOk, pointOk, directionOk}
 use Rattle.reader.specs.Refusals.{kindNumber, refusal, stored}

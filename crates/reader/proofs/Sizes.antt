@@ -14,10 +14,10 @@ use Rattle.integers.proofs.Booleans.{and-true}
 use Rattle.records.specs.declared.kinds.BodyLength.the-variants.{Bytes}
 use Rattle.records.specs.Kinds.{bodyLength}
 use Rattle.records.proofs.KnownKinds.{everyKind, everyKind-at}
-use Rattle.reader.specs.declared.order.Part.{Part}
-use Rattle.reader.specs.declared.order.Part.the-variants.{Head, Row, Initial, Input, Direction, Guard, End}
+use Rattle.records.specs.declared.order.Part.{Part}
+use Rattle.records.specs.declared.order.Part.the-variants.{Head, Row, Initial, Input, Direction, Guard, End}
 use Rattle.reader.specs.declared.state.State.{State}
-use Rattle.reader.specs.Order.{mayFollow, partOf}
+use Rattle.records.specs.Order.{mayFollow, partOf}
 use Rattle.reader.specs.Models.{blankSet, blankModel, start, rowPlace, withHead, withRow, withPoint, withSetPoint, withDirection, withGuard}
 use Rattle.reader.specs.Refusals.{storedIn, stored}
 use Rattle.reader.proofs.OrderFacts.{order-at}

@@ -5,10 +5,11 @@ use mathlib.Core.List.{List}
 use Prim.Native.Nat.{ℕ}
 use lib.Dec.{eqb, leb}
 use Rattle.records.specs.Records.{Record, whole, short, unknown, nothing}
-use Rattle.reader.specs.declared.order.Part.{Part}
-use Rattle.reader.specs.declared.order.Part.the-variants.{Head, Row, Initial, Input, Direction, Guard, End}
+use Rattle.records.specs.declared.order.Part.{Part}
+use Rattle.records.specs.declared.order.Part.the-variants.{Head, Row, Initial, Input, Direction, Guard, End}
 use Rattle.reader.specs.declared.state.State.{State}
-use Rattle.reader.specs.Order.{mayFollow, partOf, mostOf}
+use Rattle.records.specs.Order.{mayFollow, partOf}
+use Rattle.reader.specs.Order.{mostOf}
 use Rattle.reader.specs.Models.{withHead, withRow, withSetPoint, withDirection, withGuard}
 use Rattle.reader.specs.Values.{valueNumber}
 

@@ -11,8 +11,8 @@ use Rattle.records.specs.Numbers.{littleEndian}
 use Rattle.reachability.specs.Sets.{reachWithin, cornersOrdered}
 use Rattle.limits.specs.Limits.{directionLimit, allZero}
 use Rattle.reachability.specs.declared.sets.Set.{Set}
-use Rattle.reader.specs.declared.order.Part.{Part}
-use Rattle.reader.specs.declared.order.Part.the-variants.{Head, Row, Initial, Input, Direction, Guard, End}
+use Rattle.records.specs.declared.order.Part.{Part}
+use Rattle.records.specs.declared.order.Part.the-variants.{Head, Row, Initial, Input, Direction, Guard, End}
 use Rattle.reader.specs.declared.state.State.{State}
 use Rattle.reader.specs.Order.{isUpper}
 use Rattle.reader.specs.Models.{firstByte, sixAt, setOf, withPoint}

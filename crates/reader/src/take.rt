@@ -1,6 +1,4 @@
 // Taking a whole record: its value test, number 4 to 8, and the state behind it.
-use crate::order::Part;
-use crate::order::part_of;
 use crate::state::State;
 use crate::store::first_byte;
 use crate::store::put_row;
@@ -9,10 +7,12 @@ use crate::store::six_at;
 use crate::store::with_point;
 use crate::store::with_set;
 use reachability::sets::Set;
+use records::order::Part;
+use records::order::part_of;
 ghost use mathlib.Core.Path.{_≡_};
 ghost use mathlib.Core.Bool.{false};
 ghost use Prim.Native.Nat.{_<_};
-ghost use Rattle.reader.specs.Order.{partOf};
+ghost use Rattle.records.specs.Order.{partOf};
 ghost use Rattle.reader.specs.Models.{withHead, withRow, setOf, withSetPoint, withDirection, withGuard};
 ghost use Rattle.reader.specs.Values.{headOk, rowOk, pointOk, directionOk, guardOk, unless, pointNumber, valueNumber};
 ghost use Rattle.reader.specs.Refusals.{oneTooMany, stored};

@@ -1,10 +1,11 @@
-// Records of a model file, document 01, "The file": the table of kinds and body lengths, the record step, and numbers of
-// several bytes.
+// Records of a model file, document 01, "The file": the table of kinds and body lengths, the record step, the order of kinds, and
+// numbers of several bytes.
 //
-// No public function has a `requires`: any bytes, any offset gets its answer. Only kinds and lengths are known here; which
-// kind may follow which, and what a body may hold, is the reader's.
+// No public function has a `requires`: any bytes, any offset gets its answer. How many records a part may have, and what a body may
+// hold, is the reader's.
 mod kinds;
 mod numbers;
+pub mod order;
 
 use kinds::BodyLength;
 pub use numbers::i32_at;

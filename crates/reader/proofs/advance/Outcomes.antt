@@ -14,7 +14,7 @@ use Rattle.reader.specs.declared.state.State.{State}
 use Rattle.reader.specs.declared.advance.Outcome.{Outcome}
 use Rattle.reader.specs.declared.advance.Outcome.the-variants.{Next, Ended, Stopped}
 use Rattle.reader.specs.declared.advance.Advanced.{Advanced}
-use Rattle.reader.specs.Order.{partOf}
+use Rattle.records.specs.Order.{partOf}
 use Rattle.reader.specs.Values.{valueNumber}
 use Rattle.reader.specs.Refusals.{kindNumber, refusal, stored}
 use Rattle.reader.specs.Reading.{refused, readAs, readFrom}

@@ -6,9 +6,10 @@ use Prim.Native.Nat.{ℕ, _%_, _≤_, _<_}
 use native.Mathlib.Omega.{arith}
 use borrow.Author.Tests.{leb-false}
 use lib.Dec.{eqb, leb}
-use Rattle.reader.specs.declared.order.Part.{Part}
+use Rattle.records.specs.declared.order.Part.{Part}
 use Rattle.reader.specs.declared.state.State.{State}
-use Rattle.reader.specs.Order.{mayFollow, partOf, mostOf}
+use Rattle.records.specs.Order.{mayFollow, partOf}
+use Rattle.reader.specs.Order.{mostOf}
 use Rattle.reader.specs.Refusals.{countOf, oneTooMany, kindNumber}
 
 -- the tests of a program, as numbers, are the tests of the definition

@@ -5,7 +5,8 @@ use mathlib.Core.Logic.{⊎-elim}
 use borrow.Author.Tests.{le-leb, lt-leb, eq-eqb, ne-eqb}
 use lib.Dec.{leb}
 use Rattle.reader.specs.declared.state.State.{State}
-use Rattle.reader.specs.Order.{mayFollow, mostOf}
+use Rattle.records.specs.Order.{mayFollow}
+use Rattle.reader.specs.Order.{mostOf}
 use Rattle.reader.specs.Refusals.{oneTooMany}
 use Rattle.reader.proofs.order.KindNumbers.{oneTooMany-is, kindNumber-misplaced, kindNumber-placed}
 use Rattle.reader.proofs.order.kind_number.Statement.{statement}

@@ -1,8 +1,8 @@
--- `reader::order::part_of` meets its contract, test by test. Assumes nothing.
+-- `records::order::part_of` meets its contract, test by test. Assumes nothing.
 use borrow.Author.Tests.{le-leb, lt-leb}
-use Rattle.reader.specs.Order.{partOf}
-use Rattle.reader.proofs.order.part_of.Statement.{statement}
-use Rattle.reader.proofs.order.part_of.Tie as tie
+use Rattle.records.specs.Order.{partOf}
+use Rattle.records.proofs.order.part_of.Statement.{statement}
+use Rattle.records.proofs.order.part_of.Tie as tie
 
 returns : tie.Need-returns
 unfolding partOf

@@ -1,14 +1,14 @@
--- `reader::order::may_follow` meets its contract. The loop's invariant: a search of the pairs that are left gives the answer. At
+-- `records::order::may_follow` meets its contract. The loop's invariant: a search of the pairs that are left gives the answer. At
 -- the start the table is the list of `order`, which antt computes. The measure is the number of pairs left. Assumes nothing.
 use Rattle.integers.proofs.Basics.{_-_, refl, ap₂, _∙_, arith}
 use mathlib.Core.Bool.{_&&_}
 use mathlib.Core.Logic.{⊎-elim}
 use borrow.Author.Tests.{eq-eqb, ne-eqb}
 use Rattle.integers.proofs.Booleans.{and-skip, and-stop}
-use Rattle.reader.specs.Order.{mayFollow}
-use Rattle.reader.proofs.order.Search.{found, Sought, sought-found, sought-next, sought-none}
-use Rattle.reader.proofs.order.may_follow.Statement.{statement}
-use Rattle.reader.proofs.order.may_follow.Tie as tie
+use Rattle.records.specs.Order.{mayFollow}
+use Rattle.records.proofs.order.Search.{found, Sought, sought-found, sought-next, sought-none}
+use Rattle.records.proofs.order.may_follow.Statement.{statement}
+use Rattle.records.proofs.order.may_follow.Tie as tie
 
 abbrev Inv-loop : tie.InvT-loop
 Inv-loop place kind table i₀ i = Sought place kind table i

@@ -8,8 +8,8 @@ use native.Mathlib.Omega.{arith}
 use lib.Dec.{eqb}
 use lib.ListN.{length, getD, drop, drop-of-length-le}
 use lib.Seq.{drop-cons}
-use Rattle.reader.specs.declared.order.Pair.{Pair}
-use Rattle.reader.specs.Order.{mayFollow}
+use Rattle.records.specs.declared.order.Pair.{Pair}
+use Rattle.records.specs.Order.{mayFollow}
 
 unfoldable pub found : ℕ → ℕ → List Pair → Bool
 found place kind [] = false
