@@ -1,3 +1,4 @@
+pub mod Search
 pub mod KnownKinds
 pub mod LittleEndian
 pub mod TwosComplement

@@ -2,14 +2,16 @@
 -- kind's body length. It holds at the start by the test of the whole table, which antt computes. The measure is the number of
 -- entries left. Assumes nothing.
 use Rattle.integers.proofs.Basics.{refl, _-_, arith, needs}
+use borrow.Author.Tests.{eq-eqb, ne-eqb}
 use Rattle.integers.specs.Sums.{allBelow}
 use Rattle.records.specs.Kinds.{bodyLength}
-use Rattle.records.proofs.kinds.Search.{lookup, same, agrees, Sought, sought-start, sought-found, sought-next, sought-none}
+use Rattle.records.proofs.Search.{lookup, sought-found, sought-next, sought-none}
+use Rattle.records.proofs.kinds.Table.{LengthSought, same, agrees, sought-start}
 use Rattle.records.proofs.kinds.body_length.Statement.{statement}
 use Rattle.records.proofs.kinds.body_length.Tie as tie
 
 abbrev Inv-loop : tie.InvT-loop
-Inv-loop kind table i₀ i = Sought kind table i
+Inv-loop kind table i₀ i = LengthSought kind table i
 
 abbrev μ-loop : tie.MeasureT-loop
 μ-loop kind table i₀ i = 15 - i
@@ -21,12 +23,12 @@ loop-holds c = sought-start (c .args .kind) _ refl (search needs)
 returns : tie.Need-returns Inv-loop μ-loop
 returns c =
     let at-loop = c .before .before .before .before in
-    sought-found (at-loop .loop .inv) _ (c .before .before .before .loop-test .taken) (c .if1 .taken)
+    sought-found (at-loop .loop .inv) _ (c .before .before .before .loop-test .taken) (eq-eqb _ _ (c .if1 .taken))
 
 loop-again : tie.Need-loop-again Inv-loop μ-loop
 loop-again c =
     let at-loop = c .before .before .before .before in
-    sought-next (at-loop .loop .inv) _ (c .before .before .before .loop-test .taken) (c .if1 .left)
+    sought-next (at-loop .loop .inv) _ (c .before .before .before .loop-test .taken) (ne-eqb _ _ (c .if1 .left))
 
 returns-2 : tie.Need-returns-2 Inv-loop μ-loop
 returns-2 c = sought-none (c .before .loop .inv) (c .loop-test .left)
