@@ -7,11 +7,11 @@ use lib.Seq.{length-take-le}
 use Rattle.reachability.specs.Limits.{accepted}
 use Rattle.reachability.specs.declared.model.Model.{Model}
 use Rattle.reachability.proofs.model.Facts.{model-facts}
-use Rattle.listing.specs.Text.{word, line, each}
+use Rattle.text.specs.Text.{word, line, each}
+use Rattle.text.specs.Put.{Put}
+use Rattle.text.proofs.Putting.{put-then, put-most, put-length, put-near}
 use Rattle.listing.specs.Listing.{directionText, guardText, listingText, replyRoom}
-use Rattle.listing.specs.Inner.{Put}
 use Rattle.listing.proofs.Answers.{steps-most, directions-range}
-use Rattle.listing.proofs.Putting.{put-then, put-most, put-length, put-near}
 use Rattle.listing.proofs.put_listing.Statement.{statement}
 use Rattle.listing.proofs.put_listing.Tie as tie
 

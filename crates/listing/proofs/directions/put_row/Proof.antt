@@ -1,7 +1,7 @@
 -- `listing::directions::put_row` meets its contract: six texts, one behind the other. Assumes nothing.
 use Rattle.integers.proofs.Basics.{ap, needs, toZ-ofZ}
-use Rattle.listing.specs.Text.{signedDecimal}
-use Rattle.listing.proofs.Putting.{put-then, put-is}
+use Rattle.text.specs.Text.{signedDecimal}
+use Rattle.text.proofs.Putting.{put-then, put-is}
 use Rattle.listing.proofs.directions.put_row.Statement.{statement}
 use Rattle.listing.proofs.directions.put_row.Tie as tie
 

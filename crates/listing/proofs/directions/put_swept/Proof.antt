@@ -2,8 +2,9 @@
 use Rattle.integers.proofs.Basics.{_≡_, sym, ap, ℕ, _+_, _*_, arith, needs, length}
 use mathlib.Core.List.{List, []}
 use Rattle.reachability.specs.declared.sweep.Swept.{Swept}
-use Rattle.listing.specs.Inner.{Put, swept}
-use Rattle.listing.proofs.Putting.{put-then, put-is, put-most, put-none}
+use Rattle.text.specs.Put.{Put}
+use Rattle.text.proofs.Putting.{put-then, put-is, put-most, put-none}
+use Rattle.listing.specs.Inner.{swept}
 use Rattle.listing.proofs.directions.put_swept.Statement.{statement}
 use Rattle.listing.proofs.directions.put_swept.Tie as tie
 

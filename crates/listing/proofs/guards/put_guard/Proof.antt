@@ -1,9 +1,10 @@
 -- `listing::guards::put_guard` meets its contract: each end is the definition's case. Assumes nothing.
 use Rattle.integers.proofs.Basics.{_≡_, sym, ap, ℕ, _≤_, arith, needs}
 use mathlib.Core.List.{List}
-use Rattle.listing.specs.Inner.{Put, guardLine}
+use Rattle.text.specs.Put.{Put}
+use Rattle.text.proofs.Putting.{put-then, put-is, put-most, put-none}
+use Rattle.listing.specs.Inner.{guardLine}
 use Rattle.listing.proofs.Answers.{guard-none}
-use Rattle.listing.proofs.Putting.{put-then, put-is, put-most, put-none}
 use Rattle.listing.proofs.guards.put_guard.Statement.{statement}
 use Rattle.listing.proofs.guards.put_guard.Tie as tie
 

@@ -8,7 +8,7 @@ use native.Mathlib.Omega.{arith}
 use native.Mathlib.Numerals.{add-one}
 use lib.ListN.{length, getD, set, take, drop, length-append, length-drop}
 use lib.Seq.{length-take-le, take-suc, set-at, take-at, drop-append-add, drop-drop, paste, paste-zero, take-length}
-use Rattle.listing.specs.Inner.{splice, Put}
+use Rattle.text.specs.Put.{splice, Put}
 
 -- ---- one text over a buffer
 

@@ -1,15 +1,15 @@
--- `listing::text::put_decimal` meets its contract: the digits passed stand in the buffer up to the end, and those of the rest are
+-- `text::put_decimal` meets its contract: the digits passed stand in the buffer up to the end, and those of the rest are
 -- still to come, at the end one or two. The measure is the rest. Assumes nothing.
 use Rattle.integers.proofs.Basics.{_≡_, sym, ap, subst, _∙_, ℕ, suc, _+_, _-_, _≤_, _<_, arith, needs, length, set}
 use mathlib.Core.List.{List, [], _∷_}
 use lib.ListN.{length-set}
 use Prim.Native.Nat.{_%_, _/_}
-use Rattle.listing.specs.Text.{digit, decimal}
-use Rattle.listing.specs.Inner.{splice, Put}
-use Rattle.listing.proofs.Putting.{splice-before, splice-pair, splice-none, length-splice}
-use Rattle.listing.proofs.Decimals.{Digits, digits-none, digits-pair, digits-all, digits-all-two, digits-three, length-decimal}
-use Rattle.listing.proofs.text.put_decimal.Statement.{statement}
-use Rattle.listing.proofs.text.put_decimal.Tie as tie
+use Rattle.text.specs.Text.{digit, decimal}
+use Rattle.text.specs.Put.{splice, Put}
+use Rattle.text.proofs.Putting.{splice-before, splice-pair, splice-none, length-splice}
+use Rattle.text.proofs.Decimals.{Digits, digits-none, digits-pair, digits-all, digits-all-two, digits-three, length-decimal}
+use Rattle.text.proofs.put_decimal.Statement.{statement}
+use Rattle.text.proofs.put_decimal.Tie as tie
 
 record DigitsPut (n : ℕ) (out₀ : List ℕ) (end : ℕ) (out : List ℕ) (rest i : ℕ) : Type 0 where
   t : List ℕ

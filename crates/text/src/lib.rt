@@ -2,11 +2,11 @@
 ghost use mathlib.Core.Path.{_≡_};
 ghost use Prim.Native.Nat.{_+_, _≤_};
 ghost use lib.ListN.{length};
-ghost use Rattle.listing.specs.Text.{decimal, signedDecimal, line};
-ghost use Rattle.listing.specs.Inner.{Put};
+ghost use Rattle.text.specs.Text.{decimal, signedDecimal, line};
+ghost use Rattle.text.specs.Put.{Put};
 
 // The bytes of a word.
-pub(crate) fn put(out: &mut [u8], at: usize, word: &[u8]) -> usize
+pub fn put(out: &mut [u8], at: usize, word: &[u8]) -> usize
     requires { ⌜ at + length (now word) ≤ length (now out) ⌝ }
     ensures { λ r. ⌜ Put (length (now (word .entry))) at (now (word .entry)) (now (out .entry)) (now (out .exit)) r ⌝ }
 {
@@ -35,7 +35,7 @@ fn places(n: u64) -> usize
 }
 
 // n in decimal, from its last pair of digits to its first.
-pub(crate) fn put_decimal(out: &mut [u8], at: usize, n: u64) -> usize
+pub fn put_decimal(out: &mut [u8], at: usize, n: u64) -> usize
     requires { ⌜ at + 20 ≤ length (now out) ⌝ }
     ensures { λ r. ⌜ Put 20 at (decimal n) (now (out .entry)) (now (out .exit)) r ⌝ }
 {
@@ -59,7 +59,7 @@ pub(crate) fn put_decimal(out: &mut [u8], at: usize, n: u64) -> usize
 }
 
 // x in decimal, with a minus sign below 0.
-pub(crate) fn put_signed(out: &mut [u8], at: usize, x: i64) -> usize
+pub fn put_signed(out: &mut [u8], at: usize, x: i64) -> usize
     requires { ⌜ at + 21 ≤ length (now out) ⌝ }
     ensures { λ r. ⌜ Put 21 at (signedDecimal x) (now (out .entry)) (now (out .exit)) r ⌝ }
 {
@@ -71,14 +71,7 @@ pub(crate) fn put_signed(out: &mut [u8], at: usize, x: i64) -> usize
 }
 
 // A line of two words with a number behind each.
-pub(crate) fn put_line(
-    out: &mut [u8],
-    at: usize,
-    first: &[u8],
-    a: u64,
-    second: &[u8],
-    b: u64,
-) -> usize
+pub fn put_line(out: &mut [u8], at: usize, first: &[u8], a: u64, second: &[u8], b: u64) -> usize
     requires { ⌜ at + (length (now first) + 20 + length (now second) + 20 + 1) ≤ length (now out) ⌝ }
     ensures { λ r. ⌜ Put (length (now (first .entry)) + 20 + length (now (second .entry)) + 20 + 1) at (line (now (first .entry)) a (now (second .entry)) b) (now (out .entry)) (now (out .exit)) r ⌝ }
 {

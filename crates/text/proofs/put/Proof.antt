@@ -1,11 +1,11 @@
--- `listing::text::put` meets its contract: the bytes passed stand in the buffer. The measure is what is left of the word.
+-- `text::put` meets its contract: the bytes passed stand in the buffer. The measure is what is left of the word.
 -- Assumes nothing.
 use Rattle.integers.proofs.Basics.{_≡_, sym, ap, _∙_, ℕ, _+_, _-_, _≤_, arith, add-one, needs, length, getD, set}
 use mathlib.Core.List.{List}
 use lib.Seq.{paste, paste-zero, paste-suc, length-paste}
-use Rattle.listing.proofs.Putting.{splice-paste}
-use Rattle.listing.proofs.text.put.Statement.{statement}
-use Rattle.listing.proofs.text.put.Tie as tie
+use Rattle.text.proofs.Putting.{splice-paste}
+use Rattle.text.proofs.put.Statement.{statement}
+use Rattle.text.proofs.put.Tie as tie
 
 abbrev Inv-loop : tie.InvT-loop
 Inv-loop out₀ at word i₀ out i = (i ≤ length word) × (out ≡ paste out₀ at word i)

@@ -1,10 +1,10 @@
--- `listing::text::put_signed` meets its contract: the sign, where there is one, and the magnitude. Assumes nothing.
+-- `text::put_signed` meets its contract: the sign, where there is one, and the magnitude. Assumes nothing.
 use Rattle.integers.proofs.Basics.{ap, _∙_, arith, needs, natAbs, toZ-ofZ}
-use Rattle.listing.specs.Text.{decimal}
-use Rattle.listing.proofs.Decimals.{signed-below, signed-above}
-use Rattle.listing.proofs.Putting.{put-then, put-is, put-most}
-use Rattle.listing.proofs.text.put_signed.Statement.{statement}
-use Rattle.listing.proofs.text.put_signed.Tie as tie
+use Rattle.text.specs.Text.{decimal}
+use Rattle.text.proofs.Decimals.{signed-below, signed-above}
+use Rattle.text.proofs.Putting.{put-then, put-is, put-most}
+use Rattle.text.proofs.put_signed.Statement.{statement}
+use Rattle.text.proofs.put_signed.Tie as tie
 
 returns : tie.Need-returns
 returns c =
