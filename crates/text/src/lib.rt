@@ -1,15 +1,30 @@
-// Text in a lent buffer. Each function writes from index `at` on and answers the index behind what it wrote.
+// Text in a lent buffer. Each function writes from index `at` on and answers the index behind what it wrote. Where there might be
+// too few bytes from `at` on, it writes nothing and answers `at`.
+//
+// No public function has a `requires`.
 ghost use mathlib.Core.Path.{_≡_};
-ghost use Prim.Native.Nat.{_+_, _≤_};
+ghost use Prim.Native.Nat.{_+_};
 ghost use lib.ListN.{length};
 ghost use Rattle.text.specs.Text.{decimal, signedDecimal, line};
-ghost use Rattle.text.specs.Put.{Put};
+ghost use Rattle.text.specs.Put.{Puts, ToldFull};
 
-// The bytes of a word.
-pub fn put(out: &mut [u8], at: usize, word: &[u8]) -> usize
-    requires { ⌜ at + length (now word) ≤ length (now out) ⌝ }
-    ensures { λ r. ⌜ Put (length (now (word .entry))) at (now (word .entry)) (now (out .entry)) (now (out .exit)) r ⌝ }
+// Fewer than `room` bytes are left from `at` on.
+fn full(size: usize, at: usize, room: usize) -> bool
+    ensures { λ b. ⌜ ToldFull size at room b ⌝ }
 {
+    if size < at {
+        return true;
+    }
+    size - at < room
+}
+
+// The bytes of a word, where there is room for them.
+pub fn put(out: &mut [u8], at: usize, word: &[u8]) -> usize
+    ensures { λ r. ⌜ Puts (length (now (word .entry))) at (now (word .entry)) (now (out .entry)) (now (out .exit)) r ⌝ }
+{
+    if full(out.len(), at, word.len()) {
+        return at;
+    }
     let mut i: usize = 0;
     while i < word.len() {
         out[at + i] = word[i];
@@ -34,11 +49,13 @@ fn places(n: u64) -> usize
     k
 }
 
-// n in decimal, from its last pair of digits to its first.
+// n in decimal, from its last pair of digits to its first, where there is room for twenty digits.
 pub fn put_decimal(out: &mut [u8], at: usize, n: u64) -> usize
-    requires { ⌜ at + 20 ≤ length (now out) ⌝ }
-    ensures { λ r. ⌜ Put 20 at (decimal n) (now (out .entry)) (now (out .exit)) r ⌝ }
+    ensures { λ r. ⌜ Puts 20 at (decimal n) (now (out .entry)) (now (out .exit)) r ⌝ }
 {
+    if full(out.len(), at, 20) {
+        return at;
+    }
     let end = at + places(n);
     let mut rest = n;
     let mut i = end;
@@ -58,11 +75,13 @@ pub fn put_decimal(out: &mut [u8], at: usize, n: u64) -> usize
     end
 }
 
-// x in decimal, with a minus sign below 0.
+// x in decimal, with a minus sign below 0, where there is room for a sign and twenty digits.
 pub fn put_signed(out: &mut [u8], at: usize, x: i64) -> usize
-    requires { ⌜ at + 21 ≤ length (now out) ⌝ }
-    ensures { λ r. ⌜ Put 21 at (signedDecimal x) (now (out .entry)) (now (out .exit)) r ⌝ }
+    ensures { λ r. ⌜ Puts 21 at (signedDecimal x) (now (out .entry)) (now (out .exit)) r ⌝ }
 {
+    if full(out.len(), at, 21) {
+        return at;
+    }
     if x < 0 {
         let start = put(out, at, b"-");
         return put_decimal(out, start, arrays::magnitude(x));
@@ -70,11 +89,16 @@ pub fn put_signed(out: &mut [u8], at: usize, x: i64) -> usize
     put_decimal(out, at, arrays::magnitude(x))
 }
 
-// A line of two words with a number behind each.
+// A line of two words with a number behind each, where there is room for twenty digits of each number.
 pub fn put_line(out: &mut [u8], at: usize, first: &[u8], a: u64, second: &[u8], b: u64) -> usize
-    requires { ⌜ at + (length (now first) + 20 + length (now second) + 20 + 1) ≤ length (now out) ⌝ }
-    ensures { λ r. ⌜ Put (length (now (first .entry)) + 20 + length (now (second .entry)) + 20 + 1) at (line (now (first .entry)) a (now (second .entry)) b) (now (out .entry)) (now (out .exit)) r ⌝ }
+    ensures { λ r. ⌜ Puts (length (now (first .entry)) + 20 + length (now (second .entry)) + 20 + 1) at (line (now (first .entry)) a (now (second .entry)) b) (now (out .entry)) (now (out .exit)) r ⌝ }
 {
+    if full(out.len(), first.len(), second.len()) {
+        return at;
+    }
+    if full(out.len() - first.len() - second.len(), at, 41) {
+        return at;
+    }
     let mut end = put(out, at, first);
     end = put_decimal(out, end, a);
     end = put(out, end, second);
