@@ -21,7 +21,7 @@ use Rattle.reachability.specs.declared.verdicts.Judged.the-variants as J
 use Rattle.reachability.specs.Limits.{accepted}
 use Rattle.reachability.proofs.model.Facts.{model-facts}
 use Rattle.judge.proofs.Answers.{judges}
-use Rattle.listing.specs.Text.{word, line, each}
+use Rattle.text.specs.Text.{word, line, each}
 use Rattle.listing.specs.Listing.{rowText, sweptText, sweepOf, directionText, judgedText, judgeOf, guardText}
 use Rattle.listing.specs.Inner.{swept, guardLine, caseOf, stepOf, Askable}
 

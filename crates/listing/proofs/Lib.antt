@@ -1,5 +1,3 @@
-pub mod Putting
-pub mod Decimals
 pub mod Answers
 pub mod Noting
 pub mod Replies

@@ -14,8 +14,8 @@ use Rattle.reader.specs.declared.Reading.{Reading}
 use Rattle.reader.specs.declared.Status.{Status}
 use Rattle.reader.specs.declared.Status.the-variants.{Read}
 use Rattle.reader.proofs.ReadModels.{readModel-accepted}
+use Rattle.text.specs.Put.{Put}
 use Rattle.listing.specs.Listing.{statusText, replyText, replyRoom, ReplyLeaves}
-use Rattle.listing.specs.Inner.{Put}
 
 module _ (file out₀ : List ℕ) where
   pub reply-none : length out₀ < replyRoom → ReplyLeaves file out₀ out₀ 0

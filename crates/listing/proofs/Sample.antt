@@ -7,7 +7,7 @@ use Rattle.reachability.specs.Sets.{largest}
 use Rattle.reachability.specs.Recurrence.{walk, firstPlace}
 use Rattle.reader.specs.declared.Reading.{Reading}
 use Rattle.reader.proofs.Sample.{sample, sampleModel, sample-read}
-use Rattle.listing.specs.Text.{word, decimal}
+use Rattle.text.specs.Text.{word, decimal}
 use Rattle.listing.specs.Listing.{directionText, guardText, listingText, statusText, replyText}
 
 pub sample-text : replyText sample ≡ word "model 1 3\ndir 0 spare 10\n0 0 0\n1 1 0\n2 2 1\n3 2 1\nguard 0 HIT 1\nguard 1 UNKNOWN 2\nguard 2 CLEAR\n"

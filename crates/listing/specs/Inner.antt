@@ -3,10 +3,10 @@
 use mathlib.Core.Path.{_≡_}
 use mathlib.Core.Bool.{true, cond}
 use mathlib.Core.List.{List, [], _++_}
-use Prim.Native.Nat.{ℕ, suc, _+_, _*_, _≤_, _<_}
+use Prim.Native.Nat.{ℕ, suc, _*_, _≤_, _<_}
 use lib.Dec.{eqb}
 use lib.IntN.{ℤ}
-use lib.ListN.{length, getD, take, drop}
+use lib.ListN.{length, getD}
 use Rattle.integers.specs.Sums.{vector}
 use Rattle.reachability.specs.Limits.{accepted}
 use Rattle.judge.specs.Answers.{sweptVerdict}
@@ -15,19 +15,9 @@ use Rattle.reachability.specs.declared.sweep.Swept.{Swept}
 use Rattle.reachability.specs.declared.sweep.Swept.the-variants as S
 use Rattle.reachability.specs.declared.verdicts.Judged.{Judged}
 use Rattle.reachability.specs.declared.verdicts.Judged.the-variants as J
-use Rattle.listing.specs.Text.{word, decimal, line, each}
+use Rattle.text.specs.Text.{word, decimal, line, each}
+use Rattle.text.specs.Put.{Put}
 use Rattle.listing.specs.Listing.{rowText, directionText, judgeOf}
-
--- A buffer with a text written over its bytes from an index on.
-abbrev pub splice : List ℕ → ℕ → List ℕ → List ℕ
-splice b at t = take at b ++ t ++ drop (at + length t) b
-
--- The text t, of at most so many bytes, stands in c from `at` up to r, and all else is as in b.
-pub record Put (most at : ℕ) (t b c : List ℕ) (r : ℕ) : Type 0 where
-  pub end : r ≡ at + length t
-  pub small : length t ≤ most
-  pub room : r ≤ length b
-  pub text : c ≡ splice b at t
 
 -- An answer of the judge as two numbers: its case and its step.
 abbrev pub caseOf : Judged → ℕ

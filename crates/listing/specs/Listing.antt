@@ -18,7 +18,7 @@ use Rattle.judge.specs.Answers.{judgeAnswer}
 use Rattle.reader.specs.Reading.{readModel}
 use Rattle.reader.specs.declared.Status.{Status}
 use Rattle.reader.specs.declared.Status.the-variants.{Read, Refused}
-use Rattle.listing.specs.Text.{word, decimal, signedDecimal, line, each}
+use Rattle.text.specs.Text.{word, decimal, signedDecimal, line, each}
 
 -- "step, bound, slack"
 abbrev pub rowText : ℕ → ℤ → ℤ → List ℕ

@@ -1,19 +1,20 @@
 // The part of a listing that a direction has.
 use crate::guards::note;
-use crate::text::put;
-use crate::text::put_decimal;
-use crate::text::put_line;
-use crate::text::put_signed;
 use reachability::model::Model;
 use reachability::sweep::Swept;
 use reachability::sweep::sweep;
+use text::put;
+use text::put_decimal;
+use text::put_line;
+use text::put_signed;
 ghost use mathlib.Core.Path.{_≡_};
 ghost use Prim.Native.Nat.{_+_, _*_, _≤_};
 ghost use lib.ListN.{length};
 ghost use Rattle.integers.specs.Sums.{vector};
-ghost use Rattle.listing.specs.Text.{each};
+ghost use Rattle.text.specs.Text.{each};
+ghost use Rattle.text.specs.Put.{Put};
 ghost use Rattle.listing.specs.Listing.{rowText};
-ghost use Rattle.listing.specs.Inner.{Put, Askable, DirectionLeaves, DirectionsLeave, swept as sweptLines};
+ghost use Rattle.listing.specs.Inner.{Askable, DirectionLeaves, DirectionsLeave, swept as sweptLines};
 
 // Step, bound, slack.
 fn put_row(out: &mut [u8], at: usize, k: usize, bound: i64, slack: i64) -> usize

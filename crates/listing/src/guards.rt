@@ -1,18 +1,19 @@
 // The part of a listing that a guard has. The answers on the guards of a direction are noted when it is swept, as case and step, and
 // written behind the directions.
-use crate::text::put;
-use crate::text::put_decimal;
-use crate::text::put_line;
 use judge::verdict;
 use reachability::model::Model;
 use reachability::sweep::Swept;
 use reachability::verdicts::Judged;
+use text::put;
+use text::put_decimal;
+use text::put_line;
 ghost use mathlib.Core.Path.{_≡_};
 ghost use Prim.Native.Nat.{_+_, _*_, _≤_};
 ghost use lib.ListN.{length};
-ghost use Rattle.listing.specs.Text.{each};
+ghost use Rattle.text.specs.Text.{each};
+ghost use Rattle.text.specs.Put.{Put};
 ghost use Rattle.listing.specs.Listing.{guardText};
-ghost use Rattle.listing.specs.Inner.{Put, Notable, Notes, caseOf, stepOf, guardLine, AllNoted};
+ghost use Rattle.listing.specs.Inner.{Notable, Notes, caseOf, stepOf, guardLine, AllNoted};
 
 fn case_of(answer: Judged) -> u8
     ensures { λ n. ⌜ n ≡ caseOf answer ⌝ }

@@ -4,7 +4,6 @@
 // No public function has a `requires`.
 mod directions;
 mod guards;
-mod text;
 
 use directions::put_directions;
 use guards::put_guards;
@@ -17,8 +16,8 @@ ghost use mathlib.Core.Bool.{true};
 ghost use Prim.Native.Nat.{_≤_};
 ghost use lib.ListN.{length};
 ghost use Rattle.reachability.specs.Limits.{accepted};
+ghost use Rattle.text.specs.Put.{Put};
 ghost use Rattle.listing.specs.Listing.{ReplyLeaves, listingText, replyRoom};
-ghost use Rattle.listing.specs.Inner.{Put};
 
 // Room for every reply.
 pub const ROOM: usize = 270000;

@@ -7,11 +7,11 @@ use lib.Seq.{length-take-le}
 use Rattle.reachability.specs.Limits.{accepted}
 use Rattle.reachability.specs.declared.model.Model.{Model}
 use Rattle.reachability.proofs.model.Facts.{model-facts}
-use Rattle.listing.specs.Text.{word, line, each}
+use Rattle.text.specs.Text.{word, line, each}
+use Rattle.text.specs.Put.{Put}
+use Rattle.text.proofs.Putting.{put-then, put-most, put-length, put-near}
 use Rattle.listing.specs.Listing.{directionText, guardText, listingText, replyRoom}
-use Rattle.listing.specs.Inner.{Put}
 use Rattle.listing.proofs.Answers.{steps-most, directions-range}
-use Rattle.listing.proofs.Putting.{put-then, put-most, put-length, put-near}
 use Rattle.listing.proofs.put_listing.Statement.{statement}
 use Rattle.listing.proofs.put_listing.Tie as tie
 
@@ -40,33 +40,43 @@ array-borrow-prefix-slacks c = within (c .before .before .before .before .before
 slice-aggregate-put-directions-2 : tie.Need-slice-aggregate-put-directions-2
 slice-aggregate-put-directions-2 c = sym (long (c .before .before .before .before .before .before .before .before .before .before .before .before .args .model) (c .before .before .before .before .before .before .before .before .before .before .before .before .pre .0) (c .before .before .before .before .before .before .before .before .row2 .result) (c .before .before .before .before .before .before .before .before .row2 .ensures))
 
+-- the first line
+module _ (c : tie.After-put-line) where
+  abbrev start : tie.Start
+  start = c .before .before .before .before .before .before .before .before
+
+  abbrev model : Model
+  model = start .args .model
+
+  ok : accepted model ≡ true
+  ok = start .pre .0
+
+  head : Put 48 0 (line (word "model ") (model .n) (word " ") (model .steps)) (start .args .out .now) (c .put-line .last .0) (c .put-line .result)
+  head = c .put-line .ensures .fits (omega (arith, start .pre .1))
+
 put-directions-requires : tie.Need-put-directions-requires
 put-directions-requires c κs =
-    let start = c .before .before .before .before .before .before .before .before .before .before .before .before .before .before .before in
-    let m = start .args .model in
-    let ok = start .pre .0 in
-    let head = c .before .before .before .before .before .before .before .put-line .ensures in (
+    let w = c .before .before .before .before .before .before .before in
+    let m = model w in (
       record {
-        accepts = ok;
-        inside = directions-range m ok .0;
-        bounds-long = long m ok (c .before .before .before .before .before .before .before .before .before .before .before .before .row .result) (c .before .before .before .before .before .before .before .before .before .before .before .before .row .ensures) ∙ add-one (m .steps);
-        slacks-long = long m ok (c .before .before .before .before .before .before .before .before .before .before .before .row2 .result) (c .before .before .before .before .before .before .before .before .before .before .before .row2 .ensures) ∙ add-one (m .steps);
+        accepts = ok w;
+        inside = directions-range m (ok w) .0;
+        bounds-long = long m (ok w) (c .before .before .before .before .before .before .before .before .before .before .before .before .row .result) (c .before .before .before .before .before .before .before .before .before .before .before .before .row .ensures) ∙ add-one (m .steps);
+        slacks-long = long m (ok w) (c .before .before .before .before .before .before .before .before .before .before .before .row2 .result) (c .before .before .before .before .before .before .before .before .before .before .before .row2 .ensures) ∙ add-one (m .steps);
       },
       refl,
       refl,
-      omega (arith, put-length head, put-near head, start .pre .1, directions-range m ok .1),
+      omega (arith, put-length (head w), put-near (head w), start w .pre .1, directions-range m (ok w) .1),
     )
 
 put-guards-requires : tie.Need-put-guards-requires
 put-guards-requires c κs =
-    let start = c .before .before .before .before .before .before .before .before .before .before .before .before .before .before .before .before .before .before .before .before .before .before .before in
-    let m = start .args .model in
-    let ok = start .pre .0 in
-    let head = c .before .before .before .before .before .before .before .before .before .before .before .before .before .before .before .put-line .ensures in
+    let w = c .before .before .before .before .before .before .before .before .before .before .before .before .before .before .before in
+    let m = model w in
     let done = c .before .before .before .before .before .before .before .put-directions .ensures in (
       done .cases-noted,
       done .steps-noted,
-      omega (arith, put-length (done .lines), put-near (done .lines), put-length head, put-near head, start .pre .1, directions-range m ok .1, model-facts m ok .guards-most),
+      omega (arith, put-length (done .lines), put-near (done .lines), put-length (head w), put-near (head w), start w .pre .1, directions-range m (ok w) .1, model-facts m (ok w) .guards-most),
     )
 
 -- the three parts are the listing
@@ -76,10 +86,9 @@ listed m h p = put-most replyRoom h p
 
 returns : tie.Need-returns
 returns c =
-    let start = c .before .before .before .before .before .before .before .before .before .before .before .before .before .before .before .before .before .before .before .before .before .before .before .before .before .before in
-    let m = start .args .model in
-    let ok = start .pre .0 in
-    listed m (omega (arith, directions-range m ok .1, model-facts m ok .guards-most)) (put-then (put-then (c .before .before .before .before .before .before .before .before .before .before .before .before .before .before .before .before .before .before .put-line .ensures) (c .before .before .before .before .before .before .before .before .before .before .put-directions .ensures .lines)) (c .before .before .put-guards .ensures))
+    let w = c .before .before .before .before .before .before .before .before .before .before .before .before .before .before .before .before .before .before in
+    let m = model w in
+    listed m (omega (arith, directions-range m (ok w) .1, model-facts m (ok w) .guards-most)) (put-then (put-then (head w) (c .before .before .before .before .before .before .before .before .before .before .put-directions .ensures .lines)) (c .before .before .put-guards .ensures))
 
 pub put-listing-spec : {M : Type 1} → statement M
 put-listing-spec =

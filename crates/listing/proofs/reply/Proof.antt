@@ -1,6 +1,6 @@
 -- `listing::reply` meets its contract: a buffer that is too small is left alone; otherwise the reading's status settles the text.
 -- Assumes nothing.
-use Rattle.integers.proofs.Basics.{needs}
+use Rattle.integers.proofs.Basics.{arith, needs}
 use Rattle.listing.proofs.Replies.{reply-none, reply-accepts, reply-told}
 use Rattle.listing.proofs.reply.Statement.{statement}
 use Rattle.listing.proofs.reply.Tie as tie
@@ -21,7 +21,7 @@ returns-2 c =
 returns-3 : tie.Need-returns-3
 returns-3 c =
     let a = c .before .before .before .before .before .before .before .before .before .before .before .before .before .args in
-    reply-told (a .file .now) (a .out .now) (c .before .before .before .before .before .before .before .before .before .before .if1 .left) (c .before .before .before .before .before .before .before .before .before .read .result) (c .before .before .before .before .before .before .before .before .before .read .ensures .answer) _ (c .before .before .before .before .before .before .before .status .given .1) _ _ _ (c .before .before .put-line .ensures)
+    reply-told (a .file .now) (a .out .now) (c .before .before .before .before .before .before .before .before .before .before .if1 .left) (c .before .before .before .before .before .before .before .before .before .read .result) (c .before .before .before .before .before .before .before .before .before .read .ensures .answer) _ (c .before .before .before .before .before .before .before .status .given .1) _ _ _ (c .before .before .put-line .ensures .fits (omega (arith, c .before .before .before .before .before .before .before .before .before .before .if1 .left)))
 
 pub reply-spec : {M : Type 1} → statement M
 reply-spec =

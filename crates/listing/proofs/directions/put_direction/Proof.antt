@@ -4,9 +4,9 @@ use mathlib.Core.List.{List}
 use Rattle.reachability.specs.Answers.{SweepLeaves}
 use Rattle.reachability.specs.declared.model.Model.{Model}
 use Rattle.reachability.proofs.model.Facts.{model-facts}
+use Rattle.text.proofs.Putting.{put-is, put-most}
 use Rattle.listing.specs.Inner.{Askable}
 use Rattle.listing.proofs.Answers.{swept-lines, guard-answer, steps-most}
-use Rattle.listing.proofs.Putting.{put-is, put-most}
 use Rattle.listing.proofs.directions.put_direction.Statement.{statement}
 use Rattle.listing.proofs.directions.put_direction.Tie as tie
 

@@ -3,12 +3,13 @@
 use Rattle.integers.proofs.Basics.{_≡_, sym, subst, _∙_, ℕ, suc, _*_, _-_, _≤_, arith, add-one, length, ℤ}
 use mathlib.Core.List.{List}
 use Rattle.reachability.specs.declared.model.Model.{Model}
-use Rattle.listing.specs.Text.{each}
+use Rattle.text.specs.Text.{each}
+use Rattle.text.specs.Put.{Put}
+use Rattle.text.proofs.Putting.{put-then, put-most, put-none, put-length, put-near}
 use Rattle.listing.specs.Listing.{directionText}
-use Rattle.listing.specs.Inner.{Put, Noted, caseOf, stepOf}
+use Rattle.listing.specs.Inner.{Noted, caseOf, stepOf}
 use Rattle.listing.proofs.Answers.{directions-range}
 use Rattle.listing.proofs.Noting.{noted-none, noted-more, noted-all}
-use Rattle.listing.proofs.Putting.{put-then, put-most, put-none, put-length, put-near}
 use Rattle.listing.proofs.directions.put_directions.Statement.{statement}
 use Rattle.listing.proofs.directions.put_directions.Tie as tie
 

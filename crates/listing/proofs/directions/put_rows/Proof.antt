@@ -4,10 +4,10 @@ use Rattle.integers.proofs.Basics.{_≡_, sym, ap₂, subst, ℕ, suc, _*_, _-_
 use mathlib.Core.List.{List}
 use Rattle.integers.specs.Sums.{vector}
 use Rattle.integers.proofs.Machine.{read-given}
-use Rattle.listing.specs.Text.{each}
+use Rattle.text.specs.Text.{each}
+use Rattle.text.specs.Put.{Put}
+use Rattle.text.proofs.Putting.{put-then, put-is, put-most, put-none, put-length, put-near}
 use Rattle.listing.specs.Listing.{rowText}
-use Rattle.listing.specs.Inner.{Put}
-use Rattle.listing.proofs.Putting.{put-then, put-is, put-most, put-none, put-length, put-near}
 use Rattle.listing.proofs.directions.put_rows.Statement.{statement}
 use Rattle.listing.proofs.directions.put_rows.Tie as tie
 

@@ -1,9 +1,10 @@
 -- `listing::guards::put_guard` meets its contract: each end is the definition's case. Assumes nothing.
 use Rattle.integers.proofs.Basics.{_≡_, sym, ap, ℕ, _≤_, arith, needs}
 use mathlib.Core.List.{List}
-use Rattle.listing.specs.Inner.{Put, guardLine}
+use Rattle.text.specs.Put.{Put}
+use Rattle.text.proofs.Putting.{put-is, put-most, put-none, puts-then}
+use Rattle.listing.specs.Inner.{guardLine}
 use Rattle.listing.proofs.Answers.{guard-none}
-use Rattle.listing.proofs.Putting.{put-then, put-is, put-most, put-none}
 use Rattle.listing.proofs.guards.put_guard.Statement.{statement}
 use Rattle.listing.proofs.guards.put_guard.Tie as tie
 
@@ -12,16 +13,27 @@ found : (c : tie.Start) (k : ℕ) → c .args .case ≡ k → {most : ℕ} {b d 
 found c k e h p = put-is _ (sym (ap (λ (x : ℕ). guardLine (c .args .guard) x (c .args .step)) e)) (put-most 56 h p)
 
 returns : tie.Need-returns
-returns c = found (c .before .before .before .before .before .before .before .before) 1 (c .before .before .before .before .before .before .if1 .taken) (omega arith) (c .before .before .put-line .ensures)
+returns c =
+    let start = c .before .before .before .before .before .before .before .before in
+    found start 1 (c .before .before .before .before .before .before .if1 .taken) (omega arith) (c .before .before .put-line .ensures .fits (omega (arith, start .pre)))
 
 returns-2 : tie.Need-returns-2
-returns-2 c = found (c .before .before .before .before .before .before .before .before .before) 2 (c .before .before .before .before .before .before .if2 .taken) (omega arith) (c .before .before .put-line2 .ensures)
+returns-2 c =
+    let start = c .before .before .before .before .before .before .before .before .before in
+    found start 2 (c .before .before .before .before .before .before .if2 .taken) (omega arith) (c .before .before .put-line2 .ensures .fits (omega (arith, start .pre)))
 
 returns-3 : tie.Need-returns-3
-returns-3 c = found (c .before .before .before .before .before .before .before .before .before .before .before .before .before .before .before .before .before .before) 3 (c .before .before .before .before .before .before .before .before .before .before .before .before .before .before .if3 .taken) (omega arith) (put-then (put-then (c .before .before .before .before .before .before .before .before .before .before .before .put .ensures) (c .before .before .before .before .before .before .before .put-decimal .ensures)) (c .before .before .put2 .ensures))
+returns-3 c =
+    let start = c .before .before .before .before .before .before .before .before .before .before .before .before .before .before .before .before .before .before in
+    let room = start .pre in
+    let name = c .before .before .before .before .before .before .before .before .before .before .before .put .ensures .fits (omega (arith, room)) in
+    let number = puts-then name (c .before .before .before .before .before .before .before .put-decimal .ensures) (omega (arith, room)) in
+    found start 3 (c .before .before .before .before .before .before .before .before .before .before .before .before .before .before .if3 .taken) (omega arith) (puts-then number (c .before .before .put2 .ensures) (omega (arith, room)))
 
 returns-4 : tie.Need-returns-4
-returns-4 c = found (c .before .before .before .before .before .before .before .before .before .before .before) 4 (c .before .before .before .before .before .before .if4 .taken) (omega arith) (c .before .before .put-line3 .ensures)
+returns-4 c =
+    let start = c .before .before .before .before .before .before .before .before .before .before .before in
+    found start 4 (c .before .before .before .before .before .before .if4 .taken) (omega arith) (c .before .before .put-line3 .ensures .fits (omega (arith, start .pre)))
 
 returns-5 : tie.Need-returns-5
 returns-5 c =

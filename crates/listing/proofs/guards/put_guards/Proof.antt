@@ -1,11 +1,11 @@
 -- `listing::guards::put_guards` meets its contract: the lines of the guards passed stand in the buffer. The measure is how many are
 -- left. Assumes nothing.
 use Rattle.integers.proofs.Basics.{_≡_, sym, subst, ℕ, suc, _*_, _-_, _≤_, arith, add-one, getD}
-use Rattle.listing.specs.Text.{each}
+use Rattle.text.specs.Text.{each}
+use Rattle.text.specs.Put.{Put}
+use Rattle.text.proofs.Putting.{put-then, put-is, put-most, put-none, put-length, put-near}
 use Rattle.listing.specs.Listing.{guardText}
-use Rattle.listing.specs.Inner.{Put}
 use Rattle.listing.proofs.Answers.{guard-text}
-use Rattle.listing.proofs.Putting.{put-then, put-is, put-most, put-none, put-length, put-near}
 use Rattle.listing.proofs.guards.put_guards.Statement.{statement}
 use Rattle.listing.proofs.guards.put_guards.Tie as tie
 

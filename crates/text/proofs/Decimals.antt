@@ -12,7 +12,7 @@ use lib.IntN.{ℤ, pos, negsuc, natAbs}
 use lib.Signed.{ltZ}
 use Rattle.integers.proofs.SignedParts.{v, #, _⊕_, le?}
 use Rattle.integers.proofs.Order.{lt-of-ltZ, le-of-ltZ-false}
-use Rattle.listing.specs.Text.{word, digit, decimalFor, decimal, signedDecimal}
+use Rattle.text.specs.Text.{word, digit, decimalFor, decimal, signedDecimal}
 
 last-digit : (places n : ℕ) → n < 10 → decimalFor (suc places) n ≡ digit n ∷ []
 last-digit places n h = ap (λ (t : Bool). cond t (digit n ∷ []) (decimalFor places (n / 10) ++ (digit (n % 10) ∷ []))) (lt-ltb n 10 h)

@@ -1,12 +1,12 @@
--- `listing::text::places` meets its contract: k counts the digits passed and one that is left; at the end one or two are left. The
+-- `text::places` meets its contract: k counts the digits passed and one that is left; at the end one or two are left. The
 -- measure is the rest, which a division by a hundred makes smaller. Assumes nothing.
 use Rattle.integers.proofs.Basics.{_≡_, refl, ap, ℕ, suc, arith, length}
 use mathlib.Core.List.{List, [], _∷_}
 use Prim.Native.Nat.{_%_, _/_}
-use Rattle.listing.specs.Text.{digit}
-use Rattle.listing.proofs.Decimals.{Digits, digits-none, digits-pair, digits-all, digits-all-two, digits-left, length-decimal}
-use Rattle.listing.proofs.text.places.Statement.{statement}
-use Rattle.listing.proofs.text.places.Tie as tie
+use Rattle.text.specs.Text.{digit}
+use Rattle.text.proofs.Decimals.{Digits, digits-none, digits-pair, digits-all, digits-all-two, digits-left, length-decimal}
+use Rattle.text.proofs.places.Statement.{statement}
+use Rattle.text.proofs.places.Tie as tie
 
 record DividedSoFar (n rest k : ℕ) : Type 0 where
   t : List ℕ

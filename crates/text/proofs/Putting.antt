@@ -1,6 +1,6 @@
 -- Texts in a buffer: what one function put and what the next put behind it are one text; nothing is cut where the rooms add up.
 -- Assumes nothing.
-use mathlib.Core.Path.{_≡_, sym, ap, ap₂, subst, _∙_}
+use mathlib.Core.Path.{_≡_, refl, sym, ap, ap₂, subst, _∙_}
 use mathlib.Core.List.{List, [], _∷_, _++_, append-assoc}
 use Prim.Native.Nat.{ℕ, suc, _+_, _≤_, _<_}
 use native.Mathlib.Nat.{le-of-lt, add-suc, suc-add, add-zero}
@@ -8,7 +8,7 @@ use native.Mathlib.Omega.{arith}
 use native.Mathlib.Numerals.{add-one}
 use lib.ListN.{length, getD, set, take, drop, length-append, length-drop}
 use lib.Seq.{length-take-le, take-suc, set-at, take-at, drop-append-add, drop-drop, paste, paste-zero, take-length}
-use Rattle.listing.specs.Inner.{splice, Put}
+use Rattle.text.specs.Put.{splice, Put, Puts}
 
 -- ---- one text over a buffer
 
@@ -101,3 +101,19 @@ module _ {m at : ℕ} {t b c : List ℕ} {r : ℕ} where
 
 pub put-none : (n at : ℕ) (b : List ℕ) → at ≤ length b → Put n at [] b b at
 put-none n at b h = record { end = sym (add-zero at); small = omega arith; room = h; text = sym (splice-none b at) }
+
+-- ---- where the room was tested
+
+module _ {room at : ℕ} {t b : List ℕ} where
+  pub puts-fits : {c : List ℕ} {r : ℕ} → at + room ≤ length b → Put room at t b c r → Puts room at t b c r
+  puts-fits h p = record { fits = λ l. p; full = λ l. absurd (omega (arith, h, l)) }
+
+  pub puts-full : length b < at + room → Puts room at t b b at
+  puts-full h = record { fits = λ l. absurd (omega (arith, h, l)); full = λ l. (refl, refl) }
+
+  pub puts-is : {c : List ℕ} {r : ℕ} (u : List ℕ) → t ≡ u → Puts room at t b c r → Puts room at u b c r
+  puts-is {c} {r} u e p = subst (λ (x : List ℕ). Puts room at x b c r) e p
+
+-- a text behind another, where there is room for both
+pub puts-then : {m n at : ℕ} {t u b c d : List ℕ} {r s : ℕ} → Put m at t b c r → Puts n r u c d s → at + (m + n) ≤ length b → Put (m + n) at (t ++ u) b d s
+puts-then p q h = put-then p (q .fits (omega (arith, h, put-near p, put-length p)))
