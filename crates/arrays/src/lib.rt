@@ -1,10 +1,10 @@
-// Code over stored whole numbers that several crates share: magnitudes, and tests over every element of an array.
+// Code over stored whole numbers that several crates share: magnitudes, tests over every element of an array, and a row of six.
 // No public function has a `requires`.
 ghost use mathlib.Core.Path.{_≡_};
 ghost use Prim.Native.Nat.{max};
 ghost use lib.IntN.{natAbs};
 ghost use Rattle.integers.specs.Whole.{fraction as fractionOf};
-ghost use Rattle.arrays.specs.Tests.{between, allBetween, zeroUnless, zeroOutside};
+ghost use Rattle.arrays.specs.Tests.{between, allBetween, zeroUnless, zeroOutside, rowOf};
 
 // |x|, for the least i64 too.
 pub fn magnitude(x: i64) -> u64
@@ -92,4 +92,20 @@ pub fn zero_outside(rows: usize, columns: usize, xs: &[i32]) -> bool
         k += 1;
     }
     true
+}
+
+// Row number k of sixteen rows of six; zeros where there is no such row.
+pub fn row(rows: &[i32; 96], k: usize) -> [i32; 6]
+    ensures { λ r. ⌜ r ≡ rowOf (now (rows .entry)) k ⌝ }
+{
+    let mut six = [0i32; 6];
+    if 16 <= k {
+        return six;
+    }
+    let mut i: usize = 0;
+    while i < 6 {
+        six[i] = rows[6 * k + i];
+        i += 1;
+    }
+    six
 }

@@ -7,6 +7,7 @@ use Prim.Native.Nat.{ℕ}
 use lib.Dec.{leb, ltb, eqb}
 use lib.ListN.{getD}
 use lib.IntN.{ℤ, pos, negℤ, natAbs}
+use lib.Signed.{leZ}
 use Rattle.integers.specs.Sums.{vector, matrix, allBelow}
 use Rattle.arrays.specs.Tests.{allBetween, zeroOutside}
 use Rattle.stepping.specs.Limits.{growthLimit}
@@ -51,3 +52,9 @@ valueOk n i x = leb (natAbs x) growthLimit && (ltb i n || eqb (natAbs x) 0)
 
 abbrev pub directionOk : ℕ → List ℤ → Bool
 directionOk n r = allBelow 6 (λ i. valueOk n i (vector r i))
+
+-- ---- "The three sets": the corners of a box
+
+-- "has a box lower corner above its upper in any of the n coordinates": none, of the first two points of a block.
+abbrev pub cornersOrdered : ℕ → List ℤ → Bool
+cornersOrdered n xs = leb n 6 && allBelow n (λ i. leZ (matrix xs 0 i) (matrix xs 1 i))

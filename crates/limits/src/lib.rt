@@ -1,9 +1,10 @@
-// What number 11 tests apart from sets, document 01, "Limits": n, steps and matrix; directions; guards; a direction for a set.
+// What number 11 tests apart from sets, document 01, "Limits": n, steps and matrix; directions; guards; a direction for a set;
+// the corners of a box.
 //
 // No public function has a `requires`.
 ghost use mathlib.Core.Path.{_≡_};
 ghost use Prim.Native.Nat.{_<_};
-ghost use Rattle.limits.specs.Limits.{frameOk, allZero, directionsOk, guardOk, guardsOk, valueOk, directionOk};
+ghost use Rattle.limits.specs.Limits.{frameOk, allZero, directionsOk, guardOk, guardsOk, valueOk, directionOk, cornersOrdered};
 
 // n is 1 to 6, the steps are 1 to 256, and the matrix is one of n by n.
 pub fn frame_ok(n: usize, steps: usize, matrix: &[i32; 36]) -> bool
@@ -124,6 +125,23 @@ fn value_ok(n: usize, i: usize, x: i64) -> bool
     }
     if n <= i {
         return m == 0;
+    }
+    true
+}
+
+// The corners of a box: n is at most 6, and in each of the n coordinates the first point is not above the second.
+pub fn corners_ordered(n: usize, points: &[i32; 96]) -> bool
+    ensures { λ b. ⌜ b ≡ cornersOrdered n (now (points .entry)) ⌝ }
+{
+    if 6 < n {
+        return false;
+    }
+    let mut i: usize = 0;
+    while i < n {
+        if points[6 + i] < points[i] {
+            return false;
+        }
+        i += 1;
     }
     true
 }

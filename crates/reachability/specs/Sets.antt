@@ -123,9 +123,6 @@ pub record ReachAnswer (n : ℕ) (s : Set) (number : ℕ) (reaches : List ℤ) :
   pub number-is : number ≡ cond (dimensionOk n && setOk n (s .shape) (s .count) (s .points)) 0 11
   pub reaches-are : reaches ≡ cond (dimensionOk n && setOk n (s .shape) (s .count) (s .points)) (tabulate 6 (λ i. pos (reachOf (s .shape) (s .count) (points (s .points)) i))) (tabulate 6 (λ i. pos 0))
 
--- What a reader tests of a set point by point: the reach of the points so far, and a box's corners.
+-- What a reader tests of a set point by point, beside a box's corners: the reach of the points so far.
 abbrev pub reachWithin : Shape → ℕ → List ℤ → Bool
 reachWithin shape count xs = (leb 1 count && leb count 16) && reachOk shape count (points xs)
-
-abbrev pub cornersOrdered : ℕ → List ℤ → Bool
-cornersOrdered n xs = leb n 6 && orderedOk n Box (points xs)

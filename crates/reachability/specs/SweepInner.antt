@@ -11,8 +11,6 @@ use lib.Signed.{nonNeg}
 use Rattle.integers.specs.Sums.{vector, magnitudes, maxℕ, dotℕ, tabulate}
 use Rattle.stepping.specs.Limits.{errorLimit}
 use Rattle.stepping.specs.Recurrence.{firstR, firstE, Rounds}
-use Rattle.stepping.specs.declared.Stepped.{Stepped}
-use Rattle.stepping.specs.declared.Stepped.the-variants.{Sum, Refused}
 use Rattle.reachability.specs.Sets.{points, supportOf, reachOf, reachLimit}
 use Rattle.reachability.specs.SetsInner.{Counted, Tested, termLimit}
 use Rattle.reachability.specs.Runs.{direction}
@@ -67,11 +65,6 @@ pub record StepGives (shapeI : Shape) (countI : ℕ) (pointsI reachesI : List �
   pub errors-are : errors′ ≡ errors + termErrors e reachesU
 
 -- ---- all steps
-
--- The growth sum of an answer.
-abbrev pub sumOf : Stepped → ℕ
-sumOf (Sum s) = s
-sumOf Refused = 0
 
 -- An accepted model, one of its directions, and two rows of 257.
 pub record FillAsks (m : Model) (d : ℕ) (b s : List ℤ) : Type 0 where

@@ -7,7 +7,7 @@ pub(crate) use checks::set_ok;
 pub(crate) use reaches::reaches_of;
 pub(crate) use supports::support_of;
 ghost use mathlib.Core.Path.{_≡_};
-ghost use Rattle.reachability.specs.Sets.{Supports, ReachAnswer, reachWithin, cornersOrdered};
+ghost use Rattle.reachability.specs.Sets.{Supports, ReachAnswer, reachWithin};
 
 // How a set's points are to be read: lower and upper corner; centre and generators; vertices.
 pub enum Shape {
@@ -83,23 +83,6 @@ pub fn reach_within(shape: Shape, count: usize, points: &[i32; 96]) -> bool
     let mut i: usize = 0;
     while i < 6 {
         if 1048576 < reaches::reach_at(shape, count, points, i) {
-            return false;
-        }
-        i += 1;
-    }
-    true
-}
-
-// n is at most 6, and in each of the n coordinates the first point is not above the second.
-pub fn corners_ordered(n: usize, points: &[i32; 96]) -> bool
-    ensures { λ b. ⌜ b ≡ cornersOrdered n (now (points .entry)) ⌝ }
-{
-    if 6 < n {
-        return false;
-    }
-    let mut i: usize = 0;
-    while i < n {
-        if points[6 + i] < points[i] {
             return false;
         }
         i += 1;

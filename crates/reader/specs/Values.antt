@@ -8,8 +8,8 @@ use Rattle.arrays.specs.Tests.{allBetween}
 use Rattle.stepping.specs.Limits.{entryLimit}
 use Rattle.stepping.specs.Refusals.{dimensionOk}
 use Rattle.records.specs.Numbers.{littleEndian}
-use Rattle.reachability.specs.Sets.{reachWithin, cornersOrdered}
-use Rattle.limits.specs.Limits.{directionLimit, allZero}
+use Rattle.reachability.specs.Sets.{reachWithin}
+use Rattle.limits.specs.Limits.{directionLimit, allZero, cornersOrdered}
 use Rattle.reachability.specs.declared.sets.Set.{Set}
 use Rattle.records.specs.declared.order.Part.{Part}
 use Rattle.records.specs.declared.order.Part.the-variants.{Head, Row, Initial, Input, Direction, Guard, End}

@@ -95,7 +95,7 @@ fn point_ok(n: usize, kind: u8, set: Set) -> bool
     if which != 1 {
         return true;
     }
-    reachability::sets::corners_ordered(n, &points)
+    limits::corners_ordered(n, &points)
 }
 
 // One point more of the initial set or, with `input`, of the input set.

@@ -50,6 +50,11 @@ abbrev pub steppedNumber : Stepped → ℕ
 steppedNumber (Sum s) = 0
 steppedNumber Refused = 11
 
+-- The growth sum of an answer; 0 for a refusal.
+abbrev pub sumOf : Stepped → ℕ
+sumOf (Sum s) = s
+sumOf Refused = 0
+
 abbrev pub spareNumber : Spare → ℕ
 spareNumber (Bits h) = 0
 spareNumber NoSpare = 11

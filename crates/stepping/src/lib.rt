@@ -8,7 +8,7 @@ mod refusals;
 pub mod rounding;
 
 ghost use mathlib.Core.Path.{_≡_};
-ghost use Rattle.stepping.specs.Refusals.{First, Grows, matrixOk, Steps, Spares};
+ghost use Rattle.stepping.specs.Refusals.{First, Grows, sumOf, matrixOk, Steps, Spares};
 
 // What a step or a growth sum answers: the growth sum, or number 11.
 pub enum Stepped {
@@ -60,6 +60,16 @@ pub fn growth(n: usize, r: &[i64; 6], e: &[i64; 6]) -> Stepped
         return Stepped::Refused;
     }
     Stepped::Sum(sum)
+}
+
+// The growth sum of an answer; 0 for a refusal.
+pub fn sum_of(answer: Stepped) -> u64
+    ensures { λ s. ⌜ s ≡ sumOf answer ⌝ }
+{
+    match answer {
+        Stepped::Sum(s) => s,
+        Stepped::Refused => 0,
+    }
 }
 
 // Each entry of the n by n matrix is within its limit, and the others are zero. At n = 6 there are no others.

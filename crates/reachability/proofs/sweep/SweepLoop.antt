@@ -15,10 +15,10 @@ use Rattle.integers.specs.Sums.{vector, maxℕ}
 use Rattle.integers.proofs.Sums.{maxℕ-zero, maxℕ-suc}
 use Rattle.integers.proofs.Machine.{filled, filled-none, filled-more, getD-filled}
 use Rattle.stepping.specs.Limits.{growthLimit}
-use Rattle.stepping.specs.Refusals.{Steps}
+use Rattle.stepping.specs.Refusals.{Steps, sumOf}
 use Rattle.stepping.specs.declared.Stepped.{Stepped}
 use Rattle.reachability.specs.Recurrence.{sumAt, growsAt, growthStep, bound, slack}
-use Rattle.reachability.specs.SweepInner.{StepGives, Prepared, Fills, sumOf, reachesOf}
+use Rattle.reachability.specs.SweepInner.{StepGives, Prepared, Fills, reachesOf}
 use Rattle.reachability.specs.declared.sets.Shape.{Shape}
 use Rattle.reachability.specs.declared.model.Model.{Model}
 use Rattle.reachability.proofs.FirstPlace.{firstPlace-is, firstPlace-none}

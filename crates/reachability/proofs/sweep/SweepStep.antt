@@ -14,7 +14,7 @@ use Rattle.integers.proofs.Sums.{sum-cong, sumℕ-cong, pos-sumℕ}
 use Rattle.integers.proofs.RunningSum.{RunningSum, running-start, running-more}
 use Rattle.stepping.specs.Limits.{directionUnit, growthLimit}
 use Rattle.stepping.specs.Recurrence.{firstR, firstE, growthSum, boundOf, slackOf}
-use Rattle.stepping.specs.Refusals.{stepOk, growthAnswer, Steps}
+use Rattle.stepping.specs.Refusals.{stepOk, growthAnswer, Steps, sumOf}
 use Rattle.stepping.specs.declared.Stepped.{Stepped}
 use Rattle.stepping.specs.declared.Stepped.the-variants.{Sum, Refused}
 use Rattle.stepping.proofs.Recurrence.{growthSum-first}
@@ -22,7 +22,7 @@ use Rattle.stepping.proofs.Beyond.{steps-six}
 use Rattle.limits.specs.Limits.{directionLimit}
 use Rattle.reachability.specs.Runs.{moves, direction}
 use Rattle.reachability.specs.Recurrence.{Working, first, next, walk, working, sumAt, errorAt, rawBound, rawSlack, bound, slack}
-use Rattle.reachability.specs.SweepInner.{errorsLimit, addedLimit, termErrors, termOf, StepAsks, StepGives, sumOf, reachesOf}
+use Rattle.reachability.specs.SweepInner.{errorsLimit, addedLimit, termErrors, termOf, StepAsks, StepGives, reachesOf}
 use Rattle.reachability.specs.declared.model.Model.{Model}
 use Rattle.reachability.proofs.model.Facts.{ModelFacts}
 use Rattle.reachability.proofs.sweep.StoredDirection.{Stored, addedAt, sum-stored, working-passes, stored-next, errors-stored, added-stored, errors-small, added-small, terms-ask}

@@ -1,7 +1,6 @@
 // The rules that number 11 tests of a set.
 use crate::sets::Set;
 use crate::sets::Shape;
-use crate::sets::corners_ordered;
 use crate::sets::reach_within;
 ghost use mathlib.Core.Path.{_≡_};
 ghost use mathlib.Core.Bool.{_&&_};
@@ -52,7 +51,7 @@ pub(crate) fn set_ok(n: usize, set: Set) -> bool
         return false;
     }
     match shape {
-        Shape::Box => corners_ordered(n, &points),
+        Shape::Box => limits::corners_ordered(n, &points),
         Shape::Zonotope => true,
         Shape::Vertices => true,
     }

@@ -4,35 +4,21 @@ use crate::sets::Shape;
 use crate::sets::reaches_of;
 use crate::sets::support_of;
 use stepping::Spare;
-use stepping::Stepped;
 use stepping::rounding::bound_and_slack;
+use stepping::sum_of;
 ghost use mathlib.Core.Path.{_≡_};
-ghost use Prim.Native.Nat.{_≤_, _<_};
+ghost use Prim.Native.Nat.{_≤_};
 ghost use lib.ListN.{length};
-ghost use Rattle.integers.specs.Sums.{vector, matrix, tabulate};
+ghost use Rattle.integers.specs.Sums.{vector, tabulate};
 ghost use Rattle.stepping.specs.Limits.{growthLimit};
 ghost use Rattle.stepping.specs.Recurrence.{spare};
-ghost use Rattle.reachability.specs.SweepInner.{ErrorsWithReach, termErrors, TermsAsk, termOf, StepAsks, StepGives, sumOf, FillAsks, Prepared, Fills};
+ghost use Rattle.reachability.specs.SweepInner.{ErrorsWithReach, termErrors, TermsAsk, termOf, StepAsks, StepGives, FillAsks, Prepared, Fills};
 
 // 257 zeros. The contract gives the length alone.
 pub(crate) fn blank() -> [i64; 257]
     ensures { λ r. ⌜ 257 ≡ length r ⌝ }
 {
     [0i64; 257]
-}
-
-// Direction number k of the directions.
-fn row(entries: &[i32; 96], k: usize) -> [i32; 6]
-    requires { ⌜ k < 16 ⌝ }
-    ensures { λ r. ⌜ r ≡ tabulate 6 (matrix (now (entries .entry)) k) ⌝ }
-{
-    let mut d = [0i32; 6];
-    let mut i: usize = 0;
-    while i < 6 {
-        d[i] = entries[6 * k + i];
-        i += 1;
-    }
-    d
 }
 
 // e · reach.
@@ -70,16 +56,6 @@ fn terms_of(
     let errors = errors_of(e, reaches);
     let total = support + (errors as i64);
     Terms { total, errors }
-}
-
-// The growth sum of an answer of the stepping arithmetic; 0 for a refusal, which never comes here.
-fn sum_of(a: Stepped) -> u64
-    ensures { λ s. ⌜ s ≡ sumOf a ⌝ }
-{
-    match a {
-        Stepped::Sum(s) => s,
-        Stepped::Refused => 0,
-    }
 }
 
 // The spare figure of a largest sum from 1 to 1,073,741,824.
@@ -236,7 +212,7 @@ pub(crate) fn fill(
     let entries = model.entries;
     let initial_reaches = reaches_of(initial_shape, initial_count, &initial_points);
     let input_reaches = reaches_of(input_shape, input_count, &input_points);
-    let d = row(&entries, direction);
+    let d = arrays::row(&entries, direction);
     let mut r = [0i64; 6];
     let mut e = [0i64; 6];
     stepping::first(&d, &mut r, &mut e);

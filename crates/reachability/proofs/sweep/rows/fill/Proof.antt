@@ -1,7 +1,9 @@
 -- `reachability::sweep::rows::fill` meets its contract: what it hands over is the model's own. Assumes nothing.
-use Rattle.integers.proofs.Basics.{_≡_, refl, ap, _∙_, ℕ, needs, ℤ, pos, _*ℤ_}
+use Rattle.integers.proofs.Basics.{_≡_, refl, ap, _∙_, ℕ, _<_, needs, ℤ, pos, _*ℤ_}
 use mathlib.Core.List.{List}
 use native.Mathlib.Nat.{lt-of-lt-of-le}
+use borrow.Author.Tests.{lt-ltb}
+use Rattle.arrays.specs.Tests.{rowOf}
 use Rattle.integers.specs.Sums.{vector, matrix, tabulate}
 use Rattle.integers.proofs.Machine.{getD-tabulate, tabulate-cong}
 use Rattle.stepping.specs.Limits.{directionUnit}
@@ -24,15 +26,11 @@ reaches-of-requires-2 c κs =
     let f = facts (c .before .before .before .before .before .before .before .before .before) in
     (f .input .counted, f .input .reach-small)
 
-row-requires : tie.Need-row-requires
-row-requires c κs =
-    let start = c .before .before .before .before .before .before .before .before .before .before .before in
-    lt-of-lt-of-le (start .pre .inside) (facts start .directions-most)
-
 -- the first working direction of the row is that of the direction
-first-own : (m : Model) (k : ℕ) (d r : List ℤ) → d ≡ tabulate 6 (matrix (m .entries) k) → r ≡ tabulate 6 (firstR (vector d)) → r ≡ tabulate 6 (firstR (matrix (m .entries) k))
-first-own m k d r p q =
-    q ∙ tabulate-cong 6 (λ i h. ap (λ (z : ℤ). pos directionUnit *ℤ z) (ap (λ (l : List ℤ). vector l i) p ∙ getD-tabulate 6 (matrix (m .entries) k) i (pos 0) h))
+first-own : (m : Model) (k : ℕ) (d r : List ℤ) → k < 16 → d ≡ rowOf (m .entries) k → r ≡ tabulate 6 (firstR (vector d)) → r ≡ tabulate 6 (firstR (matrix (m .entries) k))
+first-own m k d r h p q =
+    let own : d ≡ tabulate 6 (matrix (m .entries) k) = simp (lt-ltb k 16 h) at p in
+    q ∙ tabulate-cong 6 (λ i inside. ap (λ (z : ℤ). pos directionUnit *ℤ z) (ap (λ (l : List ℤ). vector l i) own ∙ getD-tabulate 6 (matrix (m .entries) k) i (pos 0) inside))
 
 fill-rows-requires : tie.Need-fill-rows-requires
 fill-rows-requires c κs =
@@ -53,7 +51,7 @@ fill-rows-requires c κs =
         input-count-is = refl;
         input-points-are = refl;
         input-reaches-are = at-input .reaches-of2 .ensures;
-        r-is = first-own (start .args .model) (start .args .direction) (at-row .row .result) _ (at-row .row .ensures) (at-first .first .ensures .direction);
+        r-is = first-own (start .args .model) (start .args .direction) (at-row .row .result) _ (lt-of-lt-of-le (start .pre .inside) (facts start .directions-most)) (at-row .row .ensures) (at-first .first .ensures .direction);
         e-is = at-first .first .ensures .errors;
       },
     )
@@ -64,7 +62,7 @@ fill-spec =
     (tie.spec
     reaches-of-requires
     reaches-of-requires-2
-    row-requires
+    (λ c κs. search needs)
     (λ c κs. search needs)
     fill-rows-requires
     (λ c. search needs))

@@ -4,8 +4,8 @@ use Rattle.integers.proofs.Basics.{_≡_, ap, subst, _∙_, ℕ, suc, _+_, _-_,
 use Prim.Native.Nat.{max}
 use native.Mathlib.Nat.{le-trans}
 use Rattle.stepping.specs.Limits.{growthLimit}
-use Rattle.stepping.specs.Refusals.{Steps, growthAnswer}
-use Rattle.reachability.specs.SweepInner.{StepAsks, StepGives, sumOf}
+use Rattle.stepping.specs.Refusals.{Steps, growthAnswer, sumOf}
+use Rattle.reachability.specs.SweepInner.{StepAsks, StepGives}
 use Rattle.reachability.specs.declared.model.Model.{Model}
 use Rattle.reachability.proofs.model.Facts.{ModelFacts, model-facts}
 use Rattle.reachability.proofs.sweep.SweepStep.{BeforeStep, before-first, growth-is, step-asks}
