@@ -1,12 +1,12 @@
--- Tests over the elements of a stored array, and a row of it. Definitions only. Assumes nothing.
-use mathlib.Core.Bool.{Bool, cond, _&&_, _||_}
+-- Tests over the elements of a stored array. Definitions only. Assumes nothing.
+use mathlib.Core.Bool.{Bool, _&&_, _||_}
 use mathlib.Core.List.{List}
 use Prim.Native.Nat.{ℕ, _/_, _%_}
 use lib.Dec.{ltb, eqb}
 use lib.ListN.{length}
-use lib.IntN.{ℤ, pos, natAbs}
+use lib.IntN.{ℤ, natAbs}
 use lib.Signed.{leZ}
-use Rattle.integers.specs.Sums.{vector, matrix, allBelow, tabulate}
+use Rattle.integers.specs.Sums.{vector, allBelow}
 
 -- x is from low to high.
 abbrev pub between : ℤ → ℤ → ℤ → Bool
@@ -23,7 +23,3 @@ zeroUnless rows columns k x = (ltb (k / 6) rows && ltb (k % 6) columns) || eqb (
 -- Each element outside the first `rows` rows and the first `columns` columns is zero.
 abbrev pub zeroOutside : ℕ → ℕ → List ℤ → Bool
 zeroOutside rows columns xs = allBelow (length xs) (λ k. zeroUnless rows columns k (vector xs k))
-
--- Row number k of sixteen rows of six; zeros where there is no such row.
-abbrev pub rowOf : List ℤ → ℕ → List ℤ
-rowOf xs k = cond (ltb k 16) (tabulate 6 (matrix xs k)) (tabulate 6 (λ i. pos 0))

@@ -1,10 +1,13 @@
-// Code over stored whole numbers that several crates share: magnitudes, tests over every element of an array, and a row of six.
+// Code over stored whole numbers that several crates share: magnitudes, tests over every element of an array, and rows and
+// columns of rows of six.
 // No public function has a `requires`.
 ghost use mathlib.Core.Path.{_≡_};
-ghost use Prim.Native.Nat.{max};
+ghost use Prim.Native.Nat.{_≤_, _<_, max};
 ghost use lib.IntN.{natAbs};
 ghost use Rattle.integers.specs.Whole.{fraction as fractionOf};
-ghost use Rattle.arrays.specs.Tests.{between, allBetween, zeroUnless, zeroOutside, rowOf};
+ghost use Rattle.integers.specs.Sums.{matrix};
+ghost use Rattle.arrays.specs.Tests.{between, allBetween, zeroUnless, zeroOutside};
+ghost use Rattle.arrays.specs.Rows.{rowOf, columnSum, columnMost};
 
 // |x|, for the least i64 too.
 pub fn magnitude(x: i64) -> u64
@@ -108,4 +111,50 @@ pub fn row(rows: &[i32; 96], k: usize) -> [i32; 6]
         i += 1;
     }
     six
+}
+
+// |element i of row k|.
+fn size(rows: &[i32; 96], k: usize, i: usize) -> u64
+    requires { ⌜ (k < 16) × (i < 6) ⌝ }
+    ensures { λ s. ⌜ (s ≡ natAbs (matrix (now (rows .entry)) k i)) × (s ≤ 2147483648) ⌝ }
+{
+    magnitude(rows[6 * k + i] as i64)
+}
+
+// The sum of |element i| over the first `count` of sixteen rows of six; 0 where there are not so many rows, or no such element.
+pub fn column_sum(rows: &[i32; 96], count: usize, i: usize) -> u64
+    ensures { λ s. ⌜ s ≡ columnSum (now (rows .entry)) count i ⌝ }
+{
+    if 16 < count {
+        return 0;
+    }
+    if 6 <= i {
+        return 0;
+    }
+    let mut sum: u64 = 0;
+    let mut j: usize = 0;
+    while j < count {
+        sum = sum + size(rows, j, i);
+        j += 1;
+    }
+    sum
+}
+
+// The largest |element i| over the first `count` of sixteen rows of six; 0 where there are not so many rows, or no such element.
+pub fn column_most(rows: &[i32; 96], count: usize, i: usize) -> u64
+    ensures { λ s. ⌜ s ≡ columnMost (now (rows .entry)) count i ⌝ }
+{
+    if 16 < count {
+        return 0;
+    }
+    if 6 <= i {
+        return 0;
+    }
+    let mut most: u64 = 0;
+    let mut k: usize = 0;
+    while k < count {
+        most = larger(most, size(rows, k, i));
+        k += 1;
+    }
+    most
 }

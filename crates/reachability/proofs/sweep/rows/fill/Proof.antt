@@ -3,7 +3,7 @@ use Rattle.integers.proofs.Basics.{_≡_, refl, ap, _∙_, ℕ, _<_, needs, ℤ
 use mathlib.Core.List.{List}
 use native.Mathlib.Nat.{lt-of-lt-of-le}
 use borrow.Author.Tests.{lt-ltb}
-use Rattle.arrays.specs.Tests.{rowOf}
+use Rattle.arrays.specs.Rows.{rowOf}
 use Rattle.integers.specs.Sums.{vector, matrix, tabulate}
 use Rattle.integers.proofs.Machine.{getD-tabulate, tabulate-cong}
 use Rattle.stepping.specs.Limits.{directionUnit}

@@ -1,13 +1,13 @@
--- `reachability::sets::reaches::size` meets its contract. Assumes nothing.
+-- `arrays::size` meets its contract. Assumes nothing.
 use Rattle.integers.proofs.Basics.{sym, ap, subst, _∙_, ℕ, _≤_, needs, natAbs, w32, w64, SFits, toZ-ofZ}
 use mir.Facts.{sfits-widen}
 use lib.Signed.{natAbs-le}
 use Rattle.integers.proofs.Machine.{read-wide}
-use Rattle.reachability.specs.Sets.{points as pointsOf}
-use Rattle.reachability.proofs.sets.reaches.size.Statement.{statement}
-use Rattle.reachability.proofs.sets.reaches.size.Tie as tie
+use Rattle.integers.specs.Sums.{matrix}
+use Rattle.arrays.proofs.size.Statement.{statement}
+use Rattle.arrays.proofs.size.Tie as tie
 
-fit : (c : tie.After-magnitude-arg) → SFits w32 (pointsOf (c .before .args .points .now) (c .before .args .k) (c .before .args .i))
+fit : (c : tie.After-magnitude-arg) → SFits w32 (matrix (c .before .args .rows .now) (c .before .args .k) (c .before .args .i))
 fit c = record { sfits = c .magnitude-arg .given }
 
 cast-magnitude : tie.Need-cast-magnitude
@@ -18,7 +18,7 @@ returns c =
     let b = c .before in
     let a = b .before .args in
     let is = c .magnitude .ensures ∙ ap natAbs (read-wide w32 w64 tt (fit b)) in
-    (is, subst (λ (k : ℕ). k ≤ 2147483648) (sym is) (natAbs-le (pointsOf (a .points .now) (a .k) (a .i)) (fit b .sfits)))
+    (is, subst (λ (k : ℕ). k ≤ 2147483648) (sym is) (natAbs-le (matrix (a .rows .now) (a .k) (a .i)) (fit b .sfits)))
 
 pub size-spec : {M : Type 1} → statement M
 size-spec =
