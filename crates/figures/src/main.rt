@@ -2,13 +2,12 @@
 // Each row of the file `args` is an argument: a case, a heading or a comment, with a note on how they are written. The file
 // `stdout` has what should come out, worked out by hand: the documents name some of the figures, and the others follow from the
 // recurrence.
-mod cells;
-mod output;
 mod sets;
 mod sweeps;
 mod walks;
 
 use cells::letter;
+use cells::output;
 use libc::STDOUT_FILENO;
 
 // Runs the routine that a row names, by its first two letters. A row of -1 tells that there is none.

@@ -1,11 +1,11 @@
 // The three sets: support and reach through the public routines.
-use crate::cells::count;
-use crate::cells::entry;
-use crate::output::answer;
-use crate::output::natural;
-use crate::output::number;
-use crate::output::pair;
 use crate::walks::six_of;
+use cells::count;
+use cells::entry;
+use cells::output::answer;
+use cells::output::natural;
+use cells::output::number;
+use cells::output::pair;
 use reachability::sets::Set;
 use reachability::sets::Shape;
 use reachability::sets::Supported;

@@ -1,13 +1,13 @@
 // The sweep and the judge: the answer for a small model.
-use crate::cells::count;
-use crate::cells::entry;
-use crate::cells::length_of;
-use crate::cells::list_of;
-use crate::output::answer;
-use crate::output::list;
-use crate::output::natural;
 use crate::sets::set_of;
 use crate::walks::matrix_of;
+use cells::count;
+use cells::entry;
+use cells::length_of;
+use cells::list_of;
+use cells::output::answer;
+use cells::output::list;
+use cells::output::natural;
 use reachability::model::Model;
 use reachability::sweep::Swept;
 use reachability::verdicts::Judged;

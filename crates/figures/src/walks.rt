@@ -1,12 +1,13 @@
 // The stepping arithmetic: working directions step by step, growth, spare, and the refusals of `step`.
-use crate::cells::count;
-use crate::cells::entry;
-use crate::output::answer;
-use crate::output::natural;
-use crate::output::number;
-use crate::output::pair;
+use cells::count;
+use cells::entry;
+use cells::output::answer;
+use cells::output::natural;
+use cells::output::number;
+use cells::output::pair;
 use stepping::Spare;
 use stepping::Stepped;
+use stepping::sum_of;
 
 // The matrix of a row: the first two entries of its first two rows.
 pub fn matrix_of(cells: &[i64; 258]) -> [i32; 36] {
@@ -33,14 +34,6 @@ fn spare_or(most: u64, number: u64, figure: u64) {
 
 pub fn spare(cells: &[i64; 258]) {
     spare_or(arrays::magnitude(cells[0x02]), 11, 0);
-}
-
-// The growth sum, 0 for a refusal.
-fn sum_of(a: Stepped) -> u64 {
-    match a {
-        Stepped::Sum(sum) => sum,
-        Stepped::Refused => 0,
-    }
 }
 
 // How a walk ends: its last step, the growth sum there, and the largest growth sum of its steps.

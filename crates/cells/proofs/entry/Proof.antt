@@ -1,9 +1,9 @@
--- `figures::cells::entry` is safe: a number that is not below -2^31 and not above 2^31 - 1 is one of 32 bits. Assumes nothing.
+-- `cells::entry` is safe: a number that is not below -2^31 and not above 2^31 - 1 is one of 32 bits. Assumes nothing.
 use Rattle.integers.proofs.Basics.{_≡_, false, arith, needs, ℤ, pos, negsuc, w32, SFits}
 use borrow.Author.Tests.{ltb-false}
 use lib.Signed.{ltZ}
-use Rattle.figures.proofs.cells.entry.Statement.{statement}
-use Rattle.figures.proofs.cells.entry.Tie as tie
+use Rattle.cells.proofs.entry.Statement.{statement}
+use Rattle.cells.proofs.entry.Tie as tie
 
 narrow : (z : ℤ) → ltZ z (negsuc 2147483647) ≡ false → ltZ (pos 2147483647) z ≡ false → SFits w32 z
 narrow (pos n) low high = record { sfits = omega (arith, ltb-false 2147483647 n high) }

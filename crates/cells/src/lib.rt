@@ -1,6 +1,10 @@
 // The numbers of a row. A row has words between spaces: a name, numbers, and bars that part it into sections. A number's cell
 // has the section in its high hexadecimal digit and the place in the low one; a bar stands at place 0 of the section that it
 // opens. Numbers are decimal, and one that is missing is 0.
+//
+// No public function has a `requires`.
+pub mod output;
+
 ghost use mathlib.Core.Path.{_≡_};
 ghost use Prim.Native.Nat.{_≤_};
 ghost use lib.ListN.{length, take};

@@ -1,8 +1,8 @@
--- `figures::cells::read` is safe and ends: the measure is what is left of the row. A cell's number is a byte, and the list is
+-- `cells::read` is safe and ends: the measure is what is left of the row. A cell's number is a byte, and the list is
 -- longer. Assumes nothing.
 use Rattle.integers.proofs.Basics.{_-_, _≤_, arith, needs, length}
-use Rattle.figures.proofs.cells.read.Statement.{statement}
-use Rattle.figures.proofs.cells.read.Tie as tie
+use Rattle.cells.proofs.read.Statement.{statement}
+use Rattle.cells.proofs.read.Tie as tie
 
 abbrev Inv-loop : tie.InvT-loop
 Inv-loop row cells₀ at₀ size₀ negative₀ before₀ k₀ cells at size negative before k = k ≤ length row

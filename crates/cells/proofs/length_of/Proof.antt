@@ -1,11 +1,11 @@
--- `figures::cells::length_of` meets its contract. Assumes nothing.
+-- `cells::length_of` meets its contract. Assumes nothing.
 use Rattle.integers.proofs.Basics.{sym, ℕ, _≤_, arith, ℤ, length, _≡_}
 use mathlib.Core.List.{List}
 use lib.ListN.{take}
 use native.Mathlib.Nat.{le-refl}
 use lib.Seq.{length-take-le}
-use Rattle.figures.proofs.cells.length_of.Statement.{statement}
-use Rattle.figures.proofs.cells.length_of.Tie as tie
+use Rattle.cells.proofs.length_of.Statement.{statement}
+use Rattle.cells.proofs.length_of.Tie as tie
 
 counts : (n : ℕ) (xs : List ℤ) → n ≤ length xs → (n ≤ length xs) × (n ≡ length (take n xs))
 counts n xs h = (h, sym (length-take-le n xs h))

@@ -1,7 +1,7 @@
--- `figures::output::list` is safe and ends: the measure is what is left of the list. Assumes nothing.
+-- `cells::output::list` is safe and ends: the measure is what is left of the list. Assumes nothing.
 use Rattle.integers.proofs.Basics.{_-_, _≤_, arith, needs, length}
-use Rattle.figures.proofs.output.list.Statement.{statement}
-use Rattle.figures.proofs.output.list.Tie as tie
+use Rattle.cells.proofs.output.list.Statement.{statement}
+use Rattle.cells.proofs.output.list.Tie as tie
 
 abbrev Inv-loop : tie.InvT-loop
 Inv-loop xs most k₀ k = k ≤ length xs

@@ -1,10 +1,10 @@
--- `figures::cells::signed` is safe: -1 less a number below 2^63 is in range. Assumes nothing.
+-- `cells::signed` is safe: -1 less a number below 2^63 is in range. Assumes nothing.
 use Rattle.integers.proofs.Basics.{sym, subst, ℕ, _-_, _<_, arith, needs, ℤ, negsuc, _-ℤ_, w64, SFits, toZ}
 use Rattle.integers.proofs.SignedParts.{v, #, _⊖_, eq! }
 use Prim.Native.Nat.{_%_}
 use mir.Facts.{toZ-pos}
-use Rattle.figures.proofs.cells.signed.Statement.{statement}
-use Rattle.figures.proofs.cells.signed.Tie as tie
+use Rattle.cells.proofs.signed.Statement.{statement}
+use Rattle.cells.proofs.signed.Tie as tie
 
 below-zero : (k : ℕ) → k < 9223372036854775808 → SFits w64 (negsuc 0 -ℤ toZ w64 k)
 below-zero k h =
