@@ -2,7 +2,8 @@
 // has the section in its high hexadecimal digit and the place in the low one; a bar stands at place 0 of the section that it
 // opens. Numbers are decimal, and one that is missing is 0.
 //
-// No public function has a `requires`.
+// This serves the test program `figures` alone. No function has a `requires`; most promise only that they return, and what they do is
+// held to the program's file `stdout`. No promise could say what is written.
 pub mod output;
 
 ghost use mathlib.Core.Path.{_≡_};
