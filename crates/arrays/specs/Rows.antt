@@ -1,4 +1,5 @@
--- Sixteen rows of six numbers in a stored array: a row, and what a column comes to. Definitions only. Assumes nothing.
+-- Sixteen rows of six numbers in a stored array: a row, and what a column comes to (Routines 16). Definitions only.
+-- Assumes nothing.
 use mathlib.Core.Bool.{Bool, cond, _&&_}
 use mathlib.Core.List.{List}
 use Prim.Native.Nat.{ℕ}

@@ -1,4 +1,4 @@
--- Tests over the elements of a stored array. Definitions only. Assumes nothing.
+-- Tests over the elements of a stored array (Routines 16). Definitions only. Assumes nothing.
 use mathlib.Core.Bool.{Bool, _&&_, _||_}
 use mathlib.Core.List.{List}
 use Prim.Native.Nat.{ℕ, _/_, _%_}
@@ -12,7 +12,7 @@ use Rattle.integers.specs.Sums.{vector, allBelow}
 abbrev pub between : ℤ → ℤ → ℤ → Bool
 between low high x = leZ low x && leZ x high
 
--- Each element is from low to high.
+-- Each element is from low to high (Limits 3, Limits 5).
 abbrev pub allBetween : ℤ → ℤ → List ℤ → Bool
 allBetween low high xs = allBelow (length xs) (λ k. between low high (vector xs k))
 
@@ -20,6 +20,6 @@ allBetween low high xs = allBelow (length xs) (λ k. between low high (vector xs
 abbrev pub zeroUnless : ℕ → ℕ → ℕ → ℤ → Bool
 zeroUnless rows columns k x = (ltb (k / 6) rows && ltb (k % 6) columns) || eqb (natAbs x) 0
 
--- Each element outside the first `rows` rows and the first `columns` columns is zero.
+-- Each element outside the first `rows` rows and the first `columns` columns is zero (Limits 9).
 abbrev pub zeroOutside : ℕ → ℕ → List ℤ → Bool
 zeroOutside rows columns xs = allBelow (length xs) (λ k. zeroUnless rows columns k (vector xs k))

@@ -1,5 +1,5 @@
-// Code over stored whole numbers that several crates share: magnitudes, tests over every element of an array, and rows and
-// columns of rows of six.
+// Code over stored whole numbers that several crates share (Routines 16): magnitudes, tests over every element of an array, and rows
+// and columns of rows of six.
 // No public function has a `requires`.
 ghost use mathlib.Core.Path.{_≡_};
 ghost use Prim.Native.Nat.{_≤_, _<_, max};
@@ -9,7 +9,7 @@ ghost use Rattle.integers.specs.Sums.{matrix};
 ghost use Rattle.arrays.specs.Tests.{between, allBetween, zeroUnless, zeroOutside};
 ghost use Rattle.arrays.specs.Rows.{rowOf, columnSum, columnMost};
 
-// |x|, for the least i64 too.
+// Routines 16. |x|, for the least i64 too.
 pub fn magnitude(x: i64) -> u64
     ensures { λ r. ⌜ r ≡ natAbs x ⌝ }
 {
@@ -20,14 +20,14 @@ pub fn magnitude(x: i64) -> u64
     }
 }
 
-// The larger of two.
+// Routines 16. The larger of two.
 pub fn larger(a: u64, b: u64) -> u64
     ensures { λ r. ⌜ r ≡ max a b ⌝ }
 {
     if a < b { b } else { a }
 }
 
-// 1 where x isn't a multiple of `unit`, else 0. Only 0 is a multiple of 0.
+// Routines 16, for Recurrence 5 and 14. 1 where x isn't a multiple of `unit`, else 0. Only 0 is a multiple of 0.
 pub fn fraction(x: i64, unit: u32) -> u64
     ensures { λ f. ⌜ f ≡ fractionOf x unit ⌝ }
 {
@@ -53,7 +53,8 @@ fn is_between(low: i32, high: i32, x: i32) -> bool
     true
 }
 
-// Each element is from low to high. The loop has no early return, so that it compiles to vector compares.
+// Routines 16, for Limits 3 and 5. Each element is from low to high. The loop has no early return, so that it compiles to vector
+// compares.
 pub fn all_between(low: i32, high: i32, xs: &[i32]) -> bool
     ensures { λ b. ⌜ b ≡ allBetween low high (now (xs .entry)) ⌝ }
 {
@@ -83,7 +84,7 @@ fn zero_unless(rows: usize, columns: usize, k: usize, x: i32) -> bool
     true
 }
 
-// Of rows of six, each element outside the first `rows` rows and the first `columns` columns is zero.
+// Routines 16, for Limits 9. Of rows of six, each element outside the first `rows` rows and the first `columns` columns is zero.
 pub fn zero_outside(rows: usize, columns: usize, xs: &[i32]) -> bool
     ensures { λ b. ⌜ b ≡ zeroOutside rows columns (now (xs .entry)) ⌝ }
 {
@@ -97,7 +98,7 @@ pub fn zero_outside(rows: usize, columns: usize, xs: &[i32]) -> bool
     true
 }
 
-// Row number k of sixteen rows of six; zeros where there is no such row.
+// Routines 16. Row number k of sixteen rows of six; zeros where there is no such row.
 pub fn row(rows: &[i32; 96], k: usize) -> [i32; 6]
     ensures { λ r. ⌜ r ≡ rowOf (now (rows .entry)) k ⌝ }
 {
@@ -121,7 +122,8 @@ fn size(rows: &[i32; 96], k: usize, i: usize) -> u64
     magnitude(rows[6 * k + i] as i64)
 }
 
-// The sum of |element i| over the first `count` of sixteen rows of six; 0 where there are not so many rows, or no such element.
+// Routines 16, for Sets 15. The sum of |element i| over the first `count` of sixteen rows of six; 0 where there are not so many
+// rows, or no such element.
 pub fn column_sum(rows: &[i32; 96], count: usize, i: usize) -> u64
     ensures { λ s. ⌜ s ≡ columnSum (now (rows .entry)) count i ⌝ }
 {
@@ -140,7 +142,8 @@ pub fn column_sum(rows: &[i32; 96], count: usize, i: usize) -> u64
     sum
 }
 
-// The largest |element i| over the first `count` of sixteen rows of six; 0 where there are not so many rows, or no such element.
+// Routines 16, for Sets 14. The largest |element i| over the first `count` of sixteen rows of six; 0 where there are not so many
+// rows, or no such element.
 pub fn column_most(rows: &[i32; 96], count: usize, i: usize) -> u64
     ensures { λ s. ⌜ s ≡ columnMost (now (rows .entry)) count i ⌝ }
 {

@@ -1,8 +1,8 @@
-// The program `envelope`, document 01: reads a model on standard input and writes its listing, or its refusal, on standard output.
+// The program `envelope` (Listing 1): takes a model on standard input and writes its listing, or its refusal, on standard output.
 //
-// At most 2,048 bytes are read: no longer file is accepted, and a longer one gets the reply that its first 2,048 bytes get. A read
-// that fails counts as the end of the file. The whole text goes out in one write, or in as few as the system allows; where standard
-// output takes nothing more, the program says so on standard error and stops.
+// At most 2,048 bytes are read (Reading 4): no longer file is accepted, and a longer one has the reply to those bytes. A read
+// that fails counts as the end of the file (Listing 9). The whole text goes out in one write, or in as few as the system allows; where
+// standard output takes nothing more, the program says so on standard error and stops.
 use libc::STDIN_FILENO;
 use libc::STDOUT_FILENO;
 use listing::ROOM;

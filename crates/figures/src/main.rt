@@ -1,6 +1,6 @@
-// Runs the figures of document 01 that are tested by running, and those that its list lacks, and writes what comes out.
+// Runs the cases of Figures 1 to 12, and some that the specification doesn't list, and writes what comes out.
 // Each row of the file `args` is an argument: a case, a heading or a comment, with a note on how they are written. The file
-// `stdout` has what should come out, worked out by hand: the documents name some of the figures, and the others follow from the
+// `stdout` has what should come out, worked out by hand: the specification tells some of it, and the rest follows from its
 // recurrence.
 mod sets;
 mod sweeps;

@@ -27,18 +27,18 @@ unfoldable pub allBelow : ℕ → (ℕ → Bool) → Bool
 allBelow zero f = true
 allBelow (suc n) f = allBelow n f && f n
 
--- a · b.
+-- a · b, as the specification writes it.
 abbrev pub dot : ℕ → (ℕ → ℤ) → (ℕ → ℤ) → ℤ
 dot n a b = sum n (λ i. a i *ℤ b i)
 
 abbrev pub dotℕ : ℕ → (ℕ → ℕ) → (ℕ → ℕ) → ℕ
 dotℕ n a b = sumℕ n (λ i. a i * b i)
 
--- The matrix m times x.
+-- The matrix m times x (Runs 4).
 abbrev pub times : ℕ → (ℕ → ℕ → ℤ) → (ℕ → ℤ) → ℕ → ℤ
 times n m x p = sum n (λ i. m p i *ℤ x i)
 
--- The transpose of m times r: the sum over p of m[row p, column i] × r[p].
+-- The transpose of m times r (Recurrence 3).
 abbrev pub transposed : ℕ → (ℕ → ℕ → ℤ) → (ℕ → ℤ) → ℕ → ℤ
 transposed n m r i = sum n (λ p. m p i *ℤ r p)
 

@@ -1,4 +1,5 @@
--- Whole numbers as document 01 uses them: an order, the two roundings of a quotient, and distance. Definitions only.
+-- Whole numbers: an order, the two roundings of a quotient, divisibility, and distance. They serve "Recurrence" and "Accuracy" of
+-- docs/SPECIFICATION.md. Definitions only.
 -- The numbers are the library's ℤ (`lib.IntN`); sums, products and `natAbs`, the magnitude, are the library's too.
 -- Assumes nothing.
 use Prim.Native.Nat.{ℕ, _+_, _-_, _/_, _%_, _≤_}
@@ -12,15 +13,15 @@ infix 4 _⩽_
 abbrev pub _⩽_ : ℤ → ℤ → Type 0
 a ⩽ b = a ≤ℤ b
 
--- a / m rounded toward minus infinity, for negative a too.
+-- a / m rounded down, whatever the sign of a (Recurrence 4).
 abbrev pub floorDiv : ℤ → ℕ → ℤ
 floorDiv a m = shrZ a m
 
--- a / m rounded up.
+-- a / m rounded up (Recurrence 13).
 abbrev pub ceilDiv : ℤ → ℕ → ℤ
 ceilDiv a m = negℤ (floorDiv (negℤ a) m)
 
--- The same of a natural number.
+-- The same of a natural number (Recurrence 5, Recurrence 14).
 abbrev pub ceilDivℕ : ℕ → ℕ → ℕ
 ceilDivℕ a m = (a + (m - 1)) / m
 
@@ -28,10 +29,10 @@ ceilDivℕ a m = (a + (m - 1)) / m
 abbrev pub isMultiple : ℤ → ℕ → Bool
 isMultiple a m = eqb (natAbs a % m) 0
 
--- "plus 1 if .. isn't a multiple": 0 where a is a multiple of m, else 1.
+-- 0 where m divides a, else 1: what Recurrence 5 and Recurrence 14 add.
 abbrev pub fraction : ℤ → ℕ → ℕ
 fraction a m = cond (isMultiple a m) 0 1
 
--- a and b are at most e apart.
+-- a and b are at most e apart (Accuracy 6).
 pub record Near (a b : ℤ) (e : ℕ) : Type 0 where
   pub within : natAbs (a -ℤ b) ≤ e

@@ -17,7 +17,7 @@ use Rattle.limits.specs.Limits.{stepsOk}
 use Rattle.reachability.specs.Limits.{accepted}
 use Rattle.reachability.specs.Recurrence.{firstPlace, growthStep, spareFigure, bound, slack}
 use Rattle.reachability.specs.Verdicts.{hitAt, unknownAt, verdictBelow, verdict}
-use Rattle.reachability.specs.Rule.{VerdictHolds}
+use Rattle.reachability.specs.Accuracy.{VerdictHolds}
 use Rattle.reachability.specs.Answers.{sweepAnswer, lengthsOk, boundsOf, slacksOf, sweptNumber, SweepLeaves}
 use Rattle.reachability.specs.declared.model.Model.{Model}
 use Rattle.reachability.specs.declared.sweep.Swept.{Swept}

@@ -1,4 +1,4 @@
--- The twelve marked cases of document 01 (`specs.Cases`) hold, each by computation. Assumes nothing.
+-- Figures 1 to 12, the marked cases (`specs.Cases`), hold, each by computation. Assumes nothing.
 use mathlib.Core.Path.{refl}
 use mathlib.Core.List.{[], _∷_}
 use lib.IntN.{pos}
@@ -8,7 +8,7 @@ use Rattle.reachability.specs.Sets.{largest}
 use Rattle.reachability.specs.Recurrence.{walk, firstPlace}
 use Rattle.judge.specs.Cases.{reaches, Holds, none, _and_, AllHold, zonotope, cases}
 
--- The reach in case 9.
+-- The reach in Figures 9.
 zonotope-reaches : Holds (reaches 2 zonotope (pos 5 ∷ pos 5 ∷ []))
 unfolding sum sumℕ maxℕ allBelow
 zonotope-reaches = record { number-is = refl; reaches-are = refl }

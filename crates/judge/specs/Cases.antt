@@ -1,9 +1,8 @@
--- Document 01, "Figures to test against": the twelve marked cases as one list, and what it means that they hold. Definitions
--- only. A case is the list of what the document says in it; a saying sets the document's figure beside what the contracts of
--- `support`, `reach`, `sweep` and `judge` say is answered or left. Sweeps are of direction 0 and judges of guard 0, with both
--- lent lists K + 1 long. Where the document names no K, it is the last step that has a figure.
--- In order: stored values; sayings; the sets and models; the cases. Not here: the theorem (`proofs.MarkedCases`).
--- Assumes nothing.
+-- Figures 1 to 12, the marked cases, as one list, and what it means that they hold. Definitions only. A case is the list of what
+-- the specification says in it; a saying sets a figure beside what the contracts of `support`, `reach`, `sweep` and `judge` say is
+-- answered or left. Sweeps are of direction 0 and judges of guard 0, with K + 1 elements in both lists. Where the specification
+-- names no K, it is the last step that has a figure.
+-- In order: stored values; sayings; the sets and models; the cases. Not here: the theorem (`proofs.MarkedCases`). Assumes nothing.
 use mathlib.Core.Path.{_≡_}
 use mathlib.Core.List.{List, [], _∷_, _++_}
 use Prim.Native.Nat.{ℕ, zero, suc}
@@ -61,7 +60,7 @@ modelOf n steps matrix initial input direction levels =
       levels = padded 16 levels;
     }
 
--- "One coordinate unless said".
+-- Of one coordinate.
 abbrev pub single : ℕ → ℤ → Set → Set → ℤ → List ℤ → Model
 single steps entry initial input direction levels = modelOf 1 steps ((entry ∷ []) ∷ []) initial input (direction ∷ []) levels
 
@@ -118,39 +117,39 @@ AllHold = All (All Holds)
 
 -- ---- the sets and models
 
--- "[0,0]", and of more coordinates "zero".
+-- The box of zeros, of one coordinate or more.
 abbrev pub zeroBox : Set
 zeroBox = setOf Box ([] ∷ [] ∷ [])
 
--- "M 65,536, initial [2,5], input [-1,1], direction 3", K = 2, with guards at these levels.
+-- Figures 1, 2 and 3: entry 65,536, with guards at these levels.
 abbrev pub kept : List ℤ → Model
 kept = single 2 (pos 65536) (interval (pos 2) (pos 5)) (interval (negℤ (pos 1)) (pos 1)) (pos 3)
 
--- "M 32,768, initial [0,100], input [0,0], direction 1", K = 3.
+-- Figures 4: entry 32,768.
 abbrev pub halved : Model
 halved = single 3 (pos 32768) (interval (pos 0) (pos 100)) zeroBox (pos 1) []
 
--- "M 1, initial [0,100], input [0,0]" and the direction, K = 2.
+-- Figures 5 and 6: entry 1, and the direction.
 abbrev pub faded : ℤ → Model
 faded direction = single 2 (pos 1) (interval (pos 0) (pos 100)) zeroBox direction []
 
--- "M 131,072, both sets [0,0], direction 1" and K.
+-- Figures 7 and 8: entry 131,072, and K.
 abbrev pub doubled : ℕ → Model
 doubled steps = single steps (pos 131072) zeroBox zeroBox (pos 1) []
 
--- "Zonotope, centre (1,-2), generators (3,1), (-1,2)".
+-- The set of Figures 9: centre, two generators.
 abbrev pub zonotope : Set
 zonotope = setOf Zonotope ((pos 1 ∷ negℤ (pos 2) ∷ []) ∷ (pos 3 ∷ pos 1 ∷ []) ∷ (negℤ (pos 1) ∷ pos 2 ∷ []) ∷ [])
 
--- "Vertices (0,0), (4,0), (0,3)".
+-- The set of Figures 10.
 abbrev pub vertices : Set
 vertices = setOf Vertices ((pos 0 ∷ pos 0 ∷ []) ∷ (pos 4 ∷ pos 0 ∷ []) ∷ (pos 0 ∷ pos 3 ∷ []) ∷ [])
 
--- "Box [-2,1], [3,4]": its lower and its upper corner.
+-- The set of Figures 11: its lower and its upper corner.
 abbrev pub box : Set
 box = setOf Box ((negℤ (pos 2) ∷ pos 3 ∷ []) ∷ (pos 1 ∷ pos 4 ∷ []) ∷ [])
 
--- "Rows (0, 65,536) and (0, 0), initial [0,1], [7,9], input zero, direction (1,0)", K = 1.
+-- Figures 12, with K 1.
 abbrev pub moved : Model
 moved =
     modelOf
@@ -164,7 +163,7 @@ moved =
 
 -- ---- the cases
 
--- 1: "bounds 15, 18, 21 at steps 0 to 2, slack 0."
+-- Figures 1.
 abbrev pub case1 : Case
 case1 =
     numbered (kept []) 0
@@ -172,15 +171,15 @@ case1 =
     ∷ slacks (kept []) (pos 0 ∷ pos 0 ∷ pos 0 ∷ [])
     ∷ []
 
--- 2: "The same with K = 2: level 21 HIT at 2."
+-- Figures 2.
 abbrev pub case2 : Case
 case2 = judges (kept (pos 21 ∷ [])) (Hit 2) ∷ []
 
--- 3: "The same: level 22 CLEAR."
+-- Figures 3.
 abbrev pub case3 : Case
 case3 = judges (kept (pos 22 ∷ [])) Clear ∷ []
 
--- 4: "bounds 100, 50, 25, 13; slacks 0, 0, 0, 1."
+-- Figures 4.
 abbrev pub case4 : Case
 case4 =
     numbered halved 0
@@ -188,7 +187,7 @@ case4 =
     ∷ slacks halved (pos 0 ∷ pos 0 ∷ pos 0 ∷ pos 1 ∷ [])
     ∷ []
 
--- 5: direction 1: "r is 1,048,576, 16, 0; e(2) = 1; bounds 100, 1, 1; slacks 0, 1, 2."
+-- Figures 5.
 abbrev pub case5 : Case
 case5 =
     numbered (faded (pos 1)) 0
@@ -200,7 +199,7 @@ case5 =
     ∷ slacks (faded (pos 1)) (pos 0 ∷ pos 1 ∷ pos 2 ∷ [])
     ∷ []
 
--- 6: "The same, direction -1: r(2) = -1, e(2) = 1; bounds 0, 0, 1."
+-- Figures 6.
 abbrev pub case6 : Case
 case6 =
     numbered (faded (negℤ (pos 1))) 0
@@ -209,30 +208,30 @@ case6 =
     ∷ bounds (faded (negℤ (pos 1))) (pos 0 ∷ pos 0 ∷ pos 1 ∷ [])
     ∷ []
 
--- 7: "K = 10: accepted, spare 0."
+-- Figures 7.
 abbrev pub case7 : Case
 case7 = numbered (doubled 10) 0 ∷ sweeps (doubled 10) (Spare 0) ∷ []
 
--- 8: "The same, K = 11: number 14 at step 11."
+-- Figures 8.
 abbrev pub case8 : Case
 case8 = numbered (doubled 11) 14 ∷ sweeps (doubled 11) (Growth 11) ∷ []
 
--- 9: "r (1,1): support 4; reach (5,5)."
+-- Figures 9.
 abbrev pub case9 : Case
 case9 = supports 2 zonotope (pos 1 ∷ pos 1 ∷ []) (pos 4) ∷ reaches 2 zonotope (pos 5 ∷ pos 5 ∷ []) ∷ []
 
--- 10: "r (1,2): support 6."
+-- Figures 10.
 abbrev pub case10 : Case
 case10 = supports 2 vertices (pos 1 ∷ pos 2 ∷ []) (pos 6) ∷ []
 
--- 11: "r (-1,1): support 6."
+-- Figures 11.
 abbrev pub case11 : Case
 case11 = supports 2 box (negℤ (pos 1) ∷ pos 1 ∷ []) (pos 6) ∷ []
 
--- 12: "bound 9 at step 1."
+-- Figures 12.
 abbrev pub case12 : Case
 case12 = numbered moved 0 ∷ boundAt moved 1 (pos 9) ∷ []
 
--- "Marked (*) cases, twelve in all, are proved together as entries of a single statement that runs over them".
+-- Figures 1 to 12, in one list.
 abbrev pub cases : List Case
 cases = case1 ∷ case2 ∷ case3 ∷ case4 ∷ case5 ∷ case6 ∷ case7 ∷ case8 ∷ case9 ∷ case10 ∷ case11 ∷ case12 ∷ []

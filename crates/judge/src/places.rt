@@ -1,4 +1,4 @@
-// The first-step rules over a sweep's lists.
+// Verdicts 2, 3 and 4 over a sweep's lists.
 use reachability::verdicts::Judged;
 ghost use mathlib.Core.Path.{_≡_};
 ghost use lib.IntN.{_-ℤ_};
@@ -8,7 +8,7 @@ ghost use Rattle.reachability.specs.Recurrence.{firstPlace};
 ghost use Rattle.reachability.specs.Verdicts.{reaches, hitAt, unknownAt};
 ghost use Rattle.judge.specs.Answers.{listAnswer};
 
-// A value reaches the level. No other function compares with a level.
+// Verdicts 1. A value reaches the level. No other function compares with a level.
 fn at_level(level: i64, value: i64) -> bool
     ensures { λ b. ⌜ b ≡ reaches level value ⌝ }
 {

@@ -1,12 +1,12 @@
-// What number 11 tests apart from sets, document 01, "Limits": n, steps and matrix; directions; guards; a direction for a set;
-// the corners of a box.
+// What number 11 tests apart from sets (Routines 6): n, steps and matrix; directions; guards; a direction for a set; the corners of
+// a box.
 //
 // No public function has a `requires`.
 ghost use mathlib.Core.Path.{_≡_};
 ghost use Prim.Native.Nat.{_<_};
 ghost use Rattle.limits.specs.Limits.{frameOk, allZero, directionsOk, guardOk, guardsOk, valueOk, directionOk, cornersOrdered};
 
-// n is 1 to 6, the steps are 1 to 256, and the matrix is one of n by n.
+// Limits 1, 2, 3 and 9. n is 1 to 6, the steps are 1 to 256, and the matrix is one of n by n.
 pub fn frame_ok(n: usize, steps: usize, matrix: &[i32; 36]) -> bool
     ensures { λ b. ⌜ b ≡ frameOk n steps (now (matrix .entry)) ⌝ }
 {
@@ -40,7 +40,7 @@ fn all_zero(entries: &[i32; 96], k: usize) -> bool
     true
 }
 
-// 1 to 16 directions, each entry from -1,000 to 1,000, none of them zero, zero beyond n and beyond the count.
+// Limits 5, 6 and 9. 1 to 16 directions, each entry from -1,000 to 1,000, none of them zero, zero beyond n and beyond the count.
 pub fn directions_ok(n: usize, count: usize, entries: &[i32; 96]) -> bool
     ensures { λ b. ⌜ b ≡ directionsOk n count (now (entries .entry)) ⌝ }
 {
@@ -79,7 +79,7 @@ fn guard_ok(directions: usize, guards: usize, g: usize, watched: usize, level: i
     level == 0
 }
 
-// 0 to 16 guards, each on a direction, zero beyond the count.
+// Limits 7 and 9. 0 to 16 guards, each on a direction, zero beyond the count.
 pub fn guards_ok(
     directions: usize,
     guards: usize,
@@ -101,7 +101,7 @@ pub fn guards_ok(
     true
 }
 
-// A direction r for a set: no value beyond n, and no magnitude above 1,073,741,824.
+// Refusals 11. A direction r for a set: no value beyond n, and no magnitude above 1,073,741,824.
 pub fn direction_ok(n: usize, r: &[i64; 6]) -> bool
     ensures { λ b. ⌜ b ≡ directionOk n (now (r .entry)) ⌝ }
 {
@@ -129,7 +129,7 @@ fn value_ok(n: usize, i: usize, x: i64) -> bool
     true
 }
 
-// The corners of a box: n is at most 6, and in each of the n coordinates the first point is not above the second.
+// Limits 8. The corners of a box: n is at most 6, and in each of the n coordinates the first point is not above the second.
 pub fn corners_ordered(n: usize, points: &[i32; 96]) -> bool
     ensures { λ b. ⌜ b ≡ cornersOrdered n (now (points .entry)) ⌝ }
 {

@@ -1,5 +1,4 @@
--- Document 01, "Figures to test against": for the sample of 186 bytes the program "writes the whole of this". By computation.
--- Assumes nothing.
+-- Listing 8: the reply to the sample of 186 bytes, whole. By computation. Assumes nothing.
 use mathlib.Core.Path.{_≡_, refl, ap, _∙_}
 use Rattle.integers.specs.Sums.{sum, sumℕ, maxℕ, allBelow}
 use Rattle.stepping.specs.Recurrence.{greatest}

@@ -1,5 +1,4 @@
-// The text that the program `envelope` writes for a file, document 01, "Figures to test against": the listing of its model, or its
-// refusal.
+// The text that the program `envelope` writes for a file, "Listing" of the specification: the listing of its model, or its refusal.
 //
 // No public function has a `requires`.
 mod directions;
@@ -52,8 +51,8 @@ fn put_listing(model: Model, out: &mut [u8]) -> usize
     put_guards(model, &cases, &steps, out, end)
 }
 
-// The text for a file at the start of `out`, and how many bytes it has. Where `out` has fewer than 270,000 bytes the answer is 0,
-// and nothing is written.
+// Routines 15. The text for a file at the start of `out`, and how many bytes it has. Where `out` has fewer than 270,000 bytes the
+// answer is 0, and nothing is written.
 pub fn reply(file: &[u8], out: &mut [u8]) -> usize
     ensures { λ r. ⌜ ReplyLeaves (now (file .entry)) (now (out .entry)) (now (out .exit)) r ⌝ }
 {

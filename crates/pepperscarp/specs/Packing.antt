@@ -1,5 +1,5 @@
--- An answer in one number: document 01's number in bits 0 to 7, a verdict in bits 8 to 15, a figure from bit 16 on. Definitions
--- only. Assumes nothing.
+-- C interface 1 to 4: an answer in one number, the refusal's in bits 0 to 7, a verdict in bits 8 to 15, a figure from bit 16 on.
+-- Definitions only. Assumes nothing.
 use Prim.Native.Nat.{ℕ, _+_, _*_}
 use Rattle.stepping.specs.Refusals.{steppedNumber}
 use Rattle.stepping.specs.declared.Stepped.{Stepped}
@@ -11,7 +11,7 @@ use Rattle.reachability.specs.declared.verdicts.Judged.{Judged}
 use Rattle.reachability.specs.declared.verdicts.Judged.the-variants as J
 use Rattle.judge.specs.Answers.{judgedNumber}
 
--- Number, verdict and figure side by side.
+-- C interface 1: number, verdict and figure side by side.
 abbrev pub packed : ℕ → ℕ → ℕ → ℕ
 packed number verdict figure = number + 256 * verdict + 65536 * figure
 
@@ -19,12 +19,12 @@ packed number verdict figure = number + 256 * verdict + 65536 * figure
 abbrev pub figureLimit : ℕ
 figureLimit = 281474976710656
 
--- The figure of a step: the growth sum of what it left.
+-- C interface 2: the figure of a step, the growth sum of what it left.
 abbrev pub steppedFigure : Stepped → ℕ
 steppedFigure (Sum s) = s
 steppedFigure Refused = 0
 
--- The figure of a sweep: the spare figure, or the first step with growth.
+-- C interface 3: the figure of a sweep, the spare figure or the first step with growth.
 abbrev pub sweptFigure : Swept → ℕ
 sweptFigure (S.Spare h) = h
 sweptFigure S.Invalid = 0
@@ -32,7 +32,7 @@ sweptFigure S.NoDirection = 0
 sweptFigure S.WrongLength = 0
 sweptFigure (S.Growth k) = k
 
--- The verdict of a judge: 1 HIT, 2 UNKNOWN, 3 CLEAR, 0 where the judge refuses.
+-- C interface 1: the verdict of a judge, 1 HIT, 2 UNKNOWN, 3 CLEAR, 0 where the judge refuses.
 abbrev pub judgedVerdict : Judged → ℕ
 judgedVerdict (J.Hit k) = 1
 judgedVerdict (J.Unknown k) = 2
@@ -42,7 +42,7 @@ judgedVerdict J.NoGuard = 0
 judgedVerdict J.WrongLength = 0
 judgedVerdict (J.Growth k) = 0
 
--- The figure of a judge: the step that the verdict names, or the first step with growth.
+-- C interface 4: the figure of a judge, the step that the verdict names or the first step with growth.
 abbrev pub judgedFigure : Judged → ℕ
 judgedFigure (J.Hit k) = k
 judgedFigure (J.Unknown k) = k

@@ -1,4 +1,4 @@
--- What each function of the C interface answers and leaves, for every input. Definitions only. A file is the list of its bytes;
+-- C interface 2 to 7: what each function answers and leaves, for every input. Definitions only. A file is the list of its bytes;
 -- b₀ and s₀ are the lists as lent, b and s as left. Assumes nothing.
 use mathlib.Core.Path.{_≡_}
 use mathlib.Core.Bool.{cond}
@@ -23,18 +23,18 @@ use Rattle.pepperscarp.specs.Packing.{packed, steppedPacked, sweptPacked
 abbrev pub stepAnswer : ℕ → List ℤ → List ℤ → List ℤ → Stepped
 stepAnswer n m r e = cond (stepOk n m r e) (Sum (growthSum n (vector (steppedR n m r)) (magnitudes (steppedE n m r e)))) Unstepped
 
--- What a step answers and leaves: x is the answer, r and e are as lent, r′ and e′ as left.
+-- C interface 2: what a step answers and leaves; x is the answer, r and e are as lent, r′ and e′ as left.
 pub record StepReply (n : ℕ) (m r e : List ℤ) (x : ℕ) (r′ e′ : List ℤ) : Type 0 where
   pub answer : x ≡ steppedPacked (stepAnswer n m r e)
   pub direction : r′ ≡ cond (stepOk n m r e) (steppedR n m r) r
   pub errors : e′ ≡ cond (stepOk n m r e) (steppedE n m r e) e
 
--- The answer to a file: its number and offset where it is refused, else `x`.
+-- C interface 5: the answer to a file, its number and offset where it is refused, else `x`.
 abbrev pub fileAnswer : Status → ℕ → ℕ
 fileAnswer Read x = x
 fileAnswer (Refused number offset) x = packed number 0 offset
 
--- A refused file leaves both lists as they were.
+-- C interface 5: a refused file leaves both lists as they were.
 abbrev pub Kept : Status → List ℤ → List ℤ → List ℤ → List ℤ → Type 0
 Kept status b₀ s₀ b s = (number offset : ℕ) → status ≡ Refused number offset → (b ≡ b₀) × (s ≡ s₀)
 
@@ -50,11 +50,12 @@ pub record FileReply {A : Type 0} (pack : A → ℕ) (answerOf : Model → ℕ �
   pub kept : Kept (readModel file .status) b₀ s₀ b s
   pub left : readModel file .status ≡ Read → Leaves (readModel file .model) i b₀ s₀ (answerOf (readModel file .model) i (length b₀) (length s₀)) b s
 
--- What a sweep of a file answers and leaves. `left` is the promise of the sweep of the file's model, its accuracy included.
+-- C interface 3 and 7: what a sweep of a file answers and leaves. `left` is the promise of the sweep of the file's model, its
+-- accuracy included.
 abbrev pub SweepReply : Promise (List ℕ) ℕ
 SweepReply = FileReply sweptPacked sweepAnswer SweepLeaves
 
--- What a judge of a file answers and leaves. `left` is the promise of the judge of the file's model, its accuracy and its
--- verdict's meaning included.
+-- C interface 4 and 7: what a judge of a file answers and leaves. `left` is the promise of the judge of the file's model, its
+-- accuracy and its verdict's meaning included.
 abbrev pub JudgeReply : Promise (List ℕ) ℕ
 JudgeReply = FileReply judgedPacked judgeAnswer JudgeLeaves

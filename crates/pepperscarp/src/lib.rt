@@ -1,7 +1,7 @@
 // The C interface: one step, and the sweep, the judge and the listing of a model file. Each function is exported under its own
 // name, keeps nothing, and has no `requires`: any values get their reply.
 //
-// An answer of step, sweep and judge is one number: number + 256 × verdict + 65,536 × figure. The number is document 01's, 0 where
+// An answer of step, sweep and judge is one number: number + 256 × verdict + 65,536 × figure. The number is the refusal's, 0 where
 // nothing is refused. On a refusal the lent memory is as it was.
 mod packing;
 
@@ -14,7 +14,8 @@ use stepping::step;
 ghost use Rattle.listing.specs.Listing.{ReplyLeaves};
 ghost use Rattle.pepperscarp.specs.Replies.{StepReply, SweepReply, JudgeReply};
 
-// One step of r and e. The figure is the growth sum of what it left. The only refusal is 11, as `stepping::step` has it.
+// C interface 2. One step of r and e. The figure is the growth sum of what it left. The only refusal is 11, as `stepping::step` has
+// it.
 #[no_mangle]
 pub extern "C" fn pepperscarp_step(
     n: usize,
@@ -28,8 +29,8 @@ pub extern "C" fn pepperscarp_step(
     packing::stepped(answer)
 }
 
-// The sweep of direction number `direction` of the file's model. The figure is the spare figure. Refusals: 1 to 10 with the
-// offset as the figure, where the file is refused; 12 and 13; 14 with the first step with growth as the figure.
+// C interface 3, 5 and 7. The sweep of direction number `direction` of the file's model. The figure is the spare figure. Refusals:
+// 1 to 10 with the offset as the figure, where the file is refused; 12 and 13; 14 with the first step with growth as the figure.
 #[no_mangle]
 pub extern "C" fn pepperscarp_sweep(
     file: &[u8],
@@ -51,8 +52,8 @@ pub extern "C" fn pepperscarp_sweep(
     }
 }
 
-// The judge of guard number `guard` of the file's model: verdict 1 HIT or 2 UNKNOWN with its step as the figure, or 3 CLEAR; the
-// sweep of the guard's direction is left in the lists. Refusals as for the sweep.
+// C interface 4, 5 and 7. The judge of guard number `guard` of the file's model: verdict 1 HIT or 2 UNKNOWN with its step as the
+// figure, or 3 CLEAR; the sweep of the guard's direction is left in the lists. Refusals as for the sweep.
 #[no_mangle]
 pub extern "C" fn pepperscarp_judge(
     file: &[u8],
@@ -74,8 +75,8 @@ pub extern "C" fn pepperscarp_judge(
     }
 }
 
-// The text that the program `envelope` writes for the file, at the start of `out`, and how many bytes it has. The answer is 0, and
-// nothing is written, where `out` has fewer than 270,000 bytes; every text fits in so many.
+// C interface 6. The text that the program `envelope` writes for the file, at the start of `out`, and how many bytes it has. The
+// answer is 0, and nothing is written, where `out` has fewer than 270,000 bytes; every text fits in so many.
 #[no_mangle]
 pub extern "C" fn pepperscarp_listing(file: &[u8], out: &mut [u8]) -> usize
     ensures { λ r. ⌜ ReplyLeaves (now (file .entry)) (now (out .entry)) (now (out .exit)) r ⌝ }

@@ -1,6 +1,7 @@
--- Demand 3: the accuracy rule of an accepted model, for every direction number, level, step 0 to K and run of any denominator. The
--- exact largest value lies between bound - slack and bound; no run passes it, and a run attains it. In order: facts of numbers; the
--- exact largest value; bounds and slacks; verdicts; the rule; the rule of the lists that a sweep leaves. Assumes nothing.
+-- Accuracy 1 to 7: the accuracy rule of an accepted model, for every direction number, level, step 0 to K and run of any
+-- denominator. The exact largest value lies between bound - slack and bound; no run passes it, and a run attains it. In order:
+-- facts of numbers; the exact largest value; bounds and slacks; verdicts; the rule; the rule of the lists that a sweep leaves.
+-- Assumes nothing.
 use mathlib.Core.Path.{_≡_, refl, sym, ap, subst, _∙_}
 use mathlib.Core.Bool.{Bool, true, false, cond}
 use Prim.Native.Nat.{ℕ, suc, _+_, _*_, _^_, _≤_, _<_, suc-le-suc}
@@ -24,7 +25,7 @@ use Rattle.reachability.specs.Limits.{accepted}
 use Rattle.reachability.specs.Runs.{moves, direction, Run, state, denominator, Largest}
 use Rattle.reachability.specs.Recurrence.{first, working, supportAt, errorAt, rawBound, bound, slack, firstPlace}
 use Rattle.reachability.specs.Verdicts.{hitAt, unknownAt, verdict}
-use Rattle.reachability.specs.Rule.{NoRunPasses, SomeRunWithin, ReachedBy, WithinSlackOf, VerdictHolds, Accurate, AccuracyRule}
+use Rattle.reachability.specs.Accuracy.{NoRunPasses, SomeRunWithin, ReachedBy, WithinSlackOf, VerdictHolds, Accurate, AccuracyRule}
 use Rattle.reachability.specs.Answers.{boundsOf, slacksOf}
 use Rattle.reachability.specs.declared.model.Model.{Model}
 use Rattle.reachability.specs.declared.verdicts.Judged.{Judged}
@@ -225,7 +226,7 @@ module _ (m : Model) (facts : ModelFacts m) where
   pub rule-of-facts : AccuracyRule m
   rule-of-facts = record { accurate = λ d. record { bounds = no-run-passes d; slacks = some-run-within d; exact = λ k h. (exactAt (direction m d) k, largest-is (direction m d) k h) }; verdicts = verdict-holds }
 
--- Demand 3, whole.
+-- Accuracy 1: the rule, whole.
 pub accuracy-rule : (m : Model) → accepted m ≡ true → AccuracyRule m
 accuracy-rule m ok = rule-of-facts m (model-facts m ok)
 

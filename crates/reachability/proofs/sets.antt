@@ -1,5 +1,6 @@
 -- Laws of the three sets.
 pub mod Laws
+pub mod ReachAttained
 pub mod Bounds
 pub mod SupportSoFar
 pub mod Facts

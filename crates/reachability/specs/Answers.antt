@@ -1,4 +1,4 @@
--- Document 01, "Refusals by place", the rows "sweep, judge": what a sweep answers and leaves, for every input. Definitions only.
+-- Refusals 11 to 14 and Routines 1, 2 and 4: what a sweep answers and leaves, for every input. Definitions only.
 -- b₀ and s₀ are the lists as lent, b and s as left. Assumes nothing.
 use mathlib.Core.Path.{_≡_}
 use mathlib.Core.Bool.{Bool, cond, _&&_}
@@ -10,12 +10,12 @@ use lib.IntN.{ℤ, pos}
 use Rattle.integers.specs.Sums.{vector, tabulate}
 use Rattle.reachability.specs.Limits.{accepted}
 use Rattle.reachability.specs.Recurrence.{growthStep, spareFigure, bound, slack}
-use Rattle.reachability.specs.Rule.{Accurate}
+use Rattle.reachability.specs.Accuracy.{Accurate}
 use Rattle.reachability.specs.declared.model.Model.{Model}
 use Rattle.reachability.specs.declared.sweep.Swept.{Swept}
 use Rattle.reachability.specs.declared.sweep.Swept.the-variants as S
 
--- The document's number of an answer: 0 where nothing is refused.
+-- Forms 7: the number of an answer, 0 where nothing is refused.
 abbrev pub sweptNumber : Swept → ℕ
 sweptNumber (S.Spare h) = 0
 sweptNumber S.Invalid = 11
@@ -23,11 +23,11 @@ sweptNumber S.NoDirection = 12
 sweptNumber S.WrongLength = 13
 sweptNumber (S.Growth k) = 14
 
--- "a lent list isn't K + 1 long": both are.
+-- Refusals 13: both lists have K + 1 elements.
 abbrev pub lengthsOk : Model → ℕ → ℕ → Bool
 lengthsOk m lb ls = eqb lb (suc (m .steps)) && eqb ls (suc (m .steps))
 
--- "The first number that applies, from the top, is returned": 11, 12, 13, 14 with the first such step, else the spare figure.
+-- Routines 1: of 11, 12, 13 and 14 the first from the top, 14 with the first step of growth; else the spare figure.
 abbrev pub sweepAnswer : Model → ℕ → ℕ → ℕ → Swept
 sweepAnswer m d lb ls =
     cond (accepted m)
@@ -38,15 +38,15 @@ sweepAnswer m d lb ls =
     S.NoDirection)
     S.Invalid
 
--- Bounds and slacks for steps 0 to K.
+-- The bounds and the slacks of the steps 0 to K.
 abbrev pub boundsOf : Model → ℕ → List ℤ
 boundsOf m d = tabulate (suc (m .steps)) (bound m d)
 
 abbrev pub slacksOf : Model → ℕ → List ℤ
 slacksOf m d = tabulate (suc (m .steps)) (λ k. pos (slack m d k))
 
--- What a sweep leaves and answers: "fills bounds and slacks for steps 0 to K; it answers the spare figure. .. On 11 to 14 both
--- lists keep every element." What it leaves where it refuses nothing is accurate.
+-- Routines 2 and 4: what a sweep leaves and answers, with the lists as they were where it refuses. Promises 4: what it leaves where
+-- it refuses nothing is accurate.
 pub record SweepLeaves (m : Model) (d : ℕ) (b₀ s₀ : List ℤ) (a : Swept) (b s : List ℤ) : Type 0 where
   pub answer : a ≡ sweepAnswer m d (length b₀) (length s₀)
   pub bounds : b ≡ cond (eqb (sweptNumber a) 0) (boundsOf m d) b₀

@@ -3,7 +3,7 @@ pub mod Limits
 pub mod Runs
 pub mod Recurrence
 pub mod Verdicts
-pub mod Rule
+pub mod Accuracy
 pub mod Answers
 pub mod SetsInner
 pub mod SweepInner

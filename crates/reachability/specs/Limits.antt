@@ -1,4 +1,4 @@
--- Document 01, "Limits": which models are accepted. Definitions only. The limits of the stepping arithmetic are in its own crate,
+-- Limits 10: which models are accepted. Definitions only. The limits of the stepping arithmetic are in its own crate,
 -- those of n, steps, matrix, directions and guards in `limits`, those of a set's points in `Sets`.
 -- Assumes nothing.
 use mathlib.Core.Bool.{Bool, _&&_}
@@ -8,11 +8,11 @@ use Rattle.reachability.specs.Sets.{setOk}
 use Rattle.reachability.specs.declared.sets.Set.{Set}
 use Rattle.reachability.specs.declared.model.Model.{Model}
 
+-- Sets 2, 5, 6 and 7 and Limits 4, 8 and 9, of one set.
 abbrev pub setAccepted : ℕ → Set → Bool
 setAccepted n s = setOk n (s .shape) (s .count) (s .points)
 
--- "A model is *accepted* where no condition of number 11 for the sweep and the judge holds of it, read from a file or made by
--- hand."
+-- Limits 10: no rule is broken, wherever the model comes from.
 abbrev pub accepted : Model → Bool
 accepted m =
     frameOk (m .n) (m .steps) (m .matrix)

@@ -1,5 +1,5 @@
--- Document 01, "The three sets": points, support and reach of a box, a zonotope and a vertex list, and which points lie in
--- one. Definitions only. A set's points are p 0, p 1, ..; p k i is coordinate i of point k.
+-- Sets 1 to 15: points, support and reach of a box, a zonotope and a vertex list, and which points lie in one; Limits 4 and 8; and
+-- Routines 11, what the set routines answer. Definitions only. A set's points are p 0, p 1, ..; p k i is coordinate i of point k.
 -- Assumes nothing.
 use mathlib.Core.Path.{_≡_}
 use mathlib.Core.Bool.{Bool, true, cond, _&&_}
@@ -19,50 +19,47 @@ use Rattle.reachability.specs.declared.sets.Set.{Set}
 use Rattle.reachability.specs.declared.sets.Supported.{Supported}
 use Rattle.reachability.specs.declared.sets.Supported.the-variants.{Value, Refused}
 
--- "a fixed block of sixteen points": point k of the block.
+-- Sets 1: point k of a stored block.
 abbrev pub points : List ℤ → ℕ → ℕ → ℤ
 points = matrix
 
--- ---- support: "the largest r · point over the set"
+-- ---- support
 
 -- The largest of f 0 up to f k.
 unfoldable pub largest : ℕ → (ℕ → ℤ) → ℤ
 largest zero f = f 0
 largest (suc k) f = cond (ltZ (largest k f) (f (suc k))) (f (suc k)) (largest k f)
 
--- "Box: lower and upper corner. For each coordinate take the upper where r is positive, else the lower."
--- "Zonotope: .. Support: centre · r plus the sum of |generator · r|."
--- "Vertex list: .. Support: the largest vertex · r."
+-- Sets 10, 11 and 12, shape by shape. That this is Sets 9, the largest r · x over the set, is proved (`proofs.sets.Laws`).
 abbrev pub supportOf : ℕ → Shape → ℕ → (ℕ → ℕ → ℤ) → (ℕ → ℤ) → ℤ
 supportOf n Box count p r = sum n (λ i. r i *ℤ cond (ltZ (pos 0) (r i)) (p 1 i) (p 0 i))
 supportOf n Zonotope count p r = dot n r (p 0) +ℤ pos (sumℕ (count - 1) (λ k. natAbs (dot n r (p (suc k)))))
 supportOf n Vertices count p r = largest (count - 1) (λ k. dot n r (p k))
 
--- ---- reach: "The *reach* of a set in coordinate i is its largest |coordinate i|"
+-- ---- reach
 
--- "for a box the larger of the two magnitudes, for a zonotope |centre| plus the sum of |generator|, for a list the largest
--- magnitude."
+-- Sets 14 for a box and a vertex list, Sets 15 for a zonotope. That no point passes this and a point attains it (Sets 13) is proved
+-- (`proofs.sets.Laws`, `proofs.sets.ReachAttained`).
 abbrev pub reachOf : Shape → ℕ → (ℕ → ℕ → ℤ) → ℕ → ℕ
 reachOf Box count p i = max (natAbs (p 0 i)) (natAbs (p 1 i))
 reachOf Zonotope count p i = natAbs (p 0 i) + sumℕ (count - 1) (λ k. natAbs (p (suc k) i))
 reachOf Vertices count p i = maxℕ count (λ k. natAbs (p k i))
 
--- ---- points: x, in q-ths, lies in the set. "a run has one common denominator q .. for its first state, all its inputs, and
--- the generator factors and corner weights that put them in their sets."
+-- ---- points: x, in q-ths, lies in the set; factors and weights are counted in 1 / q too (Runs 3)
 
--- Between the corners in each coordinate.
+-- Sets 3: between the corners in each coordinate.
 pub record InBox (n q : ℕ) (p : ℕ → ℕ → ℤ) (x : ℕ → ℤ) : Type 0 where
   pub low : (i : ℕ) → i < n → pos q *ℤ p 0 i ⩽ x i
   pub high : (i : ℕ) → i < n → x i ⩽ pos q *ℤ p 1 i
 
--- "points are centre plus each generator times a number from -1 to 1": the numbers are factor / q.
+-- Sets 5: the factors are factor / q.
 pub record InZonotope (n q count : ℕ) (p : ℕ → ℕ → ℤ) (x : ℕ → ℤ) : Type 0 where
   pub factor : ℕ → ℤ
   pub at-least : (k : ℕ) → k < count - 1 → negℤ (pos q) ⩽ factor k
   pub at-most : (k : ℕ) → k < count - 1 → factor k ⩽ pos q
   pub is : (i : ℕ) → i < n → x i ≡ pos q *ℤ p 0 i +ℤ sum (count - 1) (λ k. factor k *ℤ p (suc k) i)
 
--- "1 to 16 points and their convex hull": the weights are weight / q, and sum to 1.
+-- Sets 7: the weights are weight / q. They are natural, and sum to 1.
 pub record InHull (n q count : ℕ) (p : ℕ → ℕ → ℤ) (x : ℕ → ℤ) : Type 0 where
   pub weight : ℕ → ℕ
   pub whole : sumℕ count weight ≡ q
@@ -75,54 +72,54 @@ Member n Vertices count p q x = InHull n q count p x
 
 -- ---- the rules that number 11 tests
 
--- "The count is of points: 2 for a box, 1 plus its generators for a zonotope, its vertices for a list"; 1 to 8 generators,
--- 1 to 16 vertices.
+-- Sets 2: the count, with 1 to 8 generators (Sets 5, Sets 6) and 1 to 16 vertices (Sets 7).
 abbrev pub countOk : Shape → ℕ → Bool
 countOk Box count = eqb count 2
 countOk Zonotope count = leb 2 count && leb count 9
 countOk Vertices count = leb 1 count && leb count 16
 
--- "has a box lower corner above its upper in any of the n coordinates": none.
+-- Limits 8. Corners may be equal (Sets 4), and so may vertices (Sets 8): nothing compares them.
 abbrev pub orderedOk : ℕ → Shape → (ℕ → ℕ → ℤ) → Bool
 orderedOk n Box p = allBelow n (λ i. leZ (p 0 i) (p 1 i))
 orderedOk n Zonotope p = true
 orderedOk n Vertices p = true
 
--- "Limits": "Reach at most 1,048,576", in each coordinate.
+-- Limits 4, in each coordinate.
 abbrev pub reachLimit : ℕ
 reachLimit = 1048576
 
 abbrev pub reachOk : Shape → ℕ → (ℕ → ℕ → ℤ) → Bool
 reachOk shape count p = allBelow 6 (λ i. leb (reachOf shape count p i) reachLimit)
 
--- A set that breaks no rule: its count, "unused ones zero", zero beyond n, its reach, a box's corners.
+-- A set that breaks no rule: its count (Sets 2), zeros in unused points and beyond n (Limits 9), its reach (Limits 4), a box's
+-- corners (Limits 8).
 abbrev pub setOk : ℕ → Shape → ℕ → List ℤ → Bool
 setOk n shape count xs = countOk shape count && (zeroOutside count n xs && (reachOk shape count (points xs) && orderedOk n shape (points xs)))
 
--- ---- "Refusals by place", the row "stepping, set routines": what the set routines answer
+-- ---- what the set routines answer
 
--- No condition of number 11 holds for a support.
+-- Refusals 11: nothing that `support` is given breaks a rule.
 abbrev pub supportOk : ℕ → Set → List ℤ → Bool
 supportOk n s r = dimensionOk n && (setOk n (s .shape) (s .count) (s .points) && directionOk n r)
 
 abbrev pub supportAnswer : ℕ → Set → List ℤ → Supported
 supportAnswer n s r = cond (supportOk n s r) (Value (supportOf n (s .shape) (s .count) (points (s .points)) (vector r))) Refused
 
--- The document's number of an answer.
+-- Forms 7: the number of an answer.
 abbrev pub supportNumber : Supported → ℕ
 supportNumber (Value v) = 0
 supportNumber Refused = 11
 
--- What `support` answers: the value, or number 11.
+-- Routines 11: what `support` answers, the value or number 11.
 pub record Supports (n : ℕ) (s : Set) (r : List ℤ) (a : Supported) : Type 0 where
   pub answer : a ≡ supportAnswer n s r
   pub number : supportNumber a ≡ cond (supportOk n s r) 0 11
 
--- What `reach` answers: number 11 with six zeros, or 0 with the six reaches.
+-- Routines 11: what `reach` answers, number 11 with six zeros, or 0 with the six reaches.
 pub record ReachAnswer (n : ℕ) (s : Set) (number : ℕ) (reaches : List ℤ) : Type 0 where
   pub number-is : number ≡ cond (dimensionOk n && setOk n (s .shape) (s .count) (s .points)) 0 11
   pub reaches-are : reaches ≡ cond (dimensionOk n && setOk n (s .shape) (s .count) (s .points)) (tabulate 6 (λ i. pos (reachOf (s .shape) (s .count) (points (s .points)) i))) (tabulate 6 (λ i. pos 0))
 
--- What a reader tests of a set point by point, beside a box's corners: the reach of the points so far.
+-- Refusals 6: what a reader tests of a set point by point, beside a box's corners: the reach of the points so far.
 abbrev pub reachWithin : Shape → ℕ → List ℤ → Bool
 reachWithin shape count xs = (leb 1 count && leb count 16) && reachOk shape count (points xs)

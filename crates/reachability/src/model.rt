@@ -1,12 +1,12 @@
-// The model of document 01, as a value that anyone can make by hand, and the rules that number 11 tests.
+// The model, as a value that anyone can make by hand, and the rules that number 11 tests.
 use crate::sets::Set;
 use crate::sets::set_ok;
 ghost use mathlib.Core.Path.{_≡_};
 ghost use Rattle.reachability.specs.Limits.{accepted};
 
-// A model: n coordinates, `steps` steps, the matrix in six rows of six, the initial set and the input set, the directions in
-// sixteen rows of six, and the guards, each the number of the direction that it watches and a level. What lies beyond n and
-// beyond each count is zero.
+// Model 1, as stored. n coordinates, `steps` steps, the matrix in six rows of six, the initial set and the input set, the
+// directions in sixteen rows of six, and the guards, each the number of the direction that it watches and a level. Every
+// number that n and the counts leave unused is zero.
 pub struct Model {
     pub n: usize,
     pub steps: usize,
@@ -20,7 +20,7 @@ pub struct Model {
     pub levels: [i64; 16],
 }
 
-// The model breaks no rule of "The three sets" and "Limits".
+// Routines 6. The model is accepted (Limits 10).
 pub fn accepts(model: Model) -> bool
     ensures { λ b. ⌜ b ≡ accepted model ⌝ }
 {

@@ -1,4 +1,4 @@
-// The three sets of document 01: boxes, zonotopes and vertex lists, with their support and their reach.
+// Boxes, zonotopes and vertex lists, with their support and their reach ("Sets" of the specification).
 mod checks;
 mod reaches;
 mod supports;
@@ -16,7 +16,7 @@ pub enum Shape {
     Vertices,
 }
 
-// A set: its shape, how many points it has, and sixteen points of six coordinates. What is unused is zero.
+// Sets 1, Forms 2. A set: its shape, how many points it has, and sixteen points of six coordinates. What is unused is zero.
 pub struct Set {
     pub shape: Shape,
     pub count: usize,
@@ -35,8 +35,8 @@ pub struct Reached {
     pub reaches: [i64; 6],
 }
 
-// The support of the set at r: the largest r · point over it. Number 11 for n outside 1 to 6, a set that breaks a rule of
-// document 01, or an r with a value beyond n or a magnitude above 1,073,741,824.
+// Routines 11. The support of the set at r: the largest r · x for x in it. Refusals 11: n is not 1 to 6, the set breaks a rule, or
+// r has a value beyond n or a magnitude above 1,073,741,824.
 pub fn support(n: usize, set: Set, r: &[i64; 6]) -> Supported
     ensures { λ a. ⌜ Supports n set (now (r .entry)) a ⌝ }
 {
@@ -52,7 +52,7 @@ pub fn support(n: usize, set: Set, r: &[i64; 6]) -> Supported
     Supported::Value(support_of(shape, count, &points, r))
 }
 
-// The reach of the set in each coordinate. Number 11 for n outside 1 to 6 or a set that breaks a rule of document 01.
+// Routines 11. The reach of the set in each coordinate. Refusals 11: n is not 1 to 6, or the set breaks a rule.
 pub fn reach(n: usize, set: Set) -> Reached
     ensures { λ a. ⌜ ReachAnswer n set (a .number) (a .reaches) ⌝ }
 {
@@ -69,8 +69,8 @@ pub fn reach(n: usize, set: Set) -> Reached
     Reached { number: 0, reaches }
 }
 
-// The reach of the first `count` points, 1 to 16 of them, is within its limit in each coordinate. It asks no whole set, so
-// that a reader can test a set point by point.
+// Routines 6. The reach of the first `count` points, 1 to 16 of them, is within its limit in each coordinate. It asks no whole set,
+// so that a reader can test a set point by point.
 pub fn reach_within(shape: Shape, count: usize, points: &[i32; 96]) -> bool
     ensures { λ b. ⌜ b ≡ reachWithin shape count (now (points .entry)) ⌝ }
 {

@@ -5,8 +5,8 @@ use crate::model::Model;
 use crate::model::accepts;
 ghost use Rattle.reachability.specs.Answers.{SweepLeaves};
 
-// What `sweep` answers: the spare figure; 11, the model breaks a rule; 12, no such direction; 13, a lent list isn't K + 1 long;
-// 14, growth, with the first such step.
+// What `sweep` answers: the spare figure; 11, the model breaks a rule; 12, it has no such direction; 13, a list has another length
+// than K + 1; 14, growth, and the first step that has it.
 pub enum Swept {
     Spare(u32),
     Invalid,
@@ -15,8 +15,8 @@ pub enum Swept {
     Growth(usize),
 }
 
-// Bounds and slacks of direction number `direction` for steps 0 to K in the lent lists, and the spare figure. On a refusal both
-// lists keep every element.
+// Routines 2 and 4, with "Accuracy". Bounds and slacks of direction number `direction` for steps 0 to K in the lent lists, and the
+// spare figure. On a refusal both lists are as they were.
 pub fn sweep(model: Model, direction: usize, bounds: &mut [i64], slacks: &mut [i64]) -> Swept
     ensures { λ a. ⌜ SweepLeaves model direction (now (bounds .entry)) (now (slacks .entry)) a (now (bounds .exit)) (now (slacks .exit)) ⌝ }
 {

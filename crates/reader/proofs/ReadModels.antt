@@ -153,14 +153,14 @@ readModel-accepted file e =
     let r = readModel-reached file e in
     ap accepted (r .model-is) ∙ accepted-of (r .last .state) (r .reachable .so-far) (end-place (r .last .state .last) (r .ends))
 
--- ---- "The longest accepted file has 1,521 bytes."
+-- ---- File 9
 
 pub readModel-length : (file : List ℕ) → readModel file .status ≡ Read → length file ≤ 1521
 readModel-length file e =
     let r = readModel-reached file e in
     omega (arith, r .length-le, r .reachable .within, used-le (r .last .state) (r .reachable .so-far))
 
--- ---- "The program reads at most 2,048 bytes; a longer file gets the reply its first 2,048 bytes get."
+-- ---- Reading 4: the first 2,048 bytes settle the reply
 
 module _ (file : List ℕ) where
   abbrev first : List ℕ

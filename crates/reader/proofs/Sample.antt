@@ -1,5 +1,4 @@
--- Document 01, "Figures to test against": the sample of 186 bytes, "For n 1, steps 3, M 32,768, initial [0,0], input [0,1], direction 1, guards
--- on direction 0 with levels 1, 2, 3", is read as its model. By computation. Assumes nothing.
+-- Listing 8: the sample of 186 bytes is read as its model; Figures 14: the empty file. By computation. Assumes nothing.
 use mathlib.Core.Path.{_≡_, refl}
 use mathlib.Core.List.{List, _∷_, _++_, []}
 use Prim.Native.Nat.{ℕ}
@@ -62,7 +61,7 @@ pub sample-read : readModel sample ≡ record { status = Read; model = sampleMod
 unfolding allBelow sumℕ maxℕ bodyLength recordAt littleEndian mayFollow partOf zeros blankSet blankModel start sixAt putRow withHead withRow withPoint withSetPoint withDirection withGuard rowOk pointOk directionOk kindNumber refusal stored stopFor numberAt offsetAt readingAt readFrom readModel sample sampleModel
 sample-read = refl
 
--- "14. Empty file: number 1 at offset 0."
+-- Figures 14.
 pub empty-refused : readModel [] ≡ refused 1 0
 unfolding recordAt refusal stopFor numberAt offsetAt readingAt readFrom readModel
 empty-refused = refl

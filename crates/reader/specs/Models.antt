@@ -1,5 +1,5 @@
--- How far a file has been read, and what each record adds to the model. Definitions only. A record that a block has no room for
--- changes nothing in it; none such is ever let in. Assumes nothing.
+-- File 3, 4, 7 and 8: how far a file has been read, and what each record adds to the model. Definitions only. A record that a block
+-- has no room for changes nothing in it; none such is ever let in. Assumes nothing.
 use mathlib.Core.Bool.{Bool, cond}
 use mathlib.Core.List.{List}
 use Prim.Native.Nat.{ℕ, zero, suc, _+_, _*_}
@@ -22,7 +22,7 @@ zeros n = replicate n (pos 0)
 unfoldable pub blankSet : Set
 blankSet = record { shape = Box; count = 0; points = zeros 96 }
 
--- The fixed model beside a refusal: zero everywhere, with no point, no direction and no guard.
+-- Reading 3: the blank model beside a refusal.
 unfoldable pub blankModel : Model
 blankModel =
     record {
@@ -44,18 +44,18 @@ start = record { last = 0x00; rows = 0; model = blankModel }
 
 -- ---- the numbers in a body
 
--- "n (1 byte)", "row number from 0 (1)", "direction number from 0 (1)": the byte that a body starts with.
+-- File 3: n, the number of a row and the number of a guard's direction are the byte that a body starts with.
 abbrev pub firstByte : List ℕ → ℕ
 firstByte body = getD body 0 0
 
--- "six numbers (4 each)". "Entries beyond n are ignored and stored as zero."
+-- File 3: number i of six, of 4 bytes each. File 7: zero beyond n.
 abbrev pub entryAt : ℕ → List ℕ → ℕ → ℕ → ℤ
 entryAt n body at i = cond (ltb i n) (signedAt 4 body (at + 4 * i)) (pos 0)
 
 unfoldable pub sixAt : ℕ → List ℕ → ℕ → List ℤ
 sixAt n body at = tabulate 6 (entryAt n body at)
 
--- "Limits": "a head that says 0 means 60."
+-- File 4.
 abbrev pub usualSteps : ℕ
 usualSteps = 60
 
@@ -113,7 +113,7 @@ putFirst (suc k) xs row six = set (putFirst k xs row six) (6 * row + k) (vector 
 unfoldable pub putRow : List ℤ → ℕ → List ℤ → List ℤ
 putRow xs row six = putFirst 6 xs row six
 
--- "01 | n (1 byte), steps (2)".
+-- File 3, kind 01.
 unfoldable pub withHead : State → List ℕ → State
 withHead s body = stateOf 0x01 0 (setHead (s .model) (firstByte body) (defaultSteps (littleEndian 2 body 1)))
 
@@ -121,13 +121,13 @@ withHead s body = stateOf 0x01 0 (setHead (s .model) (firstByte body) (defaultSt
 abbrev pub rowPlace : ℕ → ℕ → ℕ
 rowPlace rows n = cond (ltb rows n) 0x01 0x02
 
--- "02 | row number from 0 (1), six entries (4 each)".
+-- File 3, kind 02.
 unfoldable pub withRow : State → List ℕ → State
 withRow s body =
     stateOf (rowPlace (s .rows + 1) (s .model .n)) (s .rows + 1)
     (setMatrix (s .model) (putRow (s .model .matrix) (s .rows) (sixAt (s .model .n) body 1)))
 
--- "10, 11 | initial lower corner, upper corner", "12, 13 | initial centre, generator", "14 | initial vertex": one point more.
+-- File 3, kinds 10 to 14, and File 8: one point more, behind those before it.
 unfoldable pub withPoint : ℕ → Set → ℕ → List ℕ → Set
 withPoint n set kind body =
     record {
@@ -136,18 +136,18 @@ withPoint n set kind body =
       points = putRow (set .points) (set .count) (sixAt n body 0);
     }
 
--- "20 to 24 | the same five for the input set".
+-- File 3, kinds 20 to 24: the same of the input set.
 unfoldable pub withSetPoint : Bool → State → ℕ → List ℕ → State
 withSetPoint input s kind body =
     stateOf kind (s .rows) (setSet input (s .model) (withPoint (s .model .n) (setOf input (s .model)) kind body))
 
--- "30 | direction, six entries".
+-- File 3, kind 30.
 unfoldable pub withDirection : State → ℕ → List ℕ → State
 withDirection s kind body =
     stateOf kind (s .rows)
     (setDirections (s .model) (s .model .directions + 1) (putRow (s .model .entries) (s .model .directions) (sixAt (s .model .n) body 0)))
 
--- "40 | direction number from 0 (1), level (8)".
+-- File 3, kind 40.
 unfoldable pub withGuard : State → ℕ → List ℕ → State
 withGuard s kind body =
     stateOf kind (s .rows)

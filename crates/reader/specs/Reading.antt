@@ -1,5 +1,5 @@
--- The reading of a file, document 01, "The file" and "Refusals by place": where it stops, the number and the offset there, and
--- the model. Definitions only. A file is the list of its bytes. Assumes nothing.
+-- Reading 1 to 3: where the reading of a file stops, the number and the offset there, and the model. Definitions only. A file is
+-- the list of its bytes. Assumes nothing.
 use mathlib.Core.Path.{_≡_}
 use mathlib.Core.Bool.{Bool, cond, not, _&&_}
 use mathlib.Core.List.{List}
@@ -49,12 +49,11 @@ stopFrom file at s = stopFor (suc (length file - at)) file at s
 
 -- ---- the number and the offset there
 
--- "The first number that applies, from the top": that of the record, and then, of the end, "10 | bytes follow". 0 where the file
--- is read.
+-- Reading 1: the number of the record and then, of the end, Refusals 10. 0 where the file is read.
 unfoldable pub numberAt : List ℕ → Stop → ℕ
 numberAt file p = firstOf (refusal (p .state) (recordAt file (p .at))) (cond (ltb (p .at + 1) (length file)) 10 0)
 
--- "The reader adds the offset of the record's kind byte (for 10, of the first byte after FF; with no byte left, the length)".
+-- Reading 2: behind the end, at the record, or at the length of the file.
 unfoldable pub offsetAt : List ℕ → Stop → ℕ
 offsetAt file p =
     cond (eqb (refusal (p .state) (recordAt file (p .at))) 0) (p .at + 1)
@@ -62,7 +61,7 @@ offsetAt file p =
 
 -- ---- the reading of a file
 
--- "and hands back no model": a refusal has the blank one beside it.
+-- Reading 3: a refusal has the blank model beside it.
 abbrev pub refused : ℕ → ℕ → Reading
 refused number offset = record { status = Refused number offset; model = blankModel }
 
@@ -89,7 +88,7 @@ readOffset file = cond (eqb (readNumber file) 0) 0 (offsetAt file (stopFrom file
 
 -- ---- what a status tells
 
--- The document's number of an answer, 0 where the file was read, and the offset that it is told at.
+-- Forms 7: the number of an answer, 0 where the file was read, and the offset that it is told at.
 abbrev pub statusNumber : Status → ℕ
 statusNumber Read = 0
 statusNumber (Refused number offset) = number
@@ -98,7 +97,7 @@ abbrev pub statusOffset : Status → ℕ
 statusOffset Read = 0
 statusOffset (Refused number offset) = offset
 
--- What the reader gives for a file.
+-- Routines 14: what the reader gives for a file.
 pub record Reads (file : List ℕ) (r : Reading) : Type 0 where
   pub answer : r ≡ readModel file
   pub number : statusNumber (r .status) ≡ readNumber file

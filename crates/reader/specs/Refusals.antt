@@ -1,5 +1,4 @@
--- Document 01, "Refusals by place": the number of a record, and what a record that is not refused adds. Definitions only.
--- Assumes nothing.
+-- Reading 1: the number of a record, and what a record that is not refused adds. Definitions only. Assumes nothing.
 use mathlib.Core.Bool.{Bool, true, false, cond}
 use mathlib.Core.List.{List}
 use Prim.Native.Nat.{ℕ}
@@ -13,7 +12,7 @@ use Rattle.reader.specs.Order.{mostOf}
 use Rattle.reader.specs.Models.{withHead, withRow, withSetPoint, withDirection, withGuard}
 use Rattle.reader.specs.Values.{valueNumber}
 
--- How many a part has that "9" counts. A head, rows and the end are not counted, so there is never one too many.
+-- Refusals 9: how many a part has that are counted. A head, rows and the end are not counted, so there is never one too many.
 abbrev pub countOf : Part → State → ℕ
 countOf Head s = 0
 countOf Row s = 0
@@ -23,27 +22,27 @@ countOf Direction s = s .model .directions
 countOf Guard s = s .model .guards
 countOf End s = 0
 
--- "9 | a 9th generator, 17th vertex, direction or guard".
+-- Refusals 9.
 abbrev pub oneTooMany : State → ℕ → Bool
 oneTooMany s kind = leb (mostOf kind) (countOf (partOf kind) s)
 
--- "each record, kind": "3 | kind not allowed here by the order", then 9, else 0.
+-- Refusals 3, then Refusals 9, else 0.
 unfoldable pub kindNumber : State → ℕ → ℕ
 kindNumber s kind = cond (mayFollow (s .last) kind) (cond (oneTooMany s kind) 9 0) 3
 
--- "The first number that applies, from the top, is returned."
+-- Reading 1: the first number that is not 0.
 abbrev pub firstOf : ℕ → ℕ → ℕ
 firstOf a b = cond (eqb a 0) b a
 
--- The number of the record that stands at an offset, 0 where it is read: "1 | no byte is left", "2 | unknown kind", 3 and 9,
--- "1 | fewer bytes left than the body needs", 4 to 8.
+-- Reading 1: the number of the record that stands at an offset, 0 where it is read. No byte (1); unknown (2); 3 and 9; a body that
+-- is cut (1); 4 to 8.
 unfoldable pub refusal : State → Record → ℕ
 refusal s nothing = 1
 refusal s (unknown kind) = 2
 refusal s (short kind) = firstOf (kindNumber s kind) 1
 refusal s (whole kind body) = firstOf (kindNumber s kind) (valueNumber (partOf kind) s kind body)
 
--- What a record adds. The end adds nothing.
+-- File 3: what a record adds. The end adds nothing.
 abbrev pub storedIn : Part → State → ℕ → List ℕ → State
 storedIn Head s kind body = withHead s body
 storedIn Row s kind body = withRow s body

@@ -1,4 +1,4 @@
--- Document 01, "Refusals by place", numbers 4 to 8: what a body may hold. Definitions only. Assumes nothing.
+-- Refusals 4 to 8: what a body may hold. Definitions only. Assumes nothing.
 use mathlib.Core.Bool.{Bool, true, false, cond, not, _&&_, _||_}
 use mathlib.Core.List.{List}
 use Prim.Native.Nat.{ℕ}
@@ -17,32 +17,31 @@ use Rattle.reader.specs.declared.state.State.{State}
 use Rattle.reader.specs.Order.{isUpper}
 use Rattle.reader.specs.Models.{firstByte, sixAt, setOf, withPoint}
 
--- "4 | n or steps outside 1 to 6, 0 to 256": neither.
+-- Refusals 4 does not apply.
 abbrev pub headValuesOk : ℕ → ℕ → Bool
 headValuesOk n steps = dimensionOk n && leb steps 256
 
 abbrev pub headOk : List ℕ → Bool
 headOk body = headValuesOk (firstByte body) (littleEndian 2 body 1)
 
--- Numbers from minus the limit to the limit. Those beyond n are zero, so only the first n can fail.
+-- Limits 3, Limits 5: numbers from minus the limit to the limit. Those beyond n are zero, so only the first n can fail.
 abbrev pub within : ℕ → List ℤ → Bool
 within limit six = allBetween (negℤ (pos limit)) (pos limit) six
 
--- "5 | not the next row number, or an entry beyond its limit": neither.
+-- Refusals 5 does not apply.
 unfoldable pub rowOk : State → List ℕ → Bool
 rowOk s body = eqb (firstByte body) (s .rows) && within entryLimit (sixAt (s .model .n) body 1)
 
--- "6 | reach beyond its limit with this point, or upper below lower in any of the n coordinates": neither, of the set with this
--- point. The corners are compared at the upper one.
+-- Refusals 6 does not apply to the set with this point. The corners are compared at the upper one.
 unfoldable pub pointOk : ℕ → ℕ → Set → Bool
 pointOk n kind set =
     reachWithin (set .shape) (set .count) (set .points) && (not (isUpper kind) || cornersOrdered n (set .points))
 
--- "7 | entry beyond its limit, or all n zero": neither.
+-- Refusals 7 does not apply.
 unfoldable pub directionOk : ℕ → List ℕ → Bool
 directionOk n body = within directionLimit (sixAt n body 0) && not (allZero (sixAt n body 0) 0)
 
--- "8 | no such direction": there is one.
+-- Refusals 8 does not apply.
 abbrev pub guardOk : State → List ℕ → Bool
 guardOk s body = ltb (firstByte body) (s .model .directions)
 

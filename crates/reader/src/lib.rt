@@ -1,5 +1,5 @@
-// The reader of model files, document 01, "The file" and "Refusals by place": any bytes at all are a model, or a number 1 to 10
-// with its offset.
+// The reader of model files, "File" and "Reading" of the specification: any bytes at all are a model, or a number 1 to 10 with its
+// offset.
 //
 // No public function has a `requires`.
 mod advance;
@@ -27,7 +27,7 @@ pub struct Reading {
     pub model: Model,
 }
 
-// The model of the file, or the first number that applies to it, with its offset.
+// Routines 14. The model of the file, or the first number that applies to it, with its offset.
 pub fn read(file: &[u8]) -> Reading
     ensures { λ r. ⌜ Reads (now (file .entry)) r ⌝ }
 {

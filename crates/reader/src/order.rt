@@ -1,4 +1,4 @@
-// What a kind is refused for: 3, a kind not allowed here; 9, one record too many.
+// What a kind is refused for: Refusals 3, a kind that may not stand here; Refusals 9, one record too many.
 use crate::state::State;
 use reachability::sets::Shape;
 use records::order::Part;

@@ -1,4 +1,4 @@
-// Taking a whole record: its value test, number 4 to 8, and the state behind it.
+// Taking a whole record: its value test, Refusals 4 to 8, and the state behind it.
 use crate::state::State;
 use crate::store::first_byte;
 use crate::store::put_row;

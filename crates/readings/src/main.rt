@@ -1,4 +1,4 @@
-// Reads each file that an argument names and writes what the reader answers: the name, then `refused N at P`, number and
+// Reads each file that an argument names and writes what the reader answers: the name, then `refused N at P` with number and
 // offset, or `model n K`. The files are in the folder `data`, and the file `stdout` has what should come out; both are made by
 // tools/readerfiles.py.
 use libc::STDOUT_FILENO;

@@ -1,4 +1,4 @@
--- Document 01, "The file": the kinds of record and their body lengths. Definitions only. Assumes nothing.
+-- File 3: the kinds of record and their body lengths. Definitions only. Assumes nothing.
 use Prim.Native.Nat.{ℕ}
 use mathlib.Core.Bool.{Bool, cond, _&&_}
 use lib.Dec.{eqb, leb}
@@ -9,8 +9,8 @@ use Rattle.records.specs.declared.kinds.BodyLength.the-variants.{Bytes, 
 abbrev pub kindFrom : ℕ → ℕ → ℕ → Bool
 kindFrom low high kind = leb low kind && leb kind high
 
--- "Each record is one byte of kind, then a body whose length the kind alone fixes." The columns "Kind" and "Body bytes" of the
--- table; its lines 10 to 14, and 20 to 24, are one here. A kind that is not in the table is unknown.
+-- File 1: the kind fixes the length. File 3: the first two columns of its table, where the rows 10 to 14 are one here. A kind that
+-- is not in the table is unknown (Refusals 2).
 unfoldable pub bodyLength : ℕ → BodyLength
 bodyLength kind =
     cond (eqb kind 0x01) (Bytes 3)

@@ -1,5 +1,4 @@
--- Document 01, "The file": "Numbers are little-endian, signed where negative values make sense." Definitions only.
--- Assumes nothing.
+-- File 2: the numbers in a file. Definitions only. Assumes nothing.
 use mathlib.Core.List.{List}
 use mathlib.Core.Bool.{cond}
 use Prim.Native.Nat.{ℕ, zero, suc, _+_, _*_, _-_, _^_}
@@ -7,12 +6,12 @@ use lib.Dec.{ltb}
 use lib.ListN.{getD}
 use lib.IntN.{ℤ, pos, _-ℤ_}
 
--- "little-endian": the number of k bytes at the offset `at`, the least significant first. A byte beyond the end counts as 0.
+-- File 2: the number of k bytes at the offset `at`, the least significant first. A byte beyond the end counts as 0 (Routines 13).
 unfoldable pub littleEndian : ℕ → List ℕ → ℕ → ℕ
 littleEndian zero bytes at = 0
 littleEndian (suc k) bytes at = getD bytes at 0 + 256 * littleEndian k bytes (suc at)
 
--- "signed": two's complement, where the numbers below `half` stand for themselves, and those from there on for 2 × half less.
+-- File 2: two's complement, where the numbers below `half` stand for themselves, and those from there on for 2 × half less.
 abbrev pub twosComplement : ℕ → ℕ → ℤ
 twosComplement half n = cond (ltb n half) (pos n) (pos n -ℤ pos (2 * half))
 

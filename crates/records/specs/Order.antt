@@ -1,5 +1,5 @@
--- Document 01, "The file": which kind may follow which, and the part of a model that a kind belongs to. Definitions only. Kinds are
--- known ones: what is unknown is refused before. Assumes nothing.
+-- File 5 and 6: which kind may follow which; File 3: the part of a model that a kind belongs to. Definitions only. Kinds are known
+-- ones: what is unknown is refused before. Assumes nothing.
 use mathlib.Core.Bool.{Bool, false, cond, _&&_, _||_}
 use mathlib.Core.List.{List, _∷_, []}
 use Prim.Native.Nat.{ℕ}
@@ -7,9 +7,8 @@ use lib.Dec.{eqb, leb}
 use Rattle.records.specs.declared.order.Part.{Part}
 use Rattle.records.specs.declared.order.Part.the-variants.{Head, Row, Initial, Input, Direction, Guard, End}
 
--- "Order: 01; n rows; the initial set in one of its three forms (10 then 11; 12 then its 13s; 14s); the input set likewise;
--- directions; guards; FF. A part below its least count lets no later kind in". Each pair is a place and a kind that may stand
--- there. The place is the kind of the record read last, with two exceptions: 00 at the start, and 01 until all n rows are in.
+-- File 5 and 6, as a table. Each pair is a place and a kind that may stand there. The place is the kind of the record read last,
+-- with two exceptions: 00 at the start, and 01 until all n rows are in.
 abbrev pub order : List (ℕ × ℕ)
 order =
     (0x00, 0x01)
@@ -36,7 +35,7 @@ listed place kind (p ∷ ps) = (eqb (p .0) place && eqb (p .1) kind) || listed p
 unfoldable pub mayFollow : ℕ → ℕ → Bool
 mayFollow place kind = listed place kind order
 
--- The column "Body" of the table: the part of the model that a kind belongs to.
+-- File 3, the last column of its table: the part of the model that a kind belongs to.
 unfoldable pub partOf : ℕ → Part
 partOf kind =
     cond (leb kind 0x01) Head

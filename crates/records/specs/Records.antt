@@ -1,5 +1,5 @@
--- Document 01, "The file" and "Refusals by place": what stands at an offset of a file, and what the record step gives.
--- Definitions only. A file is the list of its bytes. Assumes nothing.
+-- File 1, Refusals 1 and 2, and Routines 12: what stands at an offset of a file, and what the record step gives. Definitions only.
+-- A file is the list of its bytes. Assumes nothing.
 use mathlib.Core.Path.{_≡_}
 use mathlib.Core.List.{List, []}
 use mathlib.Core.Bool.{cond}
@@ -11,7 +11,7 @@ use Rattle.records.specs.declared.kinds.BodyLength.{BodyLength}
 use Rattle.records.specs.declared.kinds.BodyLength.the-variants.{Bytes, Unknown}
 use Rattle.records.specs.Kinds.{bodyLength}
 
--- What stands at an offset: a whole record, with its kind and its body; a kind with fewer bytes left than its body needs; an
+-- What stands at an offset: a whole record, with its kind and its body; a kind whose body the file's end cuts off; an
 -- unknown kind; or no byte.
 pub data Record : Type 0 where
   whole : ℕ → List ℕ → Record
@@ -24,13 +24,12 @@ abbrev pub recordOf : ℕ → BodyLength → List ℕ → Record
 recordOf kind (Bytes n) rest = cond (leb n (length rest)) (whole kind (take n rest)) (short kind)
 recordOf kind Unknown rest = unknown kind
 
--- "Each record is one byte of kind, then a body whose length the kind alone fixes."
+-- File 1: what stands at an offset.
 unfoldable pub recordAt : List ℕ → ℕ → Record
 recordAt file at =
     cond (ltb at (length file)) (recordOf (getD file at 0) (bodyLength (getD file at 0)) (drop (at + 1) file)) nothing
 
--- The document's number: "1 | no byte is left", "2 | unknown kind", "1 | fewer bytes left than the body needs"; 0 for a whole
--- record.
+-- Refusals 1 and 2: the number of what stands there, 0 for a whole record.
 abbrev pub recordNumber : Record → ℕ
 recordNumber (whole kind body) = 0
 recordNumber (short kind) = 1
@@ -59,9 +58,8 @@ recordPlace at (short kind) start = start
 recordPlace at (unknown kind) start = start
 recordPlace at nothing start = start
 
--- "The record step hands back the body as a part of the file's own bytes. It knows kinds and lengths only: kind and body, or
--- number 1 or 2." What it returns, `part`, and what it leaves. `now` of a slice is the list of its bytes, and `ptr` the place
--- of its first byte.
+-- Routines 12, Forms 1: what the record step returns, `part`, and what it leaves. `now` of a slice is the list of its bytes, and
+-- `ptr` the place of its first byte.
 pub record RecordStep (file : RefT (List ℕ)) (at : ℕ) (part : RefT (List ℕ)) (kind number : ℕ) : Type 0 where
   pub number-is : number ≡ recordNumber (recordAt (now file) at)
   pub kind-is : kind ≡ recordKind (recordAt (now file) at)

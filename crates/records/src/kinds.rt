@@ -1,4 +1,4 @@
-// The kinds of record and their body lengths: one constant table.
+// The kinds of record and their body lengths: one constant table (File 3, Forms 5).
 ghost use mathlib.Core.Path.{_≡_};
 ghost use Rattle.records.specs.Kinds.{bodyLength};
 

@@ -1,5 +1,5 @@
-// Records of a model file, document 01, "The file": the table of kinds and body lengths, the record step, the order of kinds, and
-// numbers of several bytes.
+// Records of a model file, "File" of the specification: the table of kinds and body lengths, the record step, the order of kinds,
+// and numbers of several bytes.
 //
 // No public function has a `requires`: any bytes, any offset gets its answer. How many records a part may have, and what a body may
 // hold, is the reader's.
@@ -13,9 +13,9 @@ pub use numbers::i64_at;
 pub use numbers::u16_at;
 ghost use Rattle.records.specs.Records.{RecordStep};
 
-// The record whose kind byte is at the offset `at`. It returns the body, a part of the file's own bytes, and leaves:
+// Routines 12. The record whose kind byte is at the offset `at`. It returns the body, which lies in the file, and leaves:
 //   number 0 and the kind, where a whole record is there;
-//   number 1 and the kind, where fewer bytes are left than the body needs;
+//   number 1 and the kind, where the body is cut;
 //   number 1 and kind 0, which no record has, where no byte is left;
 //   number 2 and the kind, where the kind is unknown.
 // Where the number is not 0 the part is empty, at the file's start.

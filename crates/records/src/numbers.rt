@@ -1,4 +1,4 @@
-// Numbers of several bytes in a slice, least significant byte first. A byte beyond the slice's end counts as 0.
+// Numbers of several bytes in a slice, least significant byte first (File 2). A byte beyond the slice's end counts as 0.
 ghost use mathlib.Core.Path.{_≡_};
 ghost use Prim.Native.Nat.{_+_, _*_, _^_, _≤_, _<_};
 ghost use lib.ListN.{getD};
@@ -44,21 +44,21 @@ fn signed(n: u64, half: u64) -> i64
     }
 }
 
-// The number of two bytes at the offset `at`.
+// Routines 13. The number of two bytes at the offset `at`.
 pub fn u16_at(bytes: &[u8], at: usize) -> u16
     ensures { λ r. ⌜ r ≡ littleEndian 2 (now (bytes .entry)) at ⌝ }
 {
     unsigned_at(bytes, at, 2) as u16
 }
 
-// The signed number of four bytes at the offset `at`.
+// Routines 13. The signed number of four bytes at the offset `at`.
 pub fn i32_at(bytes: &[u8], at: usize) -> i32
     ensures { λ r. ⌜ r ≡ signedAt 4 (now (bytes .entry)) at ⌝ }
 {
     signed(unsigned_at(bytes, at, 4), 0x8000_0000) as i32
 }
 
-// The signed number of eight bytes at the offset `at`.
+// Routines 13. The signed number of eight bytes at the offset `at`.
 pub fn i64_at(bytes: &[u8], at: usize) -> i64
     ensures { λ r. ⌜ r ≡ signedAt 8 (now (bytes .entry)) at ⌝ }
 {

@@ -1,8 +1,8 @@
-// The order of records: which kind may follow which, and the part of a model that a kind belongs to.
+// The order of records (File 5, File 6): which kind may follow which, and the part of a model that a kind belongs to.
 ghost use mathlib.Core.Path.{_≡_};
 ghost use Rattle.records.specs.Order.{mayFollow, partOf};
 
-// A part of a model, as document 01's table of kinds has them.
+// A part of a model, as the table of File 3 has them.
 pub enum Part {
     Head,
     Row,
@@ -50,7 +50,7 @@ const ORDER: [Pair; 30] = [
     Pair(0x40, 0xFF),
 ];
 
-// The kind may stand at the place, by a search of the table.
+// Routines 13. The kind may stand at the place, by a search of the table.
 pub fn may_follow(place: u8, kind: u8) -> bool
     ensures { λ b. ⌜ b ≡ mayFollow place kind ⌝ }
 {
@@ -68,7 +68,7 @@ pub fn may_follow(place: u8, kind: u8) -> bool
     false
 }
 
-// The part of a known kind.
+// Routines 13. The part of a known kind.
 pub fn part_of(kind: u8) -> Part
     ensures { λ r. ⌜ r ≡ partOf kind ⌝ }
 {

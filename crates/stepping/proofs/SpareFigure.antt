@@ -1,5 +1,5 @@
--- Laws of the spare figure: it is the largest h for which 2 to the h times the sum doesn't exceed the limit, and it is the
--- leading zeros of one less than the sum, as 32 bits, less two. Assumes nothing.
+-- Laws of the spare figure: it is the h of Recurrence 8, and it is the leading zeros of one less than the sum, as 32 bits, less two
+-- (Forms 3). Assumes nothing.
 use mathlib.Core.Path.{_≡_, sym, ap, subst, _∙_}
 use mathlib.Core.Bool.{Bool, true, false, cond}
 use Prim.Native.Nat.{ℕ, zero, suc, _+_, _*_, _-_, _^_, _≤_, _<_}

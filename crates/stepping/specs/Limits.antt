@@ -1,19 +1,19 @@
--- Document 01's numbers for the stepping arithmetic, each named once. Definitions only. Assumes nothing.
+-- The specification's numbers for the stepping arithmetic, each named once. Definitions only. Assumes nothing.
 use Prim.Native.Nat.{ℕ}
 
--- "The model and its runs": "A matrix entry M stands for M/65,536."
+-- Model 3: what a stored matrix entry is counted in.
 abbrev pub matrixUnit : ℕ
 matrixUnit = 65536
 
--- "The recurrence": "Working directions count in units of 1/1,048,576."
+-- Recurrence 1: what working directions are counted in.
 abbrev pub directionUnit : ℕ
 directionUnit = 1048576
 
--- "The recurrence": growth is a sum that exceeds 1,073,741,824.
+-- Recurrence 7: a growth sum above this is growth.
 abbrev pub growthLimit : ℕ
 growthLimit = 1073741824
 
--- "Limits": "Matrix entries -131,072 to 131,072."
+-- Limits 3: the largest magnitude of a stored matrix entry.
 abbrev pub entryLimit : ℕ
 entryLimit = 131072
 

@@ -8,7 +8,7 @@ ghost use Rattle.stepping.specs.Limits.{matrixUnit, growthLimit};
 ghost use Rattle.stepping.specs.Recurrence.{errorSum};
 ghost use Rattle.stepping.specs.Inner.{Bounded, BoundedErrors, Advanced};
 
-// N of column i: the sum over p of M[row p, column i] × r[p].
+// Recurrence 3. N of column i.
 pub(crate) fn product_sum(matrix: &[i32; 36], r: &[i64; 6], i: usize) -> i64
     requires { ⌜ (i < 6) × Bounded growthLimit (now matrix) (now r) ⌝ }
     ensures { λ s. ⌜ s ≡ transposed 6 (matrixOf (now (matrix .entry))) (vector (now (r .entry))) i ⌝ }
@@ -22,7 +22,7 @@ pub(crate) fn product_sum(matrix: &[i32; 36], r: &[i64; 6], i: usize) -> i64
     sum
 }
 
-// The sum over p of |M[row p, column i]| × e[p].
+// Recurrence 5. The errors by the magnitudes of column i, before they are divided.
 pub(crate) fn error_sum(matrix: &[i32; 36], e: &[i64; 6], i: usize) -> u64
     requires { ⌜ (i < 6) × BoundedErrors (now matrix) (now e) ⌝ }
     ensures { λ s. ⌜ s ≡ errorSum 6 (matrixOf (now (matrix .entry))) (magnitudes (now (e .entry))) i ⌝ }
@@ -36,7 +36,7 @@ pub(crate) fn error_sum(matrix: &[i32; 36], e: &[i64; 6], i: usize) -> u64
     sum
 }
 
-// The next e of column i, whose N is `sum`.
+// Recurrence 5. The next e of column i, whose N is `sum`.
 fn column_error(matrix: &[i32; 36], e: &[i64; 6], i: usize, sum: i64) -> i64
     requires { ⌜ (i < 6) × BoundedErrors (now matrix) (now e) ⌝ }
     ensures { λ x. ⌜ x ≡ pos (ceilDivℕ (errorSum 6 (matrixOf (now (matrix .entry))) (magnitudes (now (e .entry))) i) matrixUnit + fraction sum matrixUnit) ⌝ }

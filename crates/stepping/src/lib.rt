@@ -1,5 +1,5 @@
-// The stepping arithmetic of document 01, "The recurrence": the first working direction of a direction, one step of it
-// with its errors, the growth sum, the spare figure and the rounding of a step; and the test of a matrix.
+// The stepping arithmetic, Recurrence 1 to 8: the first working direction of a direction, one step of it with its errors, the growth
+// sum, the spare figure and the rounding of a step; and the test of a matrix. It stands alone (Forms 6).
 //
 // No public function has a `requires`. A working direction is six numbers r in units of 1/1,048,576 with six errors e;
 // what lies beyond the n coordinates is zero. A refusal is number 11, and leaves r and e as they were.
@@ -22,7 +22,7 @@ pub enum Spare {
     NoSpare,
 }
 
-// The first working direction of `direction`: r(0) and e(0).
+// Routines 7. The first working direction of `direction`: r(0) and e(0).
 pub fn first(direction: &[i32; 6], r: &mut [i64; 6], e: &mut [i64; 6])
     ensures { λ _. ⌜ First (now (direction .entry)) (now (r .exit)) (now (e .exit)) ⌝ }
 {
@@ -36,8 +36,8 @@ pub fn first(direction: &[i32; 6], r: &mut [i64; 6], e: &mut [i64; 6])
     *e = [0i64; 6];
 }
 
-// The growth sum of r and e: the largest |r[i]| + e[i]. Number 11 for n outside 1 to 6, a nonzero value beyond n, an e below 0,
-// or a growth sum above 1,073,741,824.
+// Routines 9. The growth sum of r and e, the largest |r[i]| + e[i]. Refusals 11: n is not 1 to 6, a value beyond n is not zero, an e
+// is negative, or the sum passes 1,073,741,824.
 pub fn growth(n: usize, r: &[i64; 6], e: &[i64; 6]) -> Stepped
     ensures { λ a. ⌜ Grows n (now (r .entry)) (now (e .entry)) a ⌝ }
 {
@@ -62,7 +62,7 @@ pub fn growth(n: usize, r: &[i64; 6], e: &[i64; 6]) -> Stepped
     Stepped::Sum(sum)
 }
 
-// The growth sum of an answer; 0 for a refusal.
+// Routines 9. The growth sum of an answer; 0 for a refusal.
 pub fn sum_of(answer: Stepped) -> u64
     ensures { λ s. ⌜ s ≡ sumOf answer ⌝ }
 {
@@ -72,7 +72,7 @@ pub fn sum_of(answer: Stepped) -> u64
     }
 }
 
-// Each entry of the n by n matrix is within its limit, and the others are zero. At n = 6 there are no others.
+// Routines 6. Each entry of the n by n matrix is within its limit, and the others are zero. At n = 6 there are no others.
 pub fn matrix_ok(n: usize, matrix: &[i32; 36]) -> bool
     ensures { λ b. ⌜ b ≡ matrixOk n (now (matrix .entry)) ⌝ }
 {
@@ -85,8 +85,8 @@ pub fn matrix_ok(n: usize, matrix: &[i32; 36]) -> bool
     refusals::zero_around(n, matrix)
 }
 
-// One step: r and e of the next step by the transpose of the matrix, and the growth sum of what it left, whatever it is.
-// Number 11, with r and e as they were, where `growth` refuses r and e, or for a matrix entry beyond its limit or a nonzero one
+// Routines 8. One step: r and e of the next step by the transpose of the matrix, and the growth sum of what it left, whatever it is.
+// Refusals 11, with r and e as they were, where `growth` refuses r and e, or for a matrix entry beyond its limit or a nonzero one
 // beyond n.
 pub fn step(n: usize, matrix: &[i32; 36], r: &mut [i64; 6], e: &mut [i64; 6]) -> Stepped
     ensures { λ a. ⌜ Steps n (now (matrix .entry)) (now (r .entry)) (now (e .entry)) a (now (r .exit)) (now (e .exit)) ⌝ }
@@ -101,7 +101,7 @@ pub fn step(n: usize, matrix: &[i32; 36], r: &mut [i64; 6], e: &mut [i64; 6]) ->
     refusals::largest_sum(r, e)
 }
 
-// The spare figure of a largest sum from 1 to 1,073,741,824; number 11 for any other.
+// Routines 9. The spare figure of a largest sum from 1 to 1,073,741,824; number 11 for any other.
 pub fn spare_bits(largest: u64) -> Spare
     ensures { λ a. ⌜ Spares largest a ⌝ }
 {

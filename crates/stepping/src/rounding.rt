@@ -7,8 +7,7 @@ pub struct Rounded {
     pub slack: i64,
 }
 
-// The bound is the raw bound / 1,048,576 rounded up. Its slack is the raw slack / 1,048,576 rounded up, plus 1 where the raw
-// bound isn't a multiple.
+// Routines 10, by Recurrence 13 and 14: both over 1,048,576, rounded up, and a slack of 1 more for a bound that was rounded.
 pub fn bound_and_slack(raw: i64, raw_slack: u64) -> Rounded
     ensures { λ a. ⌜ Rounds raw «raw_slack» (a .bound) (a .slack) ⌝ }
 {

@@ -1,4 +1,4 @@
--- A text written into a lent buffer, and what a function that writes one leaves and answers. Definitions only.
+-- Routines 17: a text written into a lent buffer, and what a function that writes one leaves and answers. Definitions only.
 -- Assumes nothing.
 use mathlib.Core.Path.{_≡_}
 use mathlib.Core.Bool.{Bool, true, false}

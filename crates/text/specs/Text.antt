@@ -1,5 +1,4 @@
--- Document 01, "Figures to test against", of the listing: "Each line ends in a line feed; numbers are decimal." Words, numbers and
--- lines as lists of bytes. Definitions only. Assumes nothing.
+-- Listing 2: words, numbers and lines as lists of bytes. Definitions only. Assumes nothing.
 use mathlib.Core.Bool.{cond}
 use mathlib.Core.List.{List, [], _∷_, _++_}
 use Prim.Native.Nat.{ℕ, zero, suc, _+_, _/_, _%_}
@@ -23,16 +22,16 @@ abbrev pub decimalFor : ℕ → ℕ → List ℕ
 decimalFor zero n = []
 decimalFor (suc places) n = cond (ltb n 10) (digit n ∷ []) (decimalFor places (n / 10) ++ (digit (n % 10) ∷ []))
 
--- "numbers are decimal": no number of 64 bits has more than twenty digits.
+-- Listing 2: a number in decimal. None of 64 bits has more than twenty digits.
 unfoldable pub decimal : ℕ → List ℕ
 decimal n = decimalFor 20 n
 
--- A whole number that may be below 0.
+-- Listing 2: a whole number that may be below 0.
 abbrev pub signedDecimal : ℤ → List ℕ
 signedDecimal (pos n) = decimal n
 signedDecimal (negsuc n) = word "-" ++ decimal (suc n)
 
--- Two words with a number behind each: "Each line ends in a line feed".
+-- Listing 2: a line of two words with a number behind each, and its line feed.
 abbrev pub line : List ℕ → ℕ → List ℕ → ℕ → List ℕ
 line first a second b = first ++ decimal a ++ second ++ decimal b ++ word "\n"
 

@@ -1,5 +1,5 @@
-// Text in a lent buffer. Each function writes from index `at` on and answers the index behind what it wrote. Where there might be
-// too few bytes from `at` on, it writes nothing and answers `at`.
+// Text in a lent buffer (Routines 17). Each function writes from index `at` on and answers the index behind what it wrote. Where
+// there might be too few bytes from `at` on, it writes nothing and answers `at`.
 //
 // No public function has a `requires`.
 ghost use mathlib.Core.Path.{_≡_};
@@ -18,7 +18,7 @@ fn full(size: usize, at: usize, room: usize) -> bool
     size - at < room
 }
 
-// The bytes of a word, where there is room for them.
+// Routines 17. The bytes of a word, where there is room for them.
 pub fn put(out: &mut [u8], at: usize, word: &[u8]) -> usize
     ensures { λ r. ⌜ Puts (length (now (word .entry))) at (now (word .entry)) (now (out .entry)) (now (out .exit)) r ⌝ }
 {
@@ -49,7 +49,7 @@ fn places(n: u64) -> usize
     k
 }
 
-// n in decimal, from its last pair of digits to its first, where there is room for twenty digits.
+// Routines 17. n in decimal, from its last pair of digits to its first, where there is room for twenty digits.
 pub fn put_decimal(out: &mut [u8], at: usize, n: u64) -> usize
     ensures { λ r. ⌜ Puts 20 at (decimal n) (now (out .entry)) (now (out .exit)) r ⌝ }
 {
@@ -75,7 +75,7 @@ pub fn put_decimal(out: &mut [u8], at: usize, n: u64) -> usize
     end
 }
 
-// x in decimal, with a minus sign below 0, where there is room for a sign and twenty digits.
+// Routines 17. x in decimal, with a minus sign below 0, where there is room for a sign and twenty digits.
 pub fn put_signed(out: &mut [u8], at: usize, x: i64) -> usize
     ensures { λ r. ⌜ Puts 21 at (signedDecimal x) (now (out .entry)) (now (out .exit)) r ⌝ }
 {
@@ -89,7 +89,7 @@ pub fn put_signed(out: &mut [u8], at: usize, x: i64) -> usize
     put_decimal(out, at, arrays::magnitude(x))
 }
 
-// A line of two words with a number behind each, where there is room for twenty digits of each number.
+// Routines 17. A line of two words with a number behind each, where there is room for twenty digits of each number.
 pub fn put_line(out: &mut [u8], at: usize, first: &[u8], a: u64, second: &[u8], b: u64) -> usize
     ensures { λ r. ⌜ Puts (length (now (first .entry)) + 20 + length (now (second .entry)) + 20 + 1) at (line (now (first .entry)) a (now (second .entry)) b) (now (out .entry)) (now (out .exit)) r ⌝ }
 {

@@ -124,7 +124,7 @@ module _ (m : Model) (facts : ModelFacts m) (d : ℕ) (inside : d < m .direction
   pub largest-least : 1 ≤ maxℕ (suc (m .steps)) (sumAt m d)
   largest-least = le-trans (lit≤ tt) largest-unit
 
-  -- "it is 0 to 10"
+  -- Recurrence 9.
   pub spare-most : m .steps < growthStep m d → spareFigure m d ≤ 10
   spare-most calm = elim (decLt 10 (spareFigure m d)) [ yes l ↦ absurd (beyond (spareFigure m d) (maxℕ (suc (m .steps)) (sumAt m d)) (pow-mono l) (spare-is (maxℕ (suc (m .steps)) (sumAt m d)) largest-least (largest-most calm) .holds) largest-unit) | no f ↦ omega (arith, f) ]
     where

@@ -18,7 +18,7 @@ fn times_add(sum: i64, a: i64, b: i32) -> i64
     sum + a * (b as i64)
 }
 
-// The upper corner where r is positive, else the lower.
+// Sets 10. The corner that counts: the upper one for an r above 0.
 fn corner(r: i64, low: i32, high: i32) -> i32
     ensures { λ c. ⌜ c ≡ cond (ltZ (pos 0) r) high low ⌝ }
 {

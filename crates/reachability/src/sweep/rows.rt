@@ -123,8 +123,8 @@ pub(crate) struct Filled {
     pub(crate) largest: u64,
 }
 
-// Both rows for the steps before growth. The arrays are those of the model, r and e the first working direction. Each step is passed 6 for n: it does the same, since what lies beyond n is zero, and has
-// no zeros to test.
+// Both rows for the steps before growth. The arrays are those of the model, r and e the first working direction. Each step is passed 6
+// for n: it does the same, since what lies beyond n is zero, and has no zeros to test.
 fn fill_rows(
     model: Model,
     direction: usize,

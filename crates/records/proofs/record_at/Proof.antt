@@ -53,7 +53,7 @@ module _ (c : tie.After-known-told) where
   known : bodyLength (getD (now file) at 0) ≡ Bytes n
   known = sym (c .before .before .before .body-length .ensures) ∙ c .before .length .given .1
 
--- fewer bytes left than the body needs
+-- the file's end cuts the body off
 returns-3 : tie.Need-returns-3
 returns-3 c =
     let b = c .before .before in
