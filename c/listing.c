@@ -1,14 +1,14 @@
-/* Writes the listing of the model file that its argument names, as document 01 lays the program `envelope` out, by calls of
+/* Writes the listing of the model file that its argument names, as the program `envelope` does (docs/SPECIFICATION.md), by calls of
  * the C interface alone: directions and guards are asked for in order until one isn't there. With --whole in front of the name the
  * text comes from one call.
- * Returns 1 where the file can't be read or an answer comes that document 01 doesn't list. */
+ * Returns 1 where the file can't be read or an answer comes that the specification doesn't list. */
 #include "pepperscarp.h"
 
 #include <inttypes.h>
 #include <stdio.h>
 #include <string.h>
 
-/* "The program reads at most 2,048 bytes". */
+/* As many bytes as the program reads at most. */
 static uint8_t file[2048];
 static size_t length;
 
@@ -17,7 +17,7 @@ static int64_t slacks[PEPPERSCARP_STEPS_MOST + 1];
 
 static uint8_t text[PEPPERSCARP_LISTING_ROOM];
 
-/* K, by the head: "a head that says 0 means 60". A file too short to say is refused whatever the lists are. */
+/* K, by the head, where 0 stands for 60. A file too short to say is refused whatever the lists are. */
 static size_t steps(void)
 {
     size_t said = length < 4 ? 1 : file[2] + 256u * file[3];

@@ -1,12 +1,26 @@
-/* Pepperscarp: envelopes of stepped linear models, from C and C++.
+/* Pepperscarp: envelopes of stepped linear models, from C and C++. docs/SPECIFICATION.md says what the figures are.
  *
- * Link libpepperscarp.a. It needs nothing but memcpy and memset of the C library, keeps nothing between calls and may be called
- * from several threads at once.
+ * Answers. Every call is answered, whatever the values. A refusal by step, sweep or judge has a number, 1 to 14 (the
+ * specification's "Refusals" says what each means), and leaves the lent memory as it was.
  *
- * Every call is answered, whatever the values. A refusal by step, sweep or judge has a number, 1 to 14 (README.md, "The model
- * file", says what each means), and leaves the lent memory as it was.
- * Pointers must not be null, not even for a list of no elements; each must lead to as many elements as its length says; and the
- * memory of a list that is written must overlap nothing else that the same call is lent.
+ * Memory. Pointers must not be null, not even for a list of no elements; each must lead to as many elements as its length says;
+ * and the memory of a list that is written must overlap nothing else that the same call is lent. Lists of int32_t stand at a
+ * multiple of 4 bytes and lists of int64_t at a multiple of 8; `file` and `out` may stand anywhere.
+ *
+ * Threads. The functions keep no state: the archive has no memory of its own that could be written, and a call touches what it is
+ * lent and its stack. Any number of threads may call at once, and a call may be made from a signal handler or an interrupt while
+ * another is under way, where there is stack for both. Calls under way together may read the same memory; what one of them writes
+ * the others must not be lent.
+ *
+ * Linking. libpepperscarp.a is for x86-64 and the System V calling convention, in ELF: Linux, not Windows. It needs memcpy and
+ * memset and nothing else: no start-up, no allocation, no system call. The stack pointer is a multiple of 16 at the call, as the
+ * convention has it. The code stores nothing below the stack pointer (no red zone). It uses xmm registers (SSE2) for moves and
+ * whole numbers; a kernel has to save these around a call. It does no floating-point arithmetic.
+ *
+ * Another processor. There is no archive for one, and `rt staticlib` makes none. Either take finished tables along: list or sweep
+ * the models on an x86-64 computer. Or run tools/exact.py there, which is slow, and tested and not proved. Or write the step anew
+ * from the specification's "Recurrence" and test it against pepperscarp_step on many values. The proofs are about the source of
+ * this archive and say nothing of another version.
  */
 #ifndef PEPPERSCARP_H
 #define PEPPERSCARP_H
@@ -29,21 +43,31 @@ extern "C" {
 #define PEPPERSCARP_FINISHED 0u
 #define PEPPERSCARP_INVALID 11u      /* a step's values break a rule */
 #define PEPPERSCARP_NOT_THERE 12u    /* no such direction, or no such guard */
-#define PEPPERSCARP_WRONG_LENGTH 13u /* a lent list isn't K + 1 long */
+#define PEPPERSCARP_WRONG_LENGTH 13u /* a list has other than K + 1 elements */
 #define PEPPERSCARP_GROWTH 14u       /* growth; the figure is the first such step */
 
 /* Verdicts of a judge that finished. */
 #define PEPPERSCARP_HIT 1u     /* some run reaches the level at the step that the figure names, the first that is certain */
-#define PEPPERSCARP_UNKNOWN 2u /* not settled; the figure is the first step whose bound is at or above the level */
+#define PEPPERSCARP_UNKNOWN 2u /* not settled; the figure is the first step whose bound reaches the level */
 #define PEPPERSCARP_CLEAR 3u   /* no run reaches the level at any step */
+
+/* The most stack that a call takes, in bytes, its return address among them. Sweep, judge and listing have 2,000 bytes of it as
+ * room for memcpy and memset; their binding by the dynamic linker at the first call fits too (measured with glibc). Frames are
+ * touched page by page from above, so that a guard page of 4,096 bytes stops a call that has too little stack. c/test measures the
+ * four, and refuses a figure that is below the need or above twice the need. */
+#define PEPPERSCARP_STEP_STACK 512
+#define PEPPERSCARP_SWEEP_STACK 24576
+#define PEPPERSCARP_JUDGE_STACK 24576
+#define PEPPERSCARP_LISTING_STACK 32768
 
 /* The most steps that a model has. Lists of one more suffice for every model, lent with a length of K + 1. */
 #define PEPPERSCARP_STEPS_MOST 256
 
 /* One step of a working direction. Takes the number n of coordinates, 1 to 6; the matrix in six rows of six, in units of
- * 1/65,536; the direction r in units of 1/1,048,576 and its errors e, zero beyond n.
+ * 1/65,536; the direction r and its errors e, both in units of 1/1,048,576, zero beyond n. A direction d starts with
+ * r[i] = 1,048,576 * d[i] and e[i] = 0.
  * Number 0: r and e of the next step stand in place of the old ones, and the figure is their growth sum, the largest
- * |r[i]| + e[i].
+ * |r[i]| + e[i]. A figure above 1,073,741,824 is growth: a sweep refuses the direction there, and the next call answers 11.
  * Number 11: for n outside 1 to 6, a matrix entry outside -131,072 to 131,072, a value beyond n that isn't zero, an e below 0, or
  * a growth sum of r and e above 1,073,741,824. */
 uint64_t pepperscarp_step(size_t n, const int32_t matrix[36], int64_t r[6], int64_t e[6]);
@@ -53,8 +77,8 @@ uint64_t pepperscarp_step(size_t n, const int32_t matrix[36], int64_t r[6], int6
  * say 0.
  * Number 0: the lists have the bound and the slack of steps 0 to K, and the figure is the spare figure, 0 to 10. No run of the
  * model passes a bound, and some run comes within its slack.
- * Numbers 1 to 10: the file is refused. 12: it has no such direction. 13: a list isn't K + 1 long. 14: growth. Number 11 never
- * comes: the model of a file that is read breaks no rule. */
+ * Numbers 1 to 10: the file is refused. 12: it has no such direction. 13: a list has other than K + 1 elements. 14: growth. The
+ * first that applies is answered, in this order. 11 never comes: the model of a file that is read breaks no rule. */
 uint64_t pepperscarp_sweep(const uint8_t *file, size_t file_length, size_t direction, int64_t *bounds, size_t bounds_length,
                            int64_t *slacks, size_t slacks_length);
 

@@ -1,7 +1,7 @@
-//! The recurrence of document 01 in f64 and without error terms: what a program gives that only estimates. Its bounds are not safe.
-//! It takes boxes and vertex lists.
+//! The specification's recurrence in f64 and without error terms: what a program gives that only estimates. Its bounds are not
+//! safe. It takes boxes and vertex lists.
 
-use support::document::{Form, Model, Set};
+use support::specification::{Form, Model, Set};
 
 fn support(set: &Set, r: &[f64; 6]) -> f64 {
     if set.form == Form::Box {

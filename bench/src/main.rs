@@ -16,8 +16,8 @@ use models::{calm, wordy, Sets};
 use pepperscarp::{Refusal, LISTING_ROOM};
 use std::hint::black_box;
 use std::process::exit;
-use support::document::Model;
 use support::records::{file, of_model};
+use support::specification::Model;
 use support::{calls, listing};
 
 const SEED: u64 = 20_260_701;

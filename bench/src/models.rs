@@ -1,6 +1,6 @@
 //! The models that are measured.
 
-use support::document::{Form, Model, Set, Six};
+use support::specification::{Form, Model, Set, Six};
 
 /// Which sets a measured model has.
 #[derive(Clone, Copy, PartialEq, Eq, Debug)]

@@ -1,8 +1,8 @@
-//! Plain Rust: the recurrence as one writes it at first, from document 01 (the crate `support`), in i64.
+//! Plain Rust: the recurrence as one writes it at first, from the specification (the crate `support`), in i64.
 
 use pepperscarp::Refusal;
-use support::document::Model;
 use support::recurrence;
+use support::specification::Model;
 
 /// Bounds and slacks of a direction for steps 0 to K, and the spare figure. On a refusal both lists keep every element.
 pub fn sweep(model: &Model, direction: usize, bounds: &mut [i64], slacks: &mut [i64]) -> Result<u32, Refusal> {

@@ -1,9 +1,9 @@
-//! Tuned Rust of the recurrence of document 01, for speed alone: flat arrays by reference, every loop to the constant 6, magnitudes
-//! and reaches taken once for a sweep, no test inside a step but that of growth. It is made for a model that has been
+//! Tuned Rust of the specification's recurrence, for speed alone: flat arrays by reference, every loop to the constant 6,
+//! magnitudes and reaches taken once for a sweep, no test inside a step but that of growth. It is made for a model that has been
 //! tested, with boxes or vertex lists.
 
 use pepperscarp::Refusal;
-use support::document::{Form, Model, Set};
+use support::specification::{Form, Model, Set};
 
 const GROWTH_LIMIT: u64 = 1_073_741_824;
 

@@ -1,5 +1,5 @@
-//! Prints the directions and guards of a model file in words: `cargo run --example sample [FILE]`. Without a file it takes document
-//! 01's sample, examples/verdicts.bin of the repository.
+//! Prints the directions and guards of a model file in words: `cargo run --example sample [FILE]`. Without a file it takes the
+//! specification's sample (Listing 8), examples/verdicts.bin of the repository.
 
 use pepperscarp::{judge, list_length, sweep, Refusal, Verdict};
 use std::process::ExitCode;

@@ -1,11 +1,13 @@
-//! Line-by-line envelopes of stepped printer models.
+//! Proved envelopes of linear models, step by step.
 //!
 //! Safe bindings of Pepperscarp's C interface. The routines behind it are proved: [`sweep`] leaves exactly the bounds and slacks
-//! of document 01's recurrence, [`judge`] answers exactly its verdicts, [`listing`] writes exactly its text, and every file, number and
-//! list length gets its reply. This crate adds the types and no arithmetic. It is tested against a version of document 01 in Rust, and not proved.
+//! of the specification (docs/SPECIFICATION.md), [`judge`] answers exactly its verdicts, [`listing`] writes exactly its text, and
+//! every file, number and list length gets its reply. This crate adds the types and no arithmetic. It is tested against a version of
+//! the specification in Rust, and not proved.
 //!
 //! A model is the bytes of a model file. What a call lends is filled to the end, or on a refusal is exactly as it was. Nothing is
-//! kept from one call to the next, and calls from several threads do not disturb each other.
+//! kept from one call to the next, and calls from several threads do not disturb each other. A call takes at most 32,768 bytes of
+//! stack; `c/pepperscarp.h` tells what each function takes.
 //!
 //! ```
 //! // One coordinate, 2 steps, the matrix 1, initial [2,5], input [-1,1], direction 3, a guard on it at level 21.
@@ -37,7 +39,7 @@ pub const LONGEST_LIST: usize = 257;
 /// The room that is enough for every listing, in bytes.
 pub const LISTING_ROOM: usize = 270_000;
 
-/// What is said of a guard. A guard is reached where direction · state is at least its level.
+/// What is said of a guard (Verdicts 2 to 4). A value, direction · state, reaches its level by being at it or above (Verdicts 1).
 #[derive(Clone, Copy, PartialEq, Eq, Hash, Debug)]
 pub enum Verdict {
     /// Some run reaches the level at this step, the first for which that is certain. A run may reach it earlier.
@@ -51,25 +53,25 @@ pub enum Verdict {
 /// Why a call was refused. What it was lent is as it was.
 #[derive(Clone, Copy, PartialEq, Eq, Hash, Debug)]
 pub enum Refusal {
-    /// The bytes are no model: document 01's number, 1 to 10, and the offset that it is told at.
+    /// The bytes are no model: the number that says why (Refusals 1 to 10), and the offset that goes with it (Reading 2).
     File {
         /// The number, 1 to 10.
         number: u8,
-        /// The offset of the record at fault; for 10 of the first byte after the end; the length where no byte is left.
+        /// Where the record at fault begins; for 10, where the bytes behind the end begin; the length where no byte is left.
         offset: usize,
     },
     /// Number 11: a value breaks a rule. Only [`step`] answers it, since a file that was read breaks none.
     Invalid,
     /// Number 12: no such direction, or no such guard.
     NoSuchNumber,
-    /// Number 13: a lent list isn't K + 1 long.
+    /// Number 13: a lent list has fewer or more than K + 1 elements.
     WrongLength,
     /// Number 14: the working figures of the direction pass their limit, first at this step.
     Growth(usize),
 }
 
 impl Refusal {
-    /// Document 01's number of the refusal.
+    /// The number of the refusal, 1 to 14, by the clauses "Refusals" of the specification.
     pub fn number(self) -> u8 {
         match self {
             Refusal::File { number, .. } => number,
@@ -88,9 +90,9 @@ fn reason(number: u8) -> &'static str {
         2 => "a kind is unknown",
         3 => "a record of this kind may not stand here",
         4 => "n or the steps are out of range",
-        5 => "a row is out of turn, or an entry beyond its limit",
+        5 => "a row is out of turn, or one of its entries too large",
         6 => "a set reaches too far, or its upper corner is below its lower",
-        7 => "a direction's entry is beyond its limit, or all are zero",
+        7 => "an entry of a direction is too large, or all are zero",
         8 => "a guard is on a direction that is not there",
         9 => "there is one generator, vertex, direction or guard too many",
         10 => "bytes follow the end",
@@ -104,7 +106,7 @@ impl fmt::Display for Refusal {
             Refusal::File { number, offset } => write!(f, "refused {number} at {offset}: {}", reason(*number)),
             Refusal::Invalid => write!(f, "refused 11: a value breaks a rule"),
             Refusal::NoSuchNumber => write!(f, "refused 12: no such direction or guard"),
-            Refusal::WrongLength => write!(f, "refused 13: a list isn't K + 1 long"),
+            Refusal::WrongLength => write!(f, "refused 13: a list has other than K + 1 elements"),
             Refusal::Growth(step) => write!(f, "refused 14: growth at step {step}"),
         }
     }

@@ -1,11 +1,12 @@
 //! What the Rust tests and the measurements share.
 //!
-//! `document` and `recurrence` are document 01 in Rust, written from the document alone: the reader, and the sweep, the verdicts and
-//! one step. `records` makes files, `listing` has the text of a listing, and `calls` asks the interface for what a listing tells.
+//! `specification` and `recurrence` are the specification in Rust, written from its words alone: the reader, and the sweep, the
+//! verdicts and one step. `records` makes files, `listing` has the text of a listing, and `calls` asks the interface for what a
+//! listing tells.
 //! Only `calls` calls the proved routines; from the bindings the others take the types of an answer, `Verdict` and `Refusal`.
 
 pub mod calls;
-pub mod document;
 pub mod listing;
 pub mod records;
 pub mod recurrence;
+pub mod specification;

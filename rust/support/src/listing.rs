@@ -1,7 +1,7 @@
-//! The text of a listing: what the program writes for a file.
+//! The text of a listing: what the program writes for a file (Listing 1 to 7).
 
-use crate::document;
 use crate::recurrence::{sweep, verdict, Envelope, Whole};
+use crate::specification;
 use pepperscarp::{Refusal, Verdict};
 use std::fmt;
 
@@ -13,9 +13,9 @@ pub struct Listing<T> {
     pub guards: Vec<Result<Verdict, usize>>,
 }
 
-/// The listing of a file by document 01 alone, or why the file is refused.
+/// The listing of a file by the specification alone, or why the file is refused.
 pub fn of_file<T: Whole>(file: &[u8]) -> Result<Listing<T>, Refusal> {
-    let model = document::read(file)?;
+    let model = specification::read(file)?;
     let directions: Vec<_> = model.directions.iter().map(|direction| sweep(&model, direction)).collect();
     let judge = |(direction, level): &(usize, i64)| match &directions[*direction] {
         Ok(envelope) => Ok(verdict(envelope, *level)),

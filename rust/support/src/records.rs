@@ -1,6 +1,6 @@
 //! The records of a model file: their lengths, makers of each kind, and the records of a model.
 
-use crate::document::{Form, Model, Set};
+use crate::specification::{Form, Model, Set};
 
 /// One record: its kind and its body.
 #[derive(Clone, Debug)]
@@ -9,7 +9,7 @@ pub struct Record {
     pub body: Vec<u8>,
 }
 
-/// "a body whose length the kind alone fixes"; `None` for an unknown kind.
+/// How many bytes the body of a kind has (File 3); `None` for an unknown kind.
 pub fn body_length(kind: u8) -> Option<usize> {
     match kind {
         0x01 => Some(3),

@@ -1,7 +1,7 @@
-//! "The three sets" and "The recurrence" of document 01 in plain Rust, with a function for each sentence; the verdicts, and one step of
-//! stored values. Written once, over the whole numbers to work in: tests take i128, in which nothing can wrap, and measurements i64.
+//! "Sets", "Recurrence" and "Verdicts" of the specification in plain Rust, with a function for each figure, and one step of stored
+//! values. Written once, over the whole numbers to work in: tests take i128, in which nothing can wrap, and measurements i64.
 
-use crate::document::{Form, Model, Set, Six, ENTRY_LIMIT};
+use crate::specification::{Form, Model, Set, Six, ENTRY_LIMIT};
 use pepperscarp::Verdict;
 use std::ops::{Add, AddAssign, Mul, Neg, Sub};
 
@@ -62,7 +62,7 @@ fn dot<T: Whole>(n: usize, r: &[T; 6], point: &Six) -> T {
     sum
 }
 
-/// "the largest r · point over the set".
+/// The support of a set at r (Sets 9 to 12).
 fn support<T: Whole>(n: usize, set: &Set, r: &[T; 6]) -> T {
     let mut dots = set.points.iter().map(|point| dot(n, r, point));
     match set.form {
@@ -83,7 +83,7 @@ fn support<T: Whole>(n: usize, set: &Set, r: &[T; 6]) -> T {
     }
 }
 
-/// "The *reach* of a set in coordinate i is its largest |coordinate i|".
+/// How far a set reaches in coordinate i (Sets 13 to 15).
 pub fn reach<T: Whole>(set: &Set, i: usize) -> T {
     let sizes = set.points.iter().map(|point| T::from(point[i]).abs());
     match set.form {
@@ -100,7 +100,7 @@ fn reaches<T: Whole>(n: usize, set: &Set) -> [T; 6] {
     all
 }
 
-/// e · reach.
+/// The error term of a set: e · reach (Recurrence 10).
 fn errors<T: Whole>(n: usize, e: &[T; 6], reach: &[T; 6]) -> T {
     let mut sum = zero();
     for i in 0..n {
@@ -109,18 +109,19 @@ fn errors<T: Whole>(n: usize, e: &[T; 6], reach: &[T; 6]) -> T {
     sum
 }
 
-/// r(j) and e(j).
+/// r(j) and e(j), the working direction and its errors.
 #[derive(Clone, PartialEq, Eq, Debug)]
 pub struct Working<T> {
     pub r: [T; 6],
     pub e: [T; 6],
 }
 
+/// r(0) and e(0) (Recurrence 2).
 fn first<T: Whole>(direction: &Six) -> Working<T> {
     Working { r: direction.map(|d| T::from(DIRECTION_UNIT) * T::from(d)), e: [zero(); 6] }
 }
 
-/// One step, by the columns of the matrix.
+/// One step, by the columns of the matrix (Recurrence 3 to 5).
 fn next<T: Whole>(n: usize, matrix: &[Six; 6], working: &Working<T>) -> Working<T> {
     let mut next = Working { r: [zero(); 6], e: [zero(); 6] };
     for i in 0..n {
@@ -136,15 +137,17 @@ fn next<T: Whole>(n: usize, matrix: &[Six; 6], working: &Working<T>) -> Working<
     next
 }
 
+/// The growth sum (Recurrence 6).
 fn growth_sum<T: Whole>(n: usize, working: &Working<T>) -> T {
     (0..n).map(|i| working.r[i].abs() + working.e[i]).max().unwrap_or(zero())
 }
 
+/// Whether this growth sum is growth (Recurrence 7).
 fn grows<T: Whole>(sum: T) -> bool {
     sum > T::from(GROWTH_LIMIT)
 }
 
-/// "the largest h for which 2 to the h times the largest such sum .. doesn't exceed 1,073,741,824".
+/// The spare figure of the largest growth sum (Recurrence 8).
 fn spare<T: Whole>(largest: T) -> u32 {
     (0..=30).rev().find(|h| !grows(T::from(1i32 << h) * largest)).expect("nothing grows")
 }
@@ -157,7 +160,7 @@ pub struct Envelope<T> {
     pub slacks: Vec<T>,
 }
 
-/// The sweep of a direction, or the first step with growth.
+/// The sweep of a direction (Recurrence 11 to 14), or the first step with growth.
 pub fn sweep<T: Whole>(model: &Model, direction: &Six) -> Result<Envelope<T>, usize> {
     let (n, size) = (model.n, model.steps + 1);
     let initial_reach = reaches(n, &model.initial);
@@ -184,7 +187,7 @@ pub fn sweep<T: Whole>(model: &Model, direction: &Six) -> Result<Envelope<T>, us
     Ok(envelope)
 }
 
-/// The verdict on a level, by the first-step rules.
+/// The verdict on a level, by the first-step rules (Verdicts 1 to 4).
 pub fn verdict<T: Whole>(envelope: &Envelope<T>, level: i64) -> Verdict {
     let level = T::from(level);
     let certain = envelope.bounds.iter().zip(&envelope.slacks).position(|(bound, slack)| *bound - *slack >= level);
@@ -196,7 +199,7 @@ pub fn verdict<T: Whole>(envelope: &Envelope<T>, level: i64) -> Verdict {
     }
 }
 
-/// One step of any stored values, with the growth sum of what it leaves; `None` is number 11.
+/// One step of any stored values, with the growth sum of what it leaves (Routines 8); `None` is number 11.
 pub fn step(n: usize, matrix: &[i32; 36], r: &[i64; 6], e: &[i64; 6]) -> Option<(Working<i128>, i128)> {
     if !(1..=6).contains(&n) {
         return None;

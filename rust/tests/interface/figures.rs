@@ -1,10 +1,10 @@
-//! The figures of document 01, "Figures to test against", that the interface can show, and the listings in examples/.
+//! Figures 1 to 14 of the specification, as far as the interface shows them, its sample (Listing 8), and the listings in examples/.
 
 use crate::sweeps::compare_sweep;
 use pepperscarp::{judge, list_length, step, sweep, Refusal, Verdict, LISTING_ROOM};
 use std::path::Path;
 use support::records::{end, file, guard, head, numbers, row, Record};
-use support::{calls, document, listing};
+use support::{calls, listing, specification};
 
 /// A model of one coordinate with boxes.
 fn line(steps: u16, entry: i32, initial: [i32; 2], input: [i32; 2], direction: i32, levels: &[i64]) -> Vec<u8> {
@@ -146,7 +146,7 @@ fn the_calls_and_the_listing_give_the_text_of_every_example() {
             assert_eq!(listing::text(calls::listing(&bytes)), expected, "{}", path.display());
             let mut out = vec![0; LISTING_ROOM];
             assert_eq!(pepperscarp::listing(&bytes, &mut out), Some(expected.as_bytes()), "{}", path.display());
-            let model = document::read(&bytes).expect("a model");
+            let model = specification::read(&bytes).expect("a model");
             compare_sweep(&bytes, &model, 0);
             seen += 1;
         }

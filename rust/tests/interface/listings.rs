@@ -1,4 +1,4 @@
-//! Listings: the text is document 01's, whole, and no byte beside it changes.
+//! Listings: the text is the specification's, whole, and no byte beside it changes.
 
 use crate::makers::{damage_bytes, damage_records, model, Random};
 use pepperscarp::{listing, LISTING_ROOM};
@@ -15,7 +15,7 @@ fn room(length: usize) -> Vec<u8> {
     (0..length).map(sentinel).collect()
 }
 
-/// The listing of a file is the document's. `out` is room with sentinels, before and after.
+/// The listing of a file is the specification's. `out` is room with sentinels, before and after.
 fn compare(bytes: &[u8], out: &mut [u8]) {
     let expected = text(of_file::<i128>(bytes));
     let length = out.len();
@@ -27,7 +27,7 @@ fn compare(bytes: &[u8], out: &mut [u8]) {
 }
 
 #[test]
-fn listings_of_random_models_are_those_of_document_01() {
+fn listings_of_random_models_are_those_of_the_specification() {
     let mut random = Random::new(41);
     let mut out = room(LISTING_ROOM);
     for _ in 0..1_500 {
@@ -36,7 +36,7 @@ fn listings_of_random_models_are_those_of_document_01() {
 }
 
 #[test]
-fn listings_of_damaged_files_are_those_of_document_01() {
+fn listings_of_damaged_files_are_those_of_the_specification() {
     let mut random = Random::new(42);
     let mut out = room(LISTING_ROOM);
     for turn in 0..6_000 {

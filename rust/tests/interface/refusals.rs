@@ -1,12 +1,12 @@
-//! Refusals: the number, offset or step is document 01's, and no lent element changes.
+//! Refusals: the number, offset or step is the specification's, and no lent element changes.
 
 use crate::lent::Lent;
 use crate::makers::{damage_bytes, damage_records, model, open_model, Random};
 use crate::sweeps::{compare_judge, compare_sweep};
 use pepperscarp::{judge, sweep, Refusal};
-use support::document;
 use support::records::{body_length, end, file, guard, head, numbers, row, Record};
 use support::recurrence;
+use support::specification;
 
 /// Both calls refuse the file by this number at this offset, for any direction, guard and lengths, and touch nothing.
 fn assert_refused(bytes: &[u8], expected: Refusal, asked: usize, lengths: (usize, usize)) {
@@ -25,9 +25,9 @@ fn judge_as_unit(bytes: &[u8], guard: usize, bounds: &mut [i64], slacks: &mut [i
     judge(bytes, guard, bounds, slacks).map(|_| ())
 }
 
-/// The file's reply, whatever it is, is document 01's. The number by which it is refused, or 0.
+/// The file's reply, whatever it is, is the specification's. The number by which it is refused, or 0.
 fn compare_file(random: &mut Random, bytes: &[u8]) -> u8 {
-    match document::read(bytes) {
+    match specification::read(bytes) {
         Err(refusal) => {
             let length = random.pick(&[0, 1, 2, 4, 61, 257]);
             let asked = random.pick(&[0, 0, 1, 15, 16, usize::MAX]);
@@ -45,7 +45,7 @@ fn compare_file(random: &mut Random, bytes: &[u8]) -> u8 {
 }
 
 #[test]
-fn a_file_cut_anywhere_is_refused_as_document_01_says() {
+fn a_file_cut_anywhere_is_refused_as_the_specification_says() {
     let mut random = Random::new(11);
     for _ in 0..60 {
         let bytes = file(&model(&mut random));
@@ -56,7 +56,7 @@ fn a_file_cut_anywhere_is_refused_as_document_01_says() {
 }
 
 #[test]
-fn files_with_damaged_records_and_values_get_the_reply_of_document_01() {
+fn files_with_damaged_records_and_values_get_the_reply_of_the_specification() {
     let mut random = Random::new(12);
     let mut seen = [0; 11];
     for _ in 0..40_000 {
@@ -81,7 +81,7 @@ fn has_its_body(record: &Record) -> bool {
 }
 
 #[test]
-fn files_with_damaged_bytes_get_the_reply_of_document_01() {
+fn files_with_damaged_bytes_get_the_reply_of_the_specification() {
     let mut random = Random::new(13);
     let mut seen = [0; 11];
     for _ in 0..40_000 {
@@ -94,7 +94,7 @@ fn files_with_damaged_bytes_get_the_reply_of_document_01() {
 }
 
 #[test]
-fn bytes_that_were_never_a_model_get_the_reply_of_document_01() {
+fn bytes_that_were_never_a_model_get_the_reply_of_the_specification() {
     let mut random = Random::new(14);
     let kinds = [0x01, 0x02, 0x10, 0x11, 0x12, 0x13, 0x14, 0x20, 0x21, 0x24, 0x30, 0x40, 0xFF];
     for _ in 0..40_000 {
@@ -108,7 +108,7 @@ fn bytes_that_were_never_a_model_get_the_reply_of_document_01() {
 }
 
 #[test]
-fn any_kind_in_place_of_any_record_of_a_small_model_gets_the_reply_of_document_01() {
+fn any_kind_in_place_of_any_record_of_a_small_model_gets_the_reply_of_the_specification() {
     let mut random = Random::new(15);
     let records = small_model();
     for place in 0..records.len() {
@@ -142,7 +142,7 @@ fn a_direction_or_guard_that_is_not_there_is_refused_by_12_before_the_lengths_ar
     let mut random = Random::new(16);
     for _ in 0..500 {
         let bytes = file(&model(&mut random));
-        let model = document::read(&bytes).expect("a model");
+        let model = specification::read(&bytes).expect("a model");
         for beyond in [0, 1, 100, usize::MAX / 2] {
             for length in [model.steps + 1, 0, 3] {
                 let (mut bounds, mut slacks) = (Lent::new(length), Lent::new(model.steps + 1));
@@ -162,7 +162,7 @@ fn a_list_of_any_other_length_is_refused_by_13_before_growth_is_tested() {
     let mut growing = 0;
     for _ in 0..500 {
         let bytes = file(&model(&mut random));
-        let model = document::read(&bytes).expect("a model");
+        let model = specification::read(&bytes).expect("a model");
         let right = model.steps + 1;
         let grows = recurrence::sweep::<i128>(&model, &model.directions[0]).is_err();
         growing += usize::from(grows);
@@ -241,7 +241,7 @@ fn the_longest_file_is_accepted_and_a_byte_more_is_refused_by_10() {
     records.push(end());
     let mut bytes = file(&records);
     assert_eq!(bytes.len(), 1_521);
-    let model = document::read(&bytes).expect("a model");
+    let model = specification::read(&bytes).expect("a model");
     for number in 0..16 {
         compare_sweep(&bytes, &model, number);
         compare_judge(&bytes, &model, number).expect("calm");

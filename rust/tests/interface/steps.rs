@@ -1,4 +1,4 @@
-//! One step: what is left and answered is document 01's, and on 11 r and e are as they were.
+//! One step: what is left and answered is the specification's, and on 11 r and e are as they were.
 
 use crate::lent::Lent;
 use crate::makers::Random;
@@ -7,7 +7,7 @@ use support::recurrence;
 
 const GROWTH_LIMIT: i64 = 1_073_741_824;
 
-/// One step through the interface is the document's. Whether it was taken.
+/// One step through the interface is the specification's. Whether it was taken.
 fn compare(n: usize, matrix: &[i32; 36], r: &[i64; 6], e: &[i64; 6]) -> bool {
     let (mut r_lent, mut e_lent) = (Lent::with(r), Lent::with(e));
     let answer = {
@@ -35,7 +35,7 @@ fn compare(n: usize, matrix: &[i32; 36], r: &[i64; 6], e: &[i64; 6]) -> bool {
     }
 }
 
-/// A valid step: the growth sum of r and e is within the limit, sometimes exactly at it.
+/// A valid step: its growth sum is within the limit, sometimes exactly at it.
 fn valid(random: &mut Random) -> (usize, [i32; 36], [i64; 6], [i64; 6]) {
     let n = 1 + random.below(6);
     let most = random.pick(&[1, 1_000, 65_536, 131_072]);
@@ -55,7 +55,7 @@ fn valid(random: &mut Random) -> (usize, [i32; 36], [i64; 6], [i64; 6]) {
 }
 
 #[test]
-fn random_steps_are_those_of_document_01() {
+fn random_steps_are_those_of_the_specification() {
     let mut random = Random::new(31);
     for _ in 0..200_000 {
         let (n, matrix, r, e) = valid(&mut random);
@@ -102,7 +102,7 @@ fn steps_with_one_broken_rule_are_refused_by_11_and_change_nothing() {
 }
 
 #[test]
-fn steps_of_any_values_at_all_get_the_reply_of_document_01() {
+fn steps_of_any_values_at_all_get_the_reply_of_the_specification() {
     let mut random = Random::new(33);
     for _ in 0..100_000 {
         let n = random.below(9);

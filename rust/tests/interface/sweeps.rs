@@ -1,16 +1,16 @@
-//! Accepted models: every sweep and every verdict is document 01's.
+//! Accepted models: every sweep and every verdict is the specification's.
 
 use crate::lent::Lent;
 use crate::makers::{open_model, Random};
 use pepperscarp::{judge, list_length, sweep, Refusal, Verdict};
-use support::document::{self, Model};
 use support::records::{end, file, guard};
 use support::recurrence;
+use support::specification::{self, Model};
 
-/// What the document gives, in numbers that can't wrap.
+/// What the specification gives, in numbers that can't wrap.
 type Envelope = recurrence::Envelope<i128>;
 
-/// The sweep of one direction through the interface is the document's; the envelope, where there is one.
+/// The sweep of one direction through the interface is the specification's; the envelope, where there is one.
 pub fn compare_sweep(bytes: &[u8], model: &Model, direction: usize) -> Option<Envelope> {
     let (mut bounds, mut slacks) = (Lent::new(model.steps + 1), Lent::new(model.steps + 1));
     let answer = sweep(bytes, direction, bounds.part(), slacks.part());
@@ -18,7 +18,7 @@ pub fn compare_sweep(bytes: &[u8], model: &Model, direction: usize) -> Option<En
         .inspect(|envelope| assert_eq!(answer, Ok(envelope.spare)))
 }
 
-/// The judge of one guard through the interface is the document's.
+/// The judge of one guard through the interface is the specification's.
 pub fn compare_judge(bytes: &[u8], model: &Model, number: usize) -> Result<Verdict, Refusal> {
     let (mut bounds, mut slacks) = (Lent::new(model.steps + 1), Lent::new(model.steps + 1));
     let answer = judge(bytes, number, bounds.part(), slacks.part());
@@ -29,7 +29,7 @@ pub fn compare_judge(bytes: &[u8], model: &Model, number: usize) -> Result<Verdi
     answer
 }
 
-/// The lists are the document's sweep of the direction, or it grows, the answer says so and the lists are untouched.
+/// The lists are the specification's sweep of the direction, or it grows, the answer says so and the lists are untouched.
 fn compare_lists(model: &Model, direction: usize, answer: Result<(), Refusal>, bounds: &Lent, slacks: &Lent) -> Option<Envelope> {
     match recurrence::sweep(model, &model.directions[direction]) {
         Err(step) => {
@@ -71,7 +71,7 @@ fn level(random: &mut Random, envelope: Option<&Envelope>) -> i64 {
 }
 
 #[test]
-fn every_sweep_and_every_verdict_of_random_models_is_that_of_document_01() {
+fn every_sweep_and_every_verdict_of_random_models_is_that_of_the_specification() {
     let mut random = Random::new(20_260_701);
     let (mut grown, mut swept) = (0, 0);
     let mut verdicts = [0; 4];
@@ -80,7 +80,7 @@ fn every_sweep_and_every_verdict_of_random_models_is_that_of_document_01() {
     for _ in 0..6_000 {
         let mut records = open_model(&mut random);
         records.push(end());
-        let model = document::read(&file(&records)).expect("the makers make models");
+        let model = specification::read(&file(&records)).expect("the makers make models");
         records.pop();
         sizes[model.n] += 1;
         forms[model.initial.form as usize] += 1;
@@ -95,7 +95,7 @@ fn every_sweep_and_every_verdict_of_random_models_is_that_of_document_01() {
         records.push(end());
 
         let bytes = file(&records);
-        let model = document::read(&bytes).expect("with guards too");
+        let model = specification::read(&bytes).expect("with guards too");
         assert_eq!(list_length(&bytes), Some(model.steps + 1));
         for direction in 0..model.directions.len() {
             match compare_sweep(&bytes, &model, direction) {
@@ -126,7 +126,7 @@ fn every_number_of_steps_is_swept_to_its_end() {
         records[0].body[1..].copy_from_slice(&steps.to_le_bytes());
         records.push(end());
         let bytes = file(&records);
-        let model = document::read(&bytes).expect("a model");
+        let model = specification::read(&bytes).expect("a model");
         assert_eq!(model.steps, if steps == 0 { 60 } else { usize::from(steps) });
         compare_sweep(&bytes, &model, 0);
     }
@@ -144,7 +144,7 @@ fn a_call_leaves_nothing_behind_for_the_next() {
         .collect();
     for _ in 0..400 {
         let bytes = random.pick(&files);
-        let model = document::read(&bytes).expect("a model");
+        let model = specification::read(&bytes).expect("a model");
         let direction = random.below(model.directions.len());
         compare_sweep(&bytes, &model, direction);
     }
@@ -160,7 +160,7 @@ fn calls_from_several_threads_do_not_disturb_each_other() {
                     let mut records = open_model(&mut random);
                     records.push(end());
                     let bytes = file(&records);
-                    let model = document::read(&bytes).expect("a model");
+                    let model = specification::read(&bytes).expect("a model");
                     compare_sweep(&bytes, &model, 0);
                 }
             })

@@ -1,4 +1,4 @@
-//! Models of document 01, and its reader: "The file" and "Refusals by place", slow and plain.
+//! Models, and their reader: "File", "Reading" and "Refusals" of the specification, slow and plain.
 
 use crate::records::body_length;
 use crate::recurrence::reach;
@@ -70,7 +70,7 @@ fn nothing_read() -> SoFar {
     SoFar { model, rows: 0 }
 }
 
-/// Whether a record of this kind may come next, told by what has been read.
+/// Whether a record of this kind may come next, told by what has been read (File 5, File 6).
 fn may_come(SoFar { model, rows }: &SoFar, kind: u8) -> bool {
     let head = model.n > 0;
     let rows = head && *rows == model.n;
@@ -94,7 +94,7 @@ fn may_come(SoFar { model, rows }: &SoFar, kind: u8) -> bool {
     }
 }
 
-/// "a 9th generator, 17th vertex, direction or guard".
+/// Whether the list that a record of this kind belongs to is full (Refusals 9).
 fn one_too_many(model: &Model, kind: u8) -> bool {
     match kind {
         0x13 => model.initial.points.len() == 9,
@@ -107,7 +107,7 @@ fn one_too_many(model: &Model, kind: u8) -> bool {
     }
 }
 
-/// The first n of the six numbers of four bytes. "Entries beyond n are ignored and stored as zero."
+/// The first n of the six numbers of four bytes; those behind them are not looked at, and are zero here (File 7).
 fn six(n: usize, bytes: &[u8]) -> Six {
     let mut all = [0; 6];
     for (number, four) in all.iter_mut().zip(bytes.chunks_exact(4)).take(n) {
@@ -132,7 +132,7 @@ fn take_point(set: &mut Set, n: usize, kind: u8, body: &[u8]) -> bool {
     in_reach && in_order
 }
 
-/// Stores a record; the number of the value test that it fails, or 0.
+/// Stores a record; the number of the value test that it fails (Refusals 4 to 8), or 0.
 fn take(SoFar { model, rows }: &mut SoFar, kind: u8, body: &[u8]) -> u8 {
     match kind {
         0x01 => {
@@ -142,7 +142,7 @@ fn take(SoFar { model, rows }: &mut SoFar, kind: u8, body: &[u8]) -> u8 {
                 return 4;
             }
             model.n = n;
-            model.steps = if steps == 0 { 60 } else { steps };
+            model.steps = if steps == 0 { 60 } else { steps }; // File 4
         }
         0x02 => {
             let row = six(model.n, &body[1..]);
@@ -180,7 +180,7 @@ fn take(SoFar { model, rows }: &mut SoFar, kind: u8, body: &[u8]) -> u8 {
     0
 }
 
-/// The model of a file, or its number and offset.
+/// The model of a file, or its number and offset (Reading 1, Reading 2).
 pub fn read(file: &[u8]) -> Result<Model, Refusal> {
     let mut so_far = nothing_read();
     let mut offset = 0;
