@@ -4,31 +4,39 @@
     chart.py LISTING [-o OUT.svg] [--model MODEL]
 
 Each direction has a panel: its bound and its bound - slack over the steps, and the slack by itself
-below. A listing names neither directions nor levels, so the names and the guard levels come from
-the model (its text, or packed), where one is given. Line styles differ, so that a copy in black and
-white can be read too. The picture has a fixed size in pixels and needs no style sheet or script.
+below. A listing has numbers only, so the names, the guard levels, the units and the time of a step
+come from the model where one is given (its text, or packed without units and time). Line styles
+differ, so that a copy in black and white can be read too. The picture has a fixed size in pixels,
+which grows with the numbers beside the plots, and needs no style sheet or script.
 """
 
 from __future__ import annotations
 
 import argparse
+import math
 import os
+from dataclasses import dataclass
+from fractions import Fraction
+from functools import cached_property
 from typing import Iterable, Sequence
-from xml.sax.saxutils import escape, quoteattr
 
 import exact
 import files
 import listings
 import pack
 from listings import CLEAR, GROWTH, HIT, UNKNOWN, Growth, Listing, Refusal, Sweep, Verdict
+from svg import Scale, cut, element, fitted, path, segment, spread, text, ticks, width, wrapped
 
-WIDTH = 1_000
-LEFT, PLOT_WIDTH = 92, 600
-RIGHT = LEFT + PLOT_WIDTH
-PLOT_HEIGHT, STRIP_HEIGHT, STRIP_GAP = 220, 44, 12
+# The least margins left and right of the plots, and what they have beside numbers and labels.
+LEFT, RIGHT_MARGIN = 92, 308
+TURNED_LABEL, TICK_GAP, LEADER = 28, 8, 14
+PLOT_WIDTH, PLOT_HEIGHT, STRIP_HEIGHT, STRIP_GAP = 600, 220, 44, 12
 PANEL_HEIGHT = 30 + PLOT_HEIGHT + STRIP_GAP + STRIP_HEIGHT + 58
 GROWTH_HEIGHT = 110
 LABEL_SPACE = 16
+TIME_ROW, TIME_ROOM = 15, 280
+UNIT_ROOM = 340  # for a guard's label that tells the level in the unit too
+HEADING_ROWS = 3
 MARGIN = 16
 
 INK, FAINT, BAND, LOWER_INK = "#000000", "#d0d0d0", "#c9d7ea", "#1a56b0"
@@ -41,32 +49,7 @@ GUARD_STYLE = {
 }
 
 
-# Elements
-
-
-def element(tag: str, content: str = "", **attributes: object) -> str:
-    """One element; an underscore in an attribute's name stands for a hyphen."""
-    words = [tag]
-    for name, value in attributes.items():
-        shown = f"{value:.1f}".removesuffix(".0") if isinstance(value, float) else str(value)
-        words.append(f"{name.replace('_', '-')}={quoteattr(shown)}")
-    opened = " ".join(words)
-    return f"<{opened}>{content}</{tag}>" if content else f"<{opened}/>"
-
-
-def text(x: float, y: float, content: str, size: int = 12, **attributes: object) -> str:
-    return element("text", escape(content), x=float(x), y=float(y), font_size=size, **attributes)
-
-
-def segment(x1: float, y1: float, x2: float, y2: float, **attributes: object) -> str:
-    ends = {"x1": x1, "y1": y1, "x2": x2, "y2": y2}
-    return element("line", **{name: float(value) for name, value in ends.items()}, **attributes)
-
-
-def path(points: Iterable[tuple[float, float]], closed: bool = False, **attributes: object) -> str:
-    tag = "polygon" if closed else "polyline"
-    joined = " ".join(f"{x:.1f},{y:.1f}" for x, y in points)
-    return element(tag, points=joined, **attributes)
+# Strokes
 
 
 def bound_stroke(lower: bool) -> dict[str, object]:
@@ -91,35 +74,7 @@ def guard_mark(word: str, x: float, y: float) -> str:
     return element("circle", cx=float(x), cy=float(y), r=5, fill=fill, **stroke)
 
 
-# Scales
-
-
-def nice_step(span: float, most: int) -> int:
-    """The least of 1, 2, 5, 10, 20, .. that divides the span into at most that many parts."""
-    unit = 1
-    while True:
-        for factor in (1, 2, 5):
-            if span <= factor * unit * most:
-                return factor * unit
-        unit *= 10
-
-
-def ticks(low: float, high: float, most: int) -> list[int]:
-    """Round whole numbers from low to high."""
-    step = nice_step(high - low, most)
-    first = int(-(-low // step)) * step
-    return [value for value in range(first, int(high // 1) + 1, step)]
-
-
-class Scale:
-    """From values to places on the page."""
-
-    def __init__(self, low: float, high: float, start: float, end: float) -> None:
-        self.low, self.high, self.start, self.end = low, high, start, end
-
-    def __call__(self, value: float) -> float:
-        share = (value - self.low) / (self.high - self.low)
-        return self.start + share * (self.end - self.start)
+# Words
 
 
 def value_range(sweep: Sweep, levels: Sequence[int]) -> tuple[float, float]:
@@ -133,121 +88,239 @@ def value_range(sweep: Sweep, levels: Sequence[int]) -> tuple[float, float]:
     return low - pad, high + pad
 
 
+def decimal(value: Fraction) -> str:
+    """The value exactly: a decimal without trailing zeros, or a fraction where it is none."""
+    for places in range(100):
+        scaled = value * 10**places
+        if scaled.denominator == 1:
+            whole, rest = divmod(abs(scaled.numerator), 10**places)
+            told = f"{'-' if value < 0 else ''}{whole:,}"
+            return f"{told}.{rest:0{places}}" if places else told
+    return f"{value.numerator:,}/{value.denominator:,}"
+
+
+@dataclass(frozen=True)
+class Guard:
+    number: int
+    level: int
+    said: Verdict
+
+    def label(self, *notes: str) -> str:
+        """What stands before the verdict."""
+        return f"guard {self.number}: {self.level:,} " + (f"({', '.join(notes)}) " if notes else "")
+
+    def width(self, label: str) -> float:
+        return width(label) + width(str(self.said), bold=True)
+
+
+@dataclass(frozen=True)
+class Panel:
+    """What is told of one direction."""
+
+    heading: str
+    swept: Sweep | Growth
+    guards: tuple[Guard, ...] = ()
+    unit: tuple[str, int] | None = None
+
+    @cached_property
+    def span(self) -> tuple[float, float]:
+        """What its vertical axis shows; all there is where it has none."""
+        if isinstance(self.swept, Growth):
+            return -math.inf, math.inf
+        return value_range(self.swept, [guard.level for guard in self.guards])
+
+    @property
+    def values(self) -> list[int]:
+        """The round numbers of the vertical axis."""
+        return [] if isinstance(self.swept, Growth) else ticks(*self.span, 6)
+
+    @property
+    def slacks(self) -> list[int]:
+        """The numbers of the strip."""
+        return [] if isinstance(self.swept, Growth) else sorted({0, max(self.swept.slacks)})
+
+    @property
+    def count(self) -> str:
+        """What a count is."""
+        if self.unit is None:
+            return "counts"
+        name, counts = self.unit
+        return name if counts == 1 else f"counts of 1/{counts:,} {name}"
+
+    def label(self, guard: Guard) -> str:
+        """What stands before a guard's verdict: `guard 0: 3,200 (200 °C, off scale) `."""
+        notes = [] if self.span[0] <= guard.level <= self.span[1] else ["off scale"]
+        plain = guard.label(*notes)
+        if self.unit is None or self.unit[1] == 1:
+            return plain
+        name, counts = self.unit
+        full = guard.label(f"{decimal(Fraction(guard.level, counts))} {name}", *notes)
+        return full if guard.width(full) <= UNIT_ROOM else plain
+
+
+@dataclass(frozen=True)
+class Page:
+    """What all panels share: the time of a step, and the places of plots and guard labels."""
+
+    time: tuple[Fraction, str] | None
+    left: int
+    room: int  # for a guard's label
+
+    @property
+    def right(self) -> int:
+        return self.left + PLOT_WIDTH
+
+    @property
+    def labels(self) -> int:
+        return self.right + LEADER + LABEL_SPACE
+
+    @property
+    def width(self) -> int:
+        return self.labels + self.room + MARGIN
+
+    def time_at(self, step: int) -> str:
+        return "" if self.time is None else decimal(step * self.time[0])
+
+
+def page_of(panels: Sequence[Panel], time: tuple[Fraction, str] | None) -> Page:
+    """Margins that hold the widest number on the left and the widest guard label on the right."""
+    numbers = [width(f"{value:,}") for panel in panels for value in panel.values + panel.slacks]
+    labels = [guard.width(panel.label(guard)) for panel in panels for guard in panel.guards]
+    left = max(LEFT, TURNED_LABEL + math.ceil(max(numbers, default=0)) + TICK_GAP)
+    least = RIGHT_MARGIN - LEADER - LABEL_SPACE - MARGIN
+    return Page(time, left, max(least, math.ceil(max(labels, default=0))))
+
+
 # Panels
 
 
-def shown_level(level: int) -> str:
-    return f"{level:,}" if abs(level) < 10**12 else f"{level:.3e}"
+def heading(page: Page, y: float, content: str, size: int, note: str) -> tuple[list[str], float]:
+    """A heading in bold with a note on the right, and how far its further rows reach down."""
+    room = PLOT_WIDTH - (width(note) + LABEL_SPACE if note else 0)
+    rows = wrapped(content, room, HEADING_ROWS, size, bold=True)
+    space = 1.25 * size
+    parts = [
+        text(page.left, y + space * index, row, size, whole=content, font_weight="bold")
+        for index, row in enumerate(rows)
+    ]
+    if note:
+        parts.append(text(page.right, y, note, text_anchor="end"))
+    return parts, space * (len(rows) - 1)
 
 
-def spread(places: Sequence[float], low: float, high: float) -> list[float]:
-    """The places, in order, moved apart so that labels there do not overlap."""
-    moved: list[float] = []
-    for place in places:
-        least = moved[-1] + LABEL_SPACE if moved else low
-        moved.append(max(place, least))
-    most = high
-    for i in reversed(range(len(moved))):
-        moved[i] = min(moved[i], most)
-        most = moved[i] - LABEL_SPACE
-    return moved
+def guard_label(page: Page, panel: Panel, guard: Guard, y: float) -> str:
+    """A guard's level and verdict."""
+    colour = GUARD_STYLE[guard.said.word][0]
+    return text(page.labels, y, panel.label(guard), bold=str(guard.said), fill=colour)
 
 
-Guards = list[tuple[int, int, Verdict]]  # number, level, verdict
-
-
-def guard_parts(guards: Guards, x: Scale, y: Scale, bottom: float) -> Iterable[str]:
+def guard_parts(page: Page, panel: Panel, x: Scale, y: Scale, bottom: float) -> Iterable[str]:
     """Levels across the plot, marks at the steps named, and labels to the right."""
-    ordered = sorted(guards, key=lambda guard: -guard[1])
-    places = [min(max(y(level), y.end), y.start) for _, level, _ in ordered]
-    labels = spread(places, y.end + 4, bottom)
-    for (number, level, said), place, label in zip(ordered, places, labels):
-        colour = GUARD_STYLE[said.word][0]
-        if y.low <= level <= y.high:
-            yield segment(LEFT, place, RIGHT, place, **guard_stroke(said.word))
-            yield segment(RIGHT, place, RIGHT + 14, label, stroke=colour, stroke_width=0.8)
-            shown = shown_level(level)
+    ordered = sorted(panel.guards, key=lambda guard: -guard.level)
+    places = [min(max(y(guard.level), y.end), y.start) for guard in ordered]
+    labels = spread(places, y.end + 4, bottom, LABEL_SPACE)
+    end = page.right + LEADER
+    for guard, place, label in zip(ordered, places, labels):
+        colour = GUARD_STYLE[guard.said.word][0]
+        if y.low <= guard.level <= y.high:
+            yield segment(page.left, place, page.right, place, **guard_stroke(guard.said.word))
+            leader = [(page.right, place), (end, label), (end + 12, label)]
+            yield path(leader, fill="none", stroke=colour, stroke_width=0.8)
         else:
-            tip, base = (label - 5, label + 5) if level > y.high else (label + 5, label - 5)
-            corners = [(RIGHT + 4, base), (RIGHT + 12, base), (RIGHT + 8, tip)]
+            rise = 5 if guard.level > y.high else -5
+            corners = [(end + 2, label + rise), (end + 10, label + rise), (end + 6, label - rise)]
             yield path(corners, closed=True, fill=colour)
-            shown = f"{shown_level(level)} (off scale)"
-        yield element(
-            "text",
-            f"{escape(f'guard {number}: {shown}')} "
-            + element("tspan", escape(str(said)), font_weight="bold"),
-            x=float(RIGHT + 18), y=float(label + 4), font_size=12, fill=colour,
-        )
-    for number, level, said in ordered:
-        if said.step is not None and y.low <= level <= y.high:
-            yield guard_mark(said.word, x(said.step), y(level))
+        yield guard_label(page, panel, guard, label + 4)
+    for guard in ordered:
+        if guard.said.step is not None and y.low <= guard.level <= y.high:
+            yield guard_mark(guard.said.word, x(guard.said.step), y(guard.level))
 
 
-def axis_parts(x: Scale, y: Scale, strip: Scale, steps: int, slack: int) -> Iterable[str]:
-    """Frames, grid and numbers of the plot and of the strip below it."""
-    for value in ticks(y.low, y.high, 6):
-        yield segment(LEFT, y(value), RIGHT, y(value), stroke=FAINT, stroke_width=1)
-        yield text(LEFT - 8, y(value) + 4, f"{value:,}", text_anchor="end")
-    for value in ticks(0, steps, 12):
+def step_ticks(page: Page, steps: int) -> list[int]:
+    """Round steps, as many as have room for their times beside each other; at the least two."""
+    for most in (12, 6, 4, 3):
+        values = ticks(0, steps, most)
+        widest = max(width(cut(page.time_at(value), TIME_ROOM)) for value in values)
+        if widest + TICK_GAP <= PLOT_WIDTH * values[1] / steps:
+            return values
+    return [0, steps]
+
+
+def step_axis(page: Page, x: Scale, y: Scale, bottom: float) -> Iterable[str]:
+    """The steps and their times below the strip, with a grid over the plot."""
+    middle, steps = {"text_anchor": "middle"}, int(x.high)
+    for value in step_ticks(page, steps):
         yield segment(x(value), y.end, x(value), y.start, stroke=FAINT, stroke_width=1)
-        yield segment(x(value), strip.start, x(value), strip.start + 5, stroke=INK)
-        yield text(x(value), strip.start + 18, str(value), text_anchor="middle")
-    for value in sorted({0, slack}):
-        yield text(LEFT - 8, strip(value) + 4, f"{value:,}", text_anchor="end")
-    for scale in (y, strip):
-        yield element("rect", x=LEFT, y=float(scale.end), width=PLOT_WIDTH,
-                      height=float(scale.start - scale.end), fill="none", stroke=INK)
-    yield text((LEFT + RIGHT) / 2, strip.start + 36, "step", text_anchor="middle")
-    for scale, name in ((y, "counts"), (strip, "slack")):
-        middle = f"{(scale.start + scale.end) / 2:.1f}"
-        turned = f"translate(20 {middle}) rotate(-90)"
-        yield text(0, 0, name, text_anchor="middle", transform=turned)
+        yield segment(x(value), bottom, x(value), bottom + 5, stroke=INK)
+        yield text(x(value), bottom + 18, str(value), **middle)
+        if page.time is not None:
+            yield fitted(x(value), bottom + 18 + TIME_ROW, page.time_at(value), TIME_ROOM, **middle)
+    label, below = "step", bottom + 36
+    if page.time is not None:
+        label, below = f"step, and time in {page.time[1]}", below + TIME_ROW
+    yield fitted((page.left + page.right) / 2, below, label, PLOT_WIDTH, **middle)
 
 
-def sweep_panel(top: float, sweep: Sweep, guards: Guards) -> Iterable[str]:
-    """The panel of a swept direction, below its heading."""
-    steps = len(sweep.bounds) - 1
-    plot_top = top + 30
-    strip_top = plot_top + PLOT_HEIGHT + STRIP_GAP
-    strip_bottom = strip_top + STRIP_HEIGHT
-    x = Scale(0, steps, LEFT, RIGHT)
-    low, high = value_range(sweep, [level for _, level, _ in guards])
-    y = Scale(low, high, plot_top + PLOT_HEIGHT, plot_top)
-    largest = max(sweep.slacks)
-    strip = Scale(0, 1.15 * max(largest, 1), strip_bottom, strip_top)
-    yield from axis_parts(x, y, strip, steps, largest)
+def value_axis(page: Page, scale: Scale, values: Sequence[int], label: str) -> Iterable[str]:
+    """The frame of the plot or of the strip, with numbers and a turned label to the left."""
+    height = scale.start - scale.end
+    for value in values:
+        number = f"{value:,}"
+        yield text(page.left - TICK_GAP, scale(value) + 4, number, text_anchor="end")
+    yield element("rect", x=page.left, y=float(scale.end), width=PLOT_WIDTH, height=float(height),
+                  fill="none", stroke=INK)
+    turned = f"translate(20 {scale.end + height / 2:.1f}) rotate(-90)"
+    yield fitted(0, 0, label, height, text_anchor="middle", transform=turned)
+
+
+def curves(sweep: Sweep, x: Scale, y: Scale, strip: Scale) -> Iterable[str]:
+    """The bounds, the bounds without their slacks, and the slacks."""
     upper = [(x(k), y(bound)) for k, bound in enumerate(sweep.bounds)]
     lower = [(x(k), y(b - s)) for k, (b, s) in enumerate(zip(sweep.bounds, sweep.slacks))]
     yield path(upper + lower[::-1], closed=True, fill=BAND)
     yield path(upper, **bound_stroke(lower=False))
     yield path(lower, **bound_stroke(lower=True))
-    if steps <= 40:
+    if len(upper) <= 41:
         for place_x, place_y in upper:
             yield element("circle", cx=place_x, cy=place_y, r=2.5, fill=INK)
     slack = [(x(k), strip(value)) for k, value in enumerate(sweep.slacks)]
-    yield path([(LEFT, strip.start), *slack, (RIGHT, strip.start)], closed=True, fill=BAND)
+    ends = (x.start, strip.start), (x.end, strip.start)
+    yield path([ends[0], *slack, ends[1]], closed=True, fill=BAND)
     yield path(slack, fill="none", stroke=INK, stroke_width=1.2)
-    yield from guard_parts(guards, x, y, strip_bottom - 4)
 
 
-def growth_panel(top: float, growth: Growth, guards: Guards) -> Iterable[str]:
+def sweep_panel(page: Page, top: float, panel: Panel, sweep: Sweep) -> Iterable[str]:
+    """The panel of a swept direction, below its heading."""
+    strip_top = top + PLOT_HEIGHT + STRIP_GAP
+    bottom = strip_top + STRIP_HEIGHT
+    x = Scale(0, len(sweep.bounds) - 1, page.left, page.right)
+    y = Scale(*panel.span, top + PLOT_HEIGHT, top)
+    strip = Scale(0, 1.15 * max(*sweep.slacks, 1), bottom, strip_top)
+    for value in panel.values:
+        yield segment(page.left, y(value), page.right, y(value), stroke=FAINT, stroke_width=1)
+    yield from step_axis(page, x, y, bottom)
+    yield from value_axis(page, y, panel.values, panel.count)
+    yield from value_axis(page, strip, panel.slacks, "slack")
+    yield from curves(sweep, x, y, strip)
+    yield from guard_parts(page, panel, x, y, bottom - 4)
+
+
+def growth_panel(page: Page, top: float, panel: Panel, step: int) -> Iterable[str]:
     """The panel of a direction refused for growth, below its heading."""
-    height = GROWTH_HEIGHT - 50
-    yield element("rect", x=LEFT, y=float(top + 30), width=PLOT_WIDTH, height=height,
+    yield element("rect", x=page.left, y=float(top), width=PLOT_WIDTH, height=GROWTH_HEIGHT - 50,
                   fill="#f2f2f2", stroke=INK)
-    middle = (LEFT + RIGHT) / 2
-    yield text(middle, top + 56, f"refused for growth at step {growth.step}", 14,
-               text_anchor="middle", font_weight="bold")
+    middle = (page.left + page.right) / 2
+    yield text(middle, top + 26, f"refused for growth at step {step}", 14, text_anchor="middle",
+               font_weight="bold")
     reason = "its working direction passes the limit there: no bounds are given"
-    yield text(middle, top + 76, reason, text_anchor="middle")
-    for index, (number, level, said) in enumerate(guards):
-        yield text(RIGHT + 18, top + 44 + LABEL_SPACE * index,
-                   f"guard {number}: {shown_level(level)} {said}", fill=GUARD_STYLE[GROWTH][0])
+    yield text(middle, top + 46, reason, text_anchor="middle")
+    for index, guard in enumerate(panel.guards):
+        yield guard_label(page, panel, guard, top + 14 + LABEL_SPACE * index)
 
 
-def legend(top: float, with_levels: bool) -> Iterable[str]:
+def legend(left: float, top: float, with_levels: bool) -> Iterable[str]:
     """What the strokes and marks mean."""
-    place = LEFT
+    place = left
     for lower, name in ((False, "bound"), (True, "bound - slack")):
         yield segment(place, top, place + 34, top, **bound_stroke(lower))
         yield text(place + 40, top + 4, name)
@@ -285,72 +358,88 @@ def check_same(listing: Listing, source: pack.Source) -> None:
             )
 
 
+def panels_of(listing: Listing, source: pack.Source | None) -> list[Panel]:
+    """The panels; without the model they have neither names nor guards."""
+    if source is None:
+        return [Panel(f"direction {i}", swept) for i, swept in enumerate(listing.directions)]
+    check_same(listing, source)
+    panels: list[Panel] = []
+    for number, (name, entries) in enumerate(zip(source.directions, source.model.directions)):
+        told = expression(entries, source.coordinates)
+        levels = enumerate(zip(source.model.guards, listing.guards))
+        guards = tuple(Guard(i, level, said) for i, ((on, level), said) in levels if on == number)
+        unit = source.units[number] if source.units else None
+        shown = name if told == name else f"{name} = {told}"
+        panels.append(Panel(shown, listing.directions[number], guards, unit))
+    return panels
+
+
+def panel_parts(page: Page, top: float, panel: Panel) -> tuple[list[str], float]:
+    """A panel with its heading, and where the next one starts."""
+    swept = panel.swept
+    note = "" if isinstance(swept, Growth) else f"spare {swept.spare}"
+    parts, more = heading(page, top + 20, panel.heading, 15, note)
+    top += more
+    if isinstance(swept, Growth):
+        parts += growth_panel(page, top + 30, panel, swept.step)
+        return parts, top + max(GROWTH_HEIGHT, 54 + LABEL_SPACE * len(panel.guards))
+    parts += sweep_panel(page, top + 30, panel, swept)
+    return parts, top + PANEL_HEIGHT + (0 if page.time is None else TIME_ROW)
+
+
+def guard_rows(page: Page, top: float, guards: Sequence[Verdict]) -> Iterable[str]:
+    """The verdicts by themselves: without the model neither levels nor directions are known."""
+    told = [f"guard {i} {said}" for i, said in enumerate(guards)]
+    for row in range(0, len(told), 4):
+        yield text(page.left, top + 8 + LABEL_SPACE * row / 4, "; ".join(told[row : row + 4]))
+
+
 def draw(listing: Listing, title: str, source: pack.Source | None = None) -> str:
     """The picture of a listing."""
-    if source is not None:
-        check_same(listing, source)
-    panels: list[str] = []
-    top = 84.0
-    for number, swept in enumerate(listing.directions):
-        guards: Guards = []
-        heading = f"direction {number}"
-        if source is not None:
-            heading = source.directions[number]
-            told = expression(source.model.directions[number], source.coordinates)
-            heading += "" if told == heading else f" = {told}"
-            levels = enumerate(zip(source.model.guards, listing.guards))
-            guards = [(index, level, said) for index, ((d, level), said) in levels if d == number]
-        panels.append(text(LEFT, top + 20, heading, 15, font_weight="bold"))
-        if isinstance(swept, Growth):
-            panels += growth_panel(top, swept, guards)
-            top += max(GROWTH_HEIGHT, 54 + LABEL_SPACE * len(guards))
-        else:
-            panels.append(text(RIGHT, top + 20, f"spare {swept.spare}", text_anchor="end"))
-            panels += sweep_panel(top, swept, guards)
-            top += PANEL_HEIGHT
-    if source is None:
-        # Without the model neither the levels nor the directions of the guards are known.
-        for first in range(0, len(listing.guards), 4):
-            some = enumerate(listing.guards[first : first + 4], first)
-            panels.append(text(LEFT, top + 8, "; ".join(f"guard {i} {said}" for i, said in some)))
-            top += LABEL_SPACE
-    height = round(top + MARGIN)
+    panels = panels_of(listing, source)
+    page = page_of(panels, None if source is None else source.time)
     size = f"{listing.n} coordinate{'s' if listing.n > 1 else ''}, steps 0 to {listing.steps}"
-    content = [
-        element("rect", width=WIDTH, height=height, fill="#ffffff"),
-        text(LEFT, 30, title, 18, font_weight="bold"),
-        text(RIGHT, 30, size, text_anchor="end"),
-        *legend(58, with_levels=source is not None),
-        *panels,
-    ]
+    parts, more = heading(page, 30, title, 18, size)
+    parts += legend(page.left, 58 + more, with_levels=source is not None)
+    top = 84 + more
+    for panel in panels:
+        drawn, top = panel_parts(page, top, panel)
+        parts += drawn
+    if source is None:
+        rows = list(guard_rows(page, top, listing.guards))
+        parts += rows
+        top += LABEL_SPACE * len(rows)
+    height = round(top + MARGIN)
+    background = element("rect", width=page.width, height=height, fill="#ffffff")
     return element(
         "svg",
-        "\n" + "\n".join(part for part in content if part) + "\n",
+        "\n" + "\n".join(part for part in [background, *parts] if part) + "\n",
         xmlns="http://www.w3.org/2000/svg",
-        width=WIDTH,
+        width=page.width,
         height=height,
-        viewBox=f"0 0 {WIDTH} {height}",
+        viewBox=f"0 0 {page.width} {height}",
         font_family="sans-serif",
     ) + "\n"
 
 
 def chart(path: str, model_path: str | None = None) -> str:
     """The picture of the listing at a path; a refused listing is a failure."""
-    listing = listings.parse(files.text_of(files.read_bytes(path), path), path)
+    name = files.shown(path)
+    listing = listings.parse(files.text_of(files.read_bytes(path), name), name)
     if isinstance(listing, Refusal):
         reason = exact.REASONS.get(listing.number, "a number that no file is refused by")
         raise files.Failure(
-            f"{path}: nothing to draw: refused {listing.number} at {listing.offset}: {reason}"
+            f"{name}: nothing to draw: refused {listing.number} at {listing.offset}: {reason}"
         )
     source = None if model_path is None else pack.load(model_path)
-    return draw(listing, os.path.splitext(os.path.basename(path))[0], source)
+    return draw(listing, os.path.splitext(os.path.basename(name))[0], source)
 
 
 def main() -> None:
     parser = argparse.ArgumentParser(description="Draw a listing as an SVG picture.")
     parser.add_argument("listing", help="- is standard input")
     parser.add_argument("-o", dest="to", metavar="OUT.svg", help="standard output without it")
-    parser.add_argument("--model", help="the model, as a text or packed: names and guard levels")
+    parser.add_argument("--model", help="the model, as a text or packed: names, levels, units")
     options = parser.parse_args()
     files.write_bytes(options.to, chart(options.listing, options.model).encode("utf-8"))
 
