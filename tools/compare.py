@@ -6,7 +6,8 @@
 PROGRAM reads a file on standard input and writes its listing on standard output. Its output must
 be that of `exact`, byte by byte. Now and then, for an accepted model that is small enough, the
 accuracy rule is checked of the program's own figures against exact largest values. The first
-difference ends the comparison with status 1 and saves the file. The summary counts what was seen.
+difference ends the comparison with status 1 and saves the file in DIR, which is made where it is
+missing. The summary counts what was seen.
 """
 
 from __future__ import annotations
@@ -30,7 +31,7 @@ COST_LIMIT = 200_000  # products for one check of the accuracy rule
 def output_of(program: str, data: bytes) -> bytes:
     """What the program writes for a file; a failure where it does not end well.
 
-    Document 01 names no status, so any is taken for a refused file, and 0 is asked with a listing.
+    With a listing the status has to be 0; a program that refuses a file may end with any.
     """
     try:
         done = subprocess.run([program], input=data, capture_output=True, timeout=TIME_LIMIT)
@@ -108,27 +109,43 @@ def compare(program: str, seed: int, count: int, accuracy_every: int, save: str)
                     due = accepted + accuracy_every - 1
         except (files.Failure, AssertionError) as problem:
             path = os.path.join(save, f"difference-{seed}-{number}.bin")
-            files.write_bytes(path, data)
+            try:
+                files.write_bytes(path, data)
+                saved = f"saved as {path}"
+            except files.Failure as failure:
+                saved = f"not saved: {failure}"
             raise files.Failure(
-                f"file {number} of seed {seed}: {problem}\n{len(data)} bytes, saved as {path}"
+                f"file {number} of seed {seed}: {problem}\n{len(data)} bytes, {saved}"
             ) from None
     return f"{count} files of seed {seed} agree: {counts.summary()}"
+
+
+def positive(word: str) -> int:
+    """A number of the command line that counts something."""
+    try:
+        number = int(word)
+    except ValueError:
+        raise argparse.ArgumentTypeError(f"{word!r} is no whole number") from None
+    if number < 1:
+        raise argparse.ArgumentTypeError(f"{number} is below 1")
+    return number
 
 
 def main() -> None:
     parser = argparse.ArgumentParser(description="Compare a program with the exact one.")
     parser.add_argument("program", help="reads a file on standard input, writes its listing")
     parser.add_argument("--seed", type=int, default=1)
-    parser.add_argument("--count", type=int, default=3_000)
-    parser.add_argument("--accuracy-every", type=int, default=5, metavar="N",
+    parser.add_argument("--count", type=positive, default=3_000, metavar="N",
+                        help="how many files, at least 1")
+    parser.add_argument("--accuracy-every", type=positive, default=5, metavar="N",
                         help="check the accuracy rule of every N-th accepted model")
     parser.add_argument("--save", default=".", metavar="DIR", help="where a differing file goes")
     options = parser.parse_args()
     program = os.path.abspath(options.program)
     if not os.path.isfile(program) or not os.access(program, os.X_OK):
-        raise files.Failure(f"{options.program}: not a program that can be run")
-    every = max(1, options.accuracy_every)
-    print(compare(program, options.seed, options.count, every, options.save))
+        raise files.AccessFailure(f"{options.program}: not a program that can be run")
+    files.make_folder(options.save)
+    print(compare(program, options.seed, options.count, options.accuracy_every, options.save))
 
 
 if __name__ == "__main__":

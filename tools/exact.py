@@ -1,5 +1,5 @@
 #!/usr/bin/env python3
-"""The exact program: slow, plain, and written from document 01 alone.
+"""The exact program: slow, plain, and written from the specification alone.
 
 In order: the reader of files; supports, reaches and the recurrence over whole numbers; the
 listing; and, apart from all of these, the exact largest values as fractions, by corners, with the
@@ -7,6 +7,8 @@ check of the accuracy rule against them.
 
     exact.py FILE            print the listing of a file (standard input without FILE, or for `-`)
     exact.py --check FILE    and check the accuracy rule of what is printed
+
+FILE is a packed model, or a text, which is packed first.
 """
 
 from __future__ import annotations
@@ -34,7 +36,7 @@ REASONS = {
     2: "unknown kind of record",
     3: "a record of this kind is not allowed here",
     4: f"n is not 1 to {MAX_N}, or the steps are not 0 to {MAX_STEPS}",
-    5: f"not the next row number, or an entry beyond {-MAX_ENTRY:,} to {MAX_ENTRY:,}",
+    5: f"a row out of turn, or one of its entries not {-MAX_ENTRY:,} to {MAX_ENTRY:,}",
     6: f"the reach of the set passes {MAX_REACH:,}, or its upper corner is below its lower",
     7: f"an entry beyond {-MAX_DIRECTION_ENTRY:,} to {MAX_DIRECTION_ENTRY:,}, or all entries zero",
     8: "a guard on a direction that is not there",
@@ -164,14 +166,6 @@ def read_model(data: bytes) -> Model | Refusal:
         return Refusal(*refused.args)
 
 
-def refusal_message(name: str, data: bytes, refusal: Refusal) -> str:
-    """A refused file in words, for the person who named it."""
-    reason = REASONS[refusal.number] if data else "the file is empty"
-    if data and refusal.offset == 0 and data[0] != HEAD:
-        reason += f"; a packed model starts with byte {HEAD:02X}"
-    return f"{name}: refused {refusal.number} at {refusal.offset}: {reason}"
-
-
 # Sets and the recurrence
 
 
@@ -180,7 +174,7 @@ def dot(a: Sequence[int], b: Sequence[int]) -> int:
 
 
 def support(set_: Set, r: Sequence[int]) -> int:
-    """The largest r · point over the set, by the formula of its form."""
+    """The largest r · x for x in the set, by the formula of its form."""
     if set_.form == BOX:
         lower, upper = set_.points
         return sum(x * (high if x > 0 else low) for x, low, high in zip(r, lower, upper))
@@ -344,24 +338,29 @@ def check_accuracy(model: Model, told: Listing) -> None:
             assert all(value < level for value in exact), place
 
 
-def main() -> int:
-    parser = argparse.ArgumentParser(description="Print the listing of a packed model.")
-    parser.add_argument("file", nargs="?", default="-", help="a packed model; - is standard input")
+def main() -> None:
+    import pack  # these two are above this module
+    import refusal
+
+    parser = argparse.ArgumentParser(description="Print the listing of a model.")
+    parser.add_argument("file", nargs="?", default="-",
+                        help="a model, packed or as a text; - is standard input")
     parser.add_argument("--check", action="store_true", help="also check the accuracy rule")
     options = parser.parse_args()
-    data = files.read_bytes(options.file)
+    data, name = files.read_bytes(options.file), files.shown(options.file)
+    if pack.starts_as_text(data):
+        data = pack.read_text(data, name).data
     text = listing(data)
     files.write_bytes(None, text.encode("ascii"))
     model = read_model(data)
     if isinstance(model, Refusal):
-        raise files.Failure(refusal_message(options.file, data, model))
+        raise files.Failure(refusal.message(name, data))
     if options.check:
         try:
             check_accuracy(model, listings.parse(text))
         except AssertionError as error:
-            raise files.Failure(f"{options.file}: the accuracy rule fails: {error}") from None
+            raise files.Failure(f"{name}: the accuracy rule fails: {error}") from None
         print("the accuracy rule holds", file=sys.stderr)
-    return 0
 
 
 if __name__ == "__main__":

@@ -1,43 +1,109 @@
-"""Reading and writing files for the tools, with one message for each thing that can go wrong."""
+"""Reading and writing files for the tools, with one message for each thing that can go wrong.
+
+All tools end with 0 where they are done, 1 where their input is wrong (a text, a refused file, a
+comparison that differs), 2 where the command line is wrong, and 3 where something could not be
+read or written.
+"""
 
 from __future__ import annotations
 
+import errno
+import os
+import re
 import sys
-from typing import Callable
+import traceback
+from typing import Callable, TextIO
+
+# Control bytes but for tab, line feed and carriage return.
+CONTROL = re.compile(rb"[\x00-\x08\x0B\x0C\x0E-\x1F\x7F]")
+# What an editor may show as the end of a row and is none here: a carriage return without a line
+# feed, and the separators of Unicode. Behind a `#` it would hide a statement.
+OTHER_END = re.compile(rb"\r(?!\r*$)|\xC2\x85|\xE2\x80[\xA8\xA9]")
+WIDE = (b"\xff\xfe", b"\xfe\xff", b"\0\0\xfe\xff")  # what UTF-16 and UTF-32 start with
+MOST_WRONG = 5  # rows with wrong bytes, beyond which bytes are no text at all
 
 
 class Failure(Exception):
-    """What a tool says before it ends with status 1."""
+    """What a tool says before it ends, and the status that it ends with."""
+
+    status = 1
+
+
+class AccessFailure(Failure):
+    """Something could not be read, written, made or run."""
+
+    status = 3
+
+
+def shown(path: str) -> str:
+    """A path as messages name it."""
+    return "standard input" if path == "-" else path
+
+
+def _open(stream: TextIO | None) -> TextIO:
+    """Standard input or output, which is None where it is closed."""
+    if stream is None:
+        raise OSError(errno.EBADF, "it is closed")
+    return stream
 
 
 def read_bytes(path: str) -> bytes:
     """The bytes of a file; `-` is standard input."""
     try:
         if path == "-":
-            return sys.stdin.buffer.read()
+            return _open(sys.stdin).buffer.read()
         with open(path, "rb") as file:
             return file.read()
     except FileNotFoundError:
-        raise Failure(f"{path}: no such file") from None
+        raise AccessFailure(f"{path}: no such file") from None
     except IsADirectoryError:
-        raise Failure(f"{path}: is a directory, not a file") from None
+        raise AccessFailure(f"{shown(path)}: is a directory, not a file") from None
     except (OSError, ValueError) as error:
         reason = getattr(error, "strerror", None) or error
-        raise Failure(f"{path}: cannot be read: {reason}") from None
+        raise AccessFailure(f"{shown(path)}: cannot be read: {reason}") from None
 
 
-def text_of(data: bytes, path: str) -> str:
+def _wrong_byte(row: bytes) -> str | None:
+    """The first byte of a row that is no text, in words."""
+    control = CONTROL.search(row)
+    end = control.start() if control else len(row)
+    try:
+        row[:end].decode("utf-8")
+    except UnicodeDecodeError as error:
+        return f"byte {row[error.start]:02X} is no UTF-8: save the text as UTF-8"
+    if control is None:
+        return None
+    byte = row[end]
+    if byte == 0:
+        return "byte 00 is a zero byte, which no text has: save the text as UTF-8"
+    key = "delete" if byte == 0x7F else f"Ctrl-{chr(byte + 64)}"
+    return f"byte {byte:02X} is a control byte ({key}), which no text has: take it out"
+
+
+def decoded(data: bytes, name: str) -> tuple[str, dict[int, str]]:
+    """The text that bytes hold, and for each row with bytes that are no text the first of them."""
+    if data.startswith(WIDE):
+        raise Failure(f"{name}: the text is saved as UTF-16 or UTF-32: save it as UTF-8")
+    rows = list(enumerate(data.split(b"\n"), 1))
+    wrong = {number: said for number, row in rows if (said := _wrong_byte(row))}
+    if b"\0" in data or len(wrong) > MOST_WRONG:
+        number = min(wrong)
+        first = wrong[number].partition(":")[0]
+        raise Failure(f"{name}:{number}: {first}; if this is a text at all, save it as UTF-8")
+    for number, row in rows:
+        if OTHER_END.search(row):
+            told = "a line end that is no line feed: save the text with Unix or Windows line ends"
+            raise Failure(f"{name}:{number}: {told}")
+    return data.decode("utf-8-sig", "replace"), wrong
+
+
+def text_of(data: bytes, name: str) -> str:
     """The text that a file's bytes hold; an empty one, or one that is no UTF-8, is a failure."""
     if not data.strip():
-        raise Failure(f"{path}: the file is empty")
-    try:
-        text = data.decode("utf-8-sig")
-        wrong = data.find(b"\0")
-    except UnicodeDecodeError as error:
-        wrong = error.start
-    if wrong >= 0:
-        number = data.count(b"\n", 0, wrong) + 1
-        raise Failure(f"{path}:{number}: not a text (byte {data[wrong]:02X})")
+        raise Failure(f"{name}: the file is empty")
+    text, wrong = decoded(data, name)
+    for number, said in wrong.items():
+        raise Failure(f"{name}:{number}: {said}")
     return text
 
 
@@ -45,23 +111,40 @@ def write_bytes(path: str | None, data: bytes) -> None:
     """Write a file; without a path or with `-`, standard output."""
     try:
         if path is None or path == "-":
-            sys.stdout.buffer.write(data)
+            _open(sys.stdout).buffer.write(data)
             sys.stdout.buffer.flush()
             return
         with open(path, "wb") as file:
             file.write(data)
-    except OSError as error:
+    except (OSError, ValueError) as error:
         # Nothing more goes to an output that failed, not even at exit.
         if path is None or path == "-":
             sys.stdout = None
-        raise Failure(f"{path or 'standard output'}: cannot be written: {error.strerror}") from None
+            path = "standard output"
+        reason = getattr(error, "strerror", None) or error
+        raise AccessFailure(f"{path}: cannot be written: {reason}") from None
+
+
+def make_folder(path: str) -> None:
+    """Make a folder and those that it is in, where they are not there."""
+    try:
+        os.makedirs(path, exist_ok=True)
+    except (OSError, ValueError) as error:
+        reason = getattr(error, "strerror", None) or error
+        raise AccessFailure(f"{path}: cannot be made: {reason}") from None
 
 
 def run(main: Callable[[], int | None]) -> None:
-    """Run a tool's main function and end with its status; a failure is told and has status 1."""
+    """Run a tool's main function and end with its status; a failure is told first.
+
+    A fault of the tool itself says nothing of the input, so its status is that of AccessFailure.
+    """
     try:
         status = main()
     except Failure as failure:
         print(failure, file=sys.stderr)
-        status = 1
+        status = failure.status
+    except Exception:
+        traceback.print_exc()
+        status = AccessFailure.status
     sys.exit(status or 0)

@@ -1,4 +1,4 @@
-"""The limits, the record layout and the model values of document 01, each stated once.
+"""The limits, the record layout and the model values of the specification, each stated once.
 
 In order: limits and units; record kinds and body lengths; sets and models; makers of records.
 The makers fill up to six entries with zeros and test nothing, so that wrong files can be made too.
@@ -13,29 +13,29 @@ from typing import Sequence
 
 Vector = tuple[int, ...]
 
-# "Limits" and "The three sets"
-MAX_N = 6
-MAX_STEPS = 256
-DEFAULT_STEPS = 60  # what a head that says 0 means
-MAX_ENTRY = 131_072
-MAX_REACH = 1_048_576
-MAX_DIRECTION_ENTRY = 1_000
-MAX_DIRECTIONS = 16
-MAX_GUARDS = 16
-MAX_GENERATORS = 8
-MAX_VERTICES = 16
-MIN_LEVEL, MAX_LEVEL = -(2**63), 2**63 - 1
+# "Limits" and "Sets"
+MAX_N = 6  # Limits 1
+MAX_STEPS = 256  # Limits 2
+DEFAULT_STEPS = 60  # File 4: what 0 in the head stands for
+MAX_ENTRY = 131_072  # Limits 3
+MAX_REACH = 1_048_576  # Limits 4
+MAX_DIRECTION_ENTRY = 1_000  # Limits 5
+MAX_DIRECTIONS = 16  # Limits 6
+MAX_GUARDS = 16  # Limits 7
+MAX_GENERATORS = 8  # Sets 5
+MAX_VERTICES = 16  # Sets 7
+MIN_LEVEL, MAX_LEVEL = -(2**63), 2**63 - 1  # Model 5
 
-# "The recurrence"
-MATRIX_UNIT = 65_536
-DIRECTION_UNIT = 1_048_576
-GROWTH_LIMIT = 1_073_741_824
-MAX_SPARE = 10
+# "Recurrence"
+MATRIX_UNIT = 65_536  # Model 3
+DIRECTION_UNIT = 1_048_576  # Recurrence 1
+GROWTH_LIMIT = 1_073_741_824  # Recurrence 7
+MAX_SPARE = 10  # Recurrence 9
 
-# "The file"
-READ_LIMIT = 2_048
-LONGEST_FILE = 1_521
-HEAD, ROW, DIRECTION, GUARD, END = 0x01, 0x02, 0x30, 0x40, 0xFF
+# "File"
+READ_LIMIT = 2_048  # Reading 4
+LONGEST_FILE = 1_521  # File 9
+HEAD, ROW, DIRECTION, GUARD, END = 0x01, 0x02, 0x30, 0x40, 0xFF  # File 3
 INITIAL, INPUT = 0x10, 0x20  # the kinds of a set's points are one of these plus one of the next
 LOWER, UPPER, CENTRE, GENERATOR, VERTEX = 0, 1, 2, 3, 4
 BODY_LENGTHS = {

@@ -1,6 +1,6 @@
 """Listings: what the program `envelope` prints, as values, as text and read back.
 
-The layout is that of document 01, after "Figures to test against".
+The layout is that of the specification, Listing 2 to 7.
 """
 
 from __future__ import annotations
@@ -23,14 +23,14 @@ class Refusal:
 
 @dataclass(frozen=True)
 class Growth:
-    """A direction refused for growth, with the first such step."""
+    """A direction refused for growth, and the step that is named."""
 
     step: int
 
 
 @dataclass(frozen=True)
 class Sweep:
-    """A swept direction: its spare figure, and bounds and slacks for steps 0 to K."""
+    """A swept direction: its spare figure, its bounds and its slacks, of the steps 0 to K."""
 
     spare: int
     bounds: tuple[int, ...]

@@ -51,7 +51,7 @@ def made_model(form: str, n: int = 1, full: bool = False) -> Model:
     )
 
 
-SAMPLE = Model(  # of document 01
+SAMPLE = Model(  # Listing 8
     n=1,
     steps=3,
     matrix=((32_768,),),
@@ -81,7 +81,7 @@ def places() -> dict[int, bytes]:
 
 
 def accepted_files() -> Iterator[File]:
-    yield "the sample of document 01", encode(SAMPLE)
+    yield "the sample of the specification", encode(SAMPLE)
     for form in FORMS:
         yield f"shortest with {form}", encode(made_model(form))
         yield f"longest with {form}", encode(made_model(form, MAX_N, full=True))
@@ -254,10 +254,7 @@ def main() -> None:
     parser = argparse.ArgumentParser(description="Write test files for a reader.")
     parser.add_argument("folder", metavar="OUTDIR")
     options = parser.parse_args()
-    try:
-        os.makedirs(options.folder, exist_ok=True)
-    except OSError as error:
-        raise files.Failure(f"{options.folder}: cannot be made: {error.strerror}") from None
+    files.make_folder(options.folder)
     made = contents()
     for name, data in made.items():
         files.write_bytes(os.path.join(options.folder, name), data)

@@ -225,7 +225,7 @@ def tried(root: Path, copy: Path, crate: str, edits: list[Edit]) -> Iterator[Res
     try:
         process = subprocess.Popen(command, cwd=copy, encoding="utf-8", **joined)
     except OSError as error:
-        raise files.Failure(f"rt cannot be run: {error.strerror}") from None
+        raise files.AccessFailure(f"rt cannot be run: {error.strerror}") from None
     assert process.stdout is not None
     with process:
         yield from results(process.stdout, edits, copy, root / "target" / "edits")

@@ -19,7 +19,7 @@ def box(*sides):
 
 
 def single(entry, initial, input_, direction, steps, guards=()):
-    """A model of one coordinate, as document 01 writes its cases."""
+    """A model of one coordinate, as most of the specification's figures are."""
     levels = tuple((0, level) for level in guards)
     return Model(1, steps, ((entry,),), box(initial), box(input_), ((direction,),), levels)
 

@@ -58,8 +58,31 @@ class Compare(FolderTest):
     def test_no_program(self):
         for path in (self.folder, self.folder / "none", os.path.join(TOOLS, "tests", "helpers.py")):
             _, said, status = run_tool("compare.py", path)
-            self.assertEqual(status, 1)
+            self.assertEqual(status, 3)
             self.assertIn("not a program that can be run", said)
+
+    def test_counts_below_1(self):
+        for option in ("--count", "--accuracy-every"):
+            for word, message in (("0", "0 is below 1"), ("-3", "-3 is below 1"),
+                                  ("x", "'x' is no whole number")):
+                out, said, status = self.compare("sys.stdout.write(text)", f"{option}={word}")
+                self.assertEqual((out, status), (b"", 2))
+                self.assertIn(f"argument {option}: {message}", said)
+
+    def test_the_folder_is_made(self):
+        save = self.folder / "a" / "b"
+        _, said, status = self.compare("print()", "--count", 2, "--save", save)
+        self.assertEqual(status, 1)
+        self.assertEqual([path.name for path in save.iterdir()], ["difference-1-0.bin"])
+        self.assertIn(f"saved as {save}", said)
+
+    def test_a_folder_that_cannot_be_made(self):
+        ran = self.folder / "ran"
+        body = f"open({str(ran)!r}, 'w')"
+        save = self.program(body) / "a"
+        _, said, status = self.compare(body, "--save", save)
+        self.assertEqual((said, status), (f"{save}: cannot be made: Not a directory\n", 3))
+        self.assertFalse(ran.exists())
 
 
 if __name__ == "__main__":

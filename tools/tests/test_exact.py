@@ -1,4 +1,4 @@
-"""The exact program against document 01's figures, and against runs counted one by one."""
+"""The exact program against the specification's figures, and against runs counted one by one."""
 
 import itertools
 import tempfile
@@ -17,7 +17,7 @@ from layout import (
 )
 from listings import Growth, Listing, Refusal, Sweep, Verdict
 
-# Document 01's sample, byte by byte: n 1, steps 3; row 0; four corners; a direction; three guards.
+# The sample of Listing 8, byte by byte: n 1, steps 3; row 0; four corners; a direction; three guards.
 REST = "00" * 20  # entries 1 to 5
 SAMPLE = bytes.fromhex(
     "01 01 0300"
@@ -46,7 +46,7 @@ def swept(model):
 
 
 class Figures(unittest.TestCase):
-    """The fourteen cases of document 01, the sample, and further figures worked by hand."""
+    """Figures 1 to 14, the sample, and further figures worked by hand."""
 
     def test_case_1(self):
         told = swept(single(65_536, (2, 5), (-1, 1), 3, 2))
@@ -347,18 +347,39 @@ class Command(unittest.TestCase):
         self.assertEqual((out, status), (SAMPLE_LISTING.encode(), 0))
         self.assertIn("accuracy rule holds", said)
 
+    def test_a_text_is_packed_first(self):
+        text = Path(__file__).resolve().parents[2] / "examples" / "verdicts.model"
+        self.assertEqual(run_tool("exact.py", text), (SAMPLE_LISTING.encode(), "", 0))
+        out, said, status = run_tool("exact.py", "--check", stdin=text.read_bytes())
+        self.assertEqual((out, status), (SAMPLE_LISTING.encode(), 0))
+        self.assertIn("accuracy rule holds", said)
+        wrong = text.read_bytes().replace(b"steps 3", b"steps 0").replace(b"row 0.5", b"row 2.5")
+        out, said, status = run_tool("exact.py", "-", stdin=wrong)
+        self.assertEqual((out, status), (b"", 1))
+        self.assertEqual(said, run_tool("pack.py", "pack", "-", stdin=wrong)[1])
+        self.assertEqual(said.count("\n"), 2)
+
+    def test_a_refused_file_is_told_in_words(self):
+        out, said, status = run_tool("exact.py", "-", stdin=SAMPLE[:-1])
+        self.assertEqual((out, status), (b"refused 1 at 185\n", 1))
+        self.assertEqual(said, "standard input: refused 1 at 185: the file ends where a guard (40)"
+                               " or the end (FF) should come: add it, or get the whole file\n")
+        out, said, status = run_tool("exact.py", "-", stdin=b"\0" + SAMPLE[1:])
+        self.assertEqual((out, status), (b"refused 2 at 0\n", 1))
+        self.assertIn("a packed model starts with byte 01", said)
+
     def test_bad_input(self):
         with tempfile.TemporaryDirectory() as folder:
             empty = Path(folder, "empty")
             empty.write_bytes(b"")
-            for path, message in (
-                (Path(folder, "none"), "no such file"),
-                (folder, "is a directory"),
-                (empty, "the file is empty"),
-                (__file__, "a packed model starts with byte 01"),
+            for path, message, expected in (
+                (Path(folder, "none"), "no such file", 3),
+                (folder, "is a directory", 3),
+                (empty, "the file is empty", 1),
+                (__file__, ":1: unknown word", 1),
             ):
                 out, said, status = run_tool("exact.py", path)
-                self.assertEqual(status, 1)
+                self.assertEqual(status, expected)
                 self.assertIn(message, said)
                 self.assertIn(str(path), said)
 

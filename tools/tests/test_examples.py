@@ -60,7 +60,7 @@ class Examples(unittest.TestCase):
         self.assertEqual(source_of("budget").model.input.form, VERTICES)
         self.assertEqual(source_of("head").model.initial.form, ZONOTOPE)
 
-    def test_the_sample_is_document_01s(self):
+    def test_the_sample_is_the_specifications(self):
         self.assertEqual(len(source_of("verdicts").data), 186)
         expected = "model 1 3/dir 0 spare 10/0 0 0/1 1 0/2 2 1/3 2 1/"
         expected += "guard 0 HIT 1/guard 1 UNKNOWN 2/guard 2 CLEAR/"

@@ -1,6 +1,9 @@
 """Texts and packed files: the same bytes again, limits in words, and messages with their place."""
 
+import random
+import re
 import unittest
+from fractions import Fraction
 
 import helpers
 from helpers import box, run_tool
@@ -47,6 +50,25 @@ class Pack(unittest.TestCase):
         self.assertEqual(source.data, encode(model))
         self.assertEqual(source.coordinates, ("hot", "cold"))
         self.assertEqual(source.directions, ("warm", "gap"))
+        self.assertEqual((source.units, source.time), ((None, None), None))
+
+    def test_units_and_time(self):
+        text = GOOD.replace("guard gap", "unit warm °C 16\nunit gap mV\ntime 1.25 ms\nguard gap")
+        source = pack.parse(text)
+        self.assertEqual(source.units, (("°C", 16), ("mV", 1)))
+        self.assertEqual(source.time, (Fraction(5, 4), "ms"))
+        self.assertEqual(source.data, pack.parse(GOOD).data)
+        written = pack.write_text(source)
+        for row in ("unit warm °C 16", "unit gap mV", "time 1.25 ms", "coordinates hot cold",
+                    "scaled cold 1 -131072"):
+            self.assertIn(f"\n{row}\n", "\n" + written)
+        again = pack.parse(written)
+        self.assertEqual(again.data, source.data)
+        self.assertEqual((again.units, again.time, again.coordinates, again.directions),
+                         (source.units, source.time, source.coordinates, source.directions))
+        for number, written in (("1000000000", "1000000000"), ("0.0010", "0.001"), (".5", "0.5")):
+            source = pack.parse(text.replace("time 1.25", f"time {number}"))
+            self.assertIn(f"\ntime {written} ms\n", pack.write_text(source))
 
     def test_numbered_coordinates(self):
         text = "coordinates 1\nrow 1\ninitial box\nlower 0\nupper 1\n"
@@ -71,6 +93,22 @@ class Pack(unittest.TestCase):
             source = pack.parse(GOOD.replace("0.5", word))
             self.assertEqual(source.model.matrix[0][0], scaled, word)
 
+    def test_rows_that_end_as_on_windows(self):
+        source = pack.parse(GOOD.replace("\n", "\r\n"))
+        self.assertEqual(source, pack.parse(GOOD))
+        self.assertEqual(pack.read_text(b"\xef\xbb\xbf" + GOOD.encode(), "bom"), source)
+
+    def test_rounded_entries(self):
+        most = "rounded (~); the largest relative change is"
+        for row, told in (
+            ("0.5 -0.25", None),
+            ("~0.5 ~0", None),
+            ("~0.97 ~-0.25", f"1 entry was {most} 0.00013 %, of ~0.97 in row 'hot'"),  # 63,569.92
+            ("~0.97 ~-0.0001", f"2 entries were {most} 6.8 %, of ~-0.0001 in row 'hot'"),  # 6.5536
+            ("~0.97 ~-0.000001", f"2 entries were {most} 100 %: ~-0.000001 in row 'hot' becomes 0"),
+        ):
+            self.assertEqual(pack.rounding(pack.parse(GOOD.replace("0.5 -0.25", row))), told)
+
     def test_round_trip(self):
         count = 0
         for data in models.stream(11, 150):
@@ -84,20 +122,33 @@ class Pack(unittest.TestCase):
         self.assertEqual(pack.parse(pack.unpack(data)).data, data)
 
 
+def mistakes(text):
+    """What is told of a text, by row and in words; with a count of more at the end."""
+    with unittest.TestCase().assertRaises(files.Failure) as caught:
+        pack.read_text(text if isinstance(text, bytes) else text.encode(), "rail.model")
+    return [re.sub(r"^rail\.model:(?=\d)", "", said) for said in str(caught.exception).split("\n")]
+
+
 class Messages(unittest.TestCase):
-    def refused(self, old, new, place, message):
+    def changed(self, old, new):
         self.assertEqual(GOOD.count(old), 1, old)
-        with self.assertRaises(files.Failure) as caught:
-            pack.parse(GOOD.replace(old, new), "rail.model")
-        said = str(caught.exception)
-        self.assertTrue(said.startswith(f"rail.model:{place}: "), said)
+        return mistakes(GOOD.replace(old, new))
+
+    def refused(self, old, new, place, message):
+        """One mistake, with nothing told that follows from it."""
+        said, *more = self.changed(old, new)
+        self.assertTrue(said.startswith(f"{place}: "), said)
         self.assertIn(message, said)
+        self.assertEqual(more, [])
 
     def test_messages(self):
         for old, new, place, message in (
             ("coordinates hot cold", "coordinates a b c d e f g", 2, "1 to 6"),
             ("coordinates hot cold", "coordinates 0", 2, "1 to 6"),
             ("coordinates hot cold", "coordinates hot hot", 2, "same name"),
+            ("coordinates hot cold", "coordinates hot, cold", 2, "'hot,' is no name"),
+            ("coordinates hot cold", "coordinates 9,0", 2, "coordinates 9 is beyond 1 to 6"),
+            ("coordinates hot cold", "cordinates hot cold", 2, "did you mean 'coordinates'?"),
             ("coordinates hot cold\n", "", 2, "'coordinates' is due"),
             ("steps 7", "steps 257", 3, "1 to 256"),
             ("steps 7", "steps 0", 3, "without 'steps' the default"),
@@ -108,9 +159,16 @@ class Messages(unittest.TestCase):
             ("0.5 -0.25", "0.5", 4, "expected 2 numbers"),
             ("0.5", "0.97", 4, "write ~0.97 for the nearest, which is 63570/65536"),
             ("0.5", "half", 4, "no decimal number"),
-            ("0.5", "2.5", 4, "131,072"),
-            ("-131072", "-131073", 5, "-131,072 to 131,072"),
-            ("scaled 1 -131072\n", "", 14, "1 rows"),
+            ("0.5", "2.5", 4, "entry 2.5 in column 'hot' is beyond -2 to 2"),
+            ("0.5", "2.3", 4, "entry 2.3 in column 'hot' is beyond -2 to 2"),
+            ("0.5", "~2.00001", 4, "entry ~2.00001 in column 'hot' is beyond -2 to 2"),
+            ("-131072", "-131073", 5,
+             "entry -131,073 in column 'cold' is beyond -131,072 to 131,072"),
+            ("scaled 1 -131072\n", "", 5, "no row for 'cold'"),
+            ("row hot 0.5 -0.25   # decimals\nscaled 1 -131072\n", "", 4,
+             "no row for 'hot', 'cold'"),
+            ("row hot 0.5 -0.25   # decimals\nscaled 1 -131072\n", "row cold 0 0\n", 4,
+             "no row for 'hot'"),
             ("scaled 1 -131072", "scaled 1 1\nscaled 2 2", 6, "one row too many"),
             ("initial zonotope", "initial ball", 6, "box, zonotope, vertices"),
             ("  generator 3 -4\n", "", 6, "1 to 8 generators"),
@@ -124,14 +182,29 @@ class Messages(unittest.TestCase):
              "initial box\nlower 1 2", 6, "one lower and one upper corner"),
             ("input vertices", "initial vertices", 9, "a second initial set"),
             ("input vertices\n  vertex 0 0\n  vertex 5 -6\n", "", 12, "no input set"),
-            ("direction gap 1 -1", "vertex 1 -1", 13, "stands below no 'initial' or 'input'"),
+            ("guard gap -12\n", "vertex 1 -1\nvertex 1 1\n", 14,
+             "stands below no 'initial' or 'input'"),
+            ("input vertices\n", "direction x 1 1\n", 10, "stands below no 'initial' or 'input'"),
             ("direction warm 1 0", "direction warm 1001 0", 12, "-1,000 to 1,000"),
             ("direction warm 1 0", "direction warm 0 0", 12, "are zero"),
             ("direction gap 1 -1", "direction warm 1 -1", 13, "a second direction"),
             ("direction gap 1 -1", "direction 1 -1", 13, "needs a name"),
             ("guard gap -12", "guard gas -12", 14, "no direction named 'gas'"),
             ("guard gap -12", "guard gap", 14, "expected 'guard'"),
-            ("guard gap -12", "guard gap 1,000", 14, "no whole number"),
+            ("guard gap -12", "guard gap many", 14, "no whole number"),
+            ("guard gap -12", "guard gpa -12", 14, "did you mean 'gap'? above it are warm, gap"),
+            ("guard gap -12", "unit gas mV", 14, "no direction named 'gas' above this unit"),
+            ("guard gap -12", "unit gap", 14, "'unit hottest °C 16'"),
+            ("guard gap -12", "unit gap 16", 14, "'16' is no unit"),
+            ("guard gap -12", "unit gap " + "m" * 13, 14, "1 to 12 characters"),
+            ("guard gap -12", "unit gap mV 0", 14, "counts 0 is beyond 1 to 1,000,000,000"),
+            ("guard gap -12", "unit gap mV 1000000001", 14, "beyond 1 to 1,000,000,000"),
+            ("guard gap -12", "unit gap mV\nunit gap mV", 15, "a second unit of direction 'gap'"),
+            ("guard gap -12", "time 1.25", 14, "'time 1.25 ms'"),
+            ("guard gap -12", "time 0 ms", 14, "not above 0"),
+            ("guard gap -12", "time -1 ms", 14, "not above 0"),
+            ("guard gap -12", "time ~1 ms", 14, "~ marks entries of a 'row' only"),
+            ("guard gap -12", "time 1 ms\ntime 1 ms", 15, "a second 'time'"),
             ("9223372036854775807", "9223372036854775808", 15, "level"),
             ("guard gap -12", "guard gap 1\n" * 16, 31, "0 to 16"),
         ):
@@ -139,8 +212,195 @@ class Messages(unittest.TestCase):
                 self.refused(old, new, place, message)
 
     def test_too_many_directions(self):
-        extra = "".join(f"direction e{i} 1 1\n" for i in range(15))
+        extra = "".join(f"direction e{i} 1 1\n" for i in range(16))
         self.refused("guard gap -12\n", extra, 28, "1 to 16")
+
+    def test_words_that_are_meant(self):
+        for old, new, place, guess, allowed in (
+            ("centre", "center", 7, "centre", "centre"),
+            ("generator", "generators", 8, "generator", "generator"),
+            ("centre", "mid", 7, "centre", "centre"),
+            ("vertex 5", "point 5", 11, "vertex", "vertex, time, direction"),
+            ("row hot", "matrix hot", 4, "row",
+             "time, row, scaled, initial, input, direction"),
+            ("row hot", "Row hot", 4, "row", "time, row, scaled, initial, input, direction"),
+            ("steps 7", "stops 7", 3, "steps",
+             "steps, time, row, scaled, initial, input, direction"),
+            ("initial", "init", 6, "initial", "time, initial, input, direction"),
+            ("input", "inputs", 9, "input", "generator, time, input, direction"),
+            ("direction gap", "dir gap", 13, "direction", "time, direction, unit"),
+            ("guard gap", "limit gap", 14, "guard", "time, direction, unit, guard"),
+        ):
+            with self.subTest(new):
+                word = new.split()[0]
+                told = f"unknown word {word!r}; did you mean {guess!r}? allowed here: {allowed}"
+                self.refused(old, new, place, told)
+        corners = "initial zonotope\n  centre 1 2\n  generator 3 -4"
+        self.assertEqual(
+            self.changed(corners, "initial box\nmin 1 2\nhigh 3 4"),
+            ["7: unknown word 'min'; did you mean 'lower'? allowed here: lower",
+             "8: unknown word 'high'; did you mean 'upper'? allowed here: upper"],
+        )
+        self.refused("input vertices", "input vertex", 9,
+                     "did you mean 'vertices'? input takes one of box, zonotope, vertices")
+        self.refused("steps 7", "blob 7", 3, "unknown word 'blob'; allowed here: steps, time, row")
+        self.refused("row hot 0.5", "0.5", 4, "did you mean 'row 0.5 ..'?")
+
+    def test_numbers_in_other_spellings(self):
+        """The advice is right at its place, or there is none but the limits."""
+        for old, new, message in (
+            ("0.5", "0,5", "'0,5' is no decimal number; write 0.5"),
+            ("0.5", "1,000", "write 1"),
+            ("0.5", "5e-1", "write 0.5"),
+            ("0.5", "1e-3", "write ~0.001"),
+            ("0.5", "~0,97", "write ~0.97"),
+            ("0.5", "\u22121", "write -1"),
+            ("0.5", "1e3", "no decimal number; entry 1000 in column 'hot' is beyond -2 to 2"),
+            ("0.5", "2,5", "no decimal number; entry 2.5 in column 'hot' is beyond -2 to 2"),
+            ("scaled 1", "scaled 1e3", "write 1000"),
+            ("scaled 1", "scaled 1e6", "entry 1,000,000 in column 'hot' is beyond -131,072 to"),
+            ("centre 1", "centre 1_000", "write 1000"),
+            ("generator 3", "generator 1048576.0",
+             "the reach of the initial set in 'hot' is 1,048,577, beyond 1,048,576"),
+            ("steps 7", "steps 7.0", "write 7"),
+            ("steps 7", "steps 1,000", "steps 1,000 is beyond 1 to 256"),
+            ("warm 1 0", "warm 1,000 0", "write 1000"),
+            ("guard gap -12", "guard gap 1e3", "write 1000"),
+            ("guard gap -12", "guard gap 1_000", "write 1000"),
+            ("guard gap -12", "guard gap 1,000,000", "write 1000000"),
+            ("guard gap -12", "guard gap 12.0", "write 12"),
+            ("guard gap -12", "guard gap \u221212", "write -12"),
+            ("guard gap -12", "guard gap 1e30", "is beyond -9,223,372,036,854,775,808 to"),
+            ("guard gap -12", "time 1,25 ms", "write 1.25"),
+        ):
+            with self.subTest(new):
+                self.refused(old, new, GOOD[: GOOD.index(old)].count("\n") + 1, message)
+                said = self.changed(old, new)[0]
+                if " write " in said:
+                    word, written = re.search(r"'(.*)' is no .* write (.*)", said).groups()
+                    pack.parse(GOOD.replace(old, new.replace(word, written)))
+        for new in ("0,5", "1.500", "half", "1e400", "--1"):
+            self.assertNotIn("write", self.changed("guard gap -12", f"guard gap {new}")[0])
+        # With a decimal point or a thousands mark; not where one of the two would be refused.
+        self.refused("guard gap -12", "guard gap 21.000", 14, "write 21 or 21000")
+        self.assertNotIn("write", self.changed("steps 7", "steps 1.000")[0])
+
+    def test_numbers_with_too_many_digits(self):
+        digits = "0.96999999999999997335464740899624302983283996582"
+        told = f"'~{digits[:49]}'.. has more than 40 digits before or behind the point"
+        self.assertEqual(self.changed("row hot 0.5", f"row hot ~{digits}5"), [f"4: {told}"])
+        self.assertIn("'1e100' is no", self.changed("guard gap -12", "guard gap 1e100")[0])
+
+    def test_all_mistakes_in_the_order_of_the_rows(self):
+        text = """\
+            coordinates rail current setpoint
+            steps 0
+            row rail 0,5 1 2.5
+            row current 1
+            initial zonotope
+              center 1 2 3
+              generator 1 2
+            input ball
+              lower 0 0 x
+            direction warm 1 0 0 0
+            direction gap 1001 0 0
+            guard warm 1
+            guard gap 1.5
+            guard gas 1
+            """
+        told = mistakes(text)
+        places = [int(row.split(":")[0]) for row in told]
+        self.assertEqual(places, [2, 3, 3, 4, 5, 6, 7, 8, 9, 10, 11, 13, 14])
+        for row, words in zip(told, ("steps 0", "write 0.5", "-2 to 2", "found 1", "'setpoint'",
+                                     "'centre'", "found 2", "'ball'", "'x'", "found 4", "1,001",
+                                     "'1.5'", "'gas'")):
+            self.assertIn(words, row)
+
+    def test_twenty_mistakes_and_a_count_of_more(self):
+        told = self.changed("guard gap -12\n", "guard gap x\n" * 16 + "guard gas 1\n" * 7)
+        self.assertEqual(len(told), 21)
+        self.assertEqual(told[-1], "rail.model: and 4 more")  # 16 + 7, and one guard too many
+
+    def test_one_slip_is_one_mistake(self):
+        """A row twice, a word left out, a name too few: told once, and where it is."""
+        row = "row hot 0.5 -0.25   # decimals\n"
+        for old, new, told in (
+            (row, row + row, "5: a second row 'hot'"),
+            ("scaled 1 -131072", "row hot 1 1", "5: a second row 'hot', where row 'cold' is due"),
+            ("row hot 0.5", "hot 0.5", "4: unknown word 'hot'; did you mean 'row hot ..'?"),
+            ("direction gap 1", "gap 1",
+             "13: unknown word 'gap'; did you mean 'direction gap ..'?"),
+            ("input vertices", "vertices",
+             "9: unknown word 'vertices'; did you mean 'input vertices'?"),
+            ("steps 7", "7", "3: unknown word '7'; did you mean 'steps 7'?"),
+            ("hot cold", "hot", "2: 1 coordinate, but the rows below have 2 numbers each"),
+            ("hot cold", "hot cold air",
+             "2: 3 coordinates, but the rows below have 2 numbers each"),
+            ("hot cold", "= hot cold", "2: '=' is no name: "),
+            ("hot cold", "hot,cold", "2: 'hot,cold' is no name: "),
+            ("initial", "initial zonotope\ninitial", "7: a second initial set"),
+            ("row hot 0.5 -0.25", "row hot ~ 0.5 -0.25",
+             "4: expected 2 numbers, one for each coordinate, found 3; ~ stands right before"),
+        ):
+            with self.subTest(new):
+                found = self.changed(old, new)
+                self.assertEqual(len(found), 1, found)
+                self.assertTrue(found[0].startswith(told), found)
+
+    def test_nothing_is_told_that_only_follows(self):
+        """Of a text with one word changed there is one mistake, or a few in the same row."""
+        rnd = random.Random(3)
+        rows = GOOD.splitlines()
+        for _ in range(600):
+            at = rnd.randrange(2, len(rows))
+            words = rows[at].partition("#")[0].split()
+            words[rnd.randrange(1, len(words))] = rnd.choice(("1e99", "?", "0,5", "2.7182", "-"))
+            text = "\n".join(rows[:at] + [" ".join(words)] + rows[at + 1:])
+            try:
+                pack.parse(text)
+            except files.Failure:
+                places = {row.split(":")[0] for row in mistakes(text)}
+                self.assertEqual(places, {str(at + 1)}, text)
+
+    def test_bytes_that_are_no_text(self):
+        good = GOOD.encode()
+        packed = pack.parse(GOOD).data
+        no_utf_8 = "is no UTF-8: save the text as UTF-8"
+        wide = "the text is saved as UTF-16 or UTF-32: save it as UTF-8"
+        other_end = "a line end that is no line feed: save the text with Unix or Windows line ends"
+        start = "a model starts with 'coordinates'"
+        for data, *told in (
+            (good.replace(b"two", b"caf\xe9"), f"1: byte E9 {no_utf_8}"),
+            (good.replace(b"warm 1 0", b"w\xe4rm 1 0"), f"12: byte E4 {no_utf_8}"),
+            (good.replace(b"decimals", b"\xb5A").replace(b"steps 7", b"steps 0"),
+             "3: steps 0 is beyond 1 to 256; without 'steps' the default holds",
+             f"4: byte B5 {no_utf_8}"),
+            (good.replace(b"steps 7", b"steps 7\0"),
+             "3: byte 00 is a zero byte, which no text has; if this is a text at all, save it as"
+             " UTF-8"),
+            (bytes(range(0x1F, 3, -1)) * 20,
+             "1: byte 1F is a control byte (Ctrl-_), which no text has; if this is a text at all,"
+             " save it as UTF-8"),
+            # What hides a statement behind a comment, and looks like the end of a row in an editor.
+            (good.replace(b"decimals\n", b"decimals\r"), f"4: {other_end}"),
+            (good.replace(b"decimals\n", b"decimals\xe2\x80\xa8"), f"4: {other_end}"),
+            (good.replace(b"decimals\n", b"decimals\xc2\x85"), f"4: {other_end}"),
+            (good.replace(b"decimals\n", b"decimals\x0c\n"),
+             "4: byte 0C is a control byte (Ctrl-L), which no text has: take it out"),
+            (good.replace(b"\n", b"\r"), f"1: {other_end}"),
+            (good + b"\x1a",
+             "16: byte 1A is a control byte (Ctrl-Z), which no text has: take it out"),
+            (GOOD.encode("utf-16"), f"rail.model: {wide}"),
+            (GOOD.encode("utf-32"), f"rail.model: {wide}"),
+            (b"", "rail.model: the file is empty; a model's text starts with 'coordinates'"),
+            (b" \r\n\t\n", f"rail.model: the text is empty: it has only blanks; {start}"),
+            (b"# steps 7\n", f"rail.model: the text is empty: it has only comments; {start}"),
+            (packed, "rail.model: not a text, but a packed model"),
+            (b"\0" + packed[1:], "rail.model: not a text, but maybe a packed model whose first"
+                                 " byte is 00 and not 01"),
+        ):
+            with self.subTest(data[:20]):
+                self.assertEqual(mistakes(data), told)
 
     def test_nothing_refused_by_the_reader_only(self):
         """What packs is read: `parse` asserts it for each text, here at all limits at once."""
@@ -169,31 +429,87 @@ class Command(helpers.FolderTest):
         data[4 + 2 + 8] = 1  # the third entry of row 0
         out, said, status = run_tool("pack.py", "unpack", "-", stdin=bytes(data))
         self.assertEqual((status, pack.parse(out.decode()).data), (0, pack.parse(GOOD).data))
-        self.assertIn("beyond n", said)
+        self.assertIn("standard input: note: entries beyond n", said)
+
+    def test_rounding_is_told_unless_quiet(self):
+        text = GOOD.replace("0.5", "~0.97").encode()
+        told = "1 entry was rounded (~); the largest relative change is 0.00013 %, of ~0.97 in row"
+        for options, name in (((), "standard input"), (("--name", "rail"), "rail")):
+            out, said, status = run_tool("pack.py", "pack", *options, "-", stdin=text)
+            self.assertEqual((said, status), (f"{name}: {told} 'hot'\n", 0))
+            self.assertEqual(out, pack.parse(text.decode()).data)
+        self.assertEqual(run_tool("pack.py", "pack", "--quiet", "-", stdin=text)[1], "")
+
+    def test_the_name_in_messages(self):
+        wrong = GOOD.replace("steps 7", "steps 0").encode()
+        for options, name in (((), "standard input"), (("--name", "rail"), "rail")):
+            out, said, status = run_tool("pack.py", "pack", *options, "-", stdin=wrong)
+            self.assertEqual((out, status), (b"", 1))
+            self.assertTrue(said.startswith(f"{name}:3: steps 0"), said)
+
+    def test_unpacked_with_names(self):
+        text = GOOD.replace("guard gap", "unit gap mV 10\ntime 1.25 ms\nguard gap")
+        data = pack.parse(GOOD).data
+        names = self.write("names.model", text)
+        out, said, status = run_tool("pack.py", "unpack", "-", "--names", names, stdin=data)
+        self.assertEqual((said, status), ("", 0))
+        self.assertEqual(pack.parse(out.decode()), pack.parse(text))
+        self.assertIn(b"\nscaled hot 32768 -16384\n", out)
+        self.assertEqual(run_tool("pack.py", "pack", "-", stdin=out)[0], data)
+        # Only names are taken from the text.
+        names = self.write("other.model", text.replace("0.5", "0.25").replace("steps 7", ""))
+        again = run_tool("pack.py", "unpack", "-", "--names", names, stdin=data)
+        self.assertEqual(again, (out, "", 0))
+        self.assertNotIn(b"hot", run_tool("pack.py", "unpack", "-", stdin=data)[0])
+
+    def test_names_that_do_not_fit(self):
+        data = pack.parse(GOOD).data
+        fewer = self.write("fewer.model", "coordinates hot\nrow 1\ninitial vertices\nvertex 1\n"
+                                          "input vertices\nvertex 1\ndirection d 1\n")
+        more = self.write("more.model", GOOD + "direction more 1 1\n")
+        wrong = self.write("wrong.model", GOOD.replace("steps 7", "steps 0"))
+        for path, message, expected in (
+            (fewer, "no names for standard input: 1 coordinates where the file has 2", 1),
+            (more, "no names for standard input: 3 directions where the file has 2", 1),
+            (wrong, "wrong.model:3: steps 0", 1),
+            (self.folder / "none", "none: no such file", 3),
+        ):
+            out, said, status = run_tool("pack.py", "unpack", "-", "--names", path, stdin=data)
+            self.assertEqual((out, status), (b"", expected))
+            self.assertIn(message, said)
+
+    def test_help_shows_the_form(self):
+        for words in (("--help",), ("pack", "--help")):
+            out, _, status = run_tool("pack.py", *words)
+            self.assertEqual(status, 0)
+            self.assertIn(b"\n    direction NAME ENTRY ..       1 to 16, whole numbers\n", out)
+            self.assertIn(b"\n    unit DIRECTION UNIT [COUNTS]  ", out)
 
     def test_bad_input(self):
         empty = self.folder / "empty"
         empty.write_bytes(b"")
         cut = self.folder / "cut"
         cut.write_bytes(pack.parse(GOOD).data[:-1])
-        for arguments, message in (
-            (("pack", self.folder / "none"), "none: no such file"),
-            (("pack", self.folder), "is a directory"),
-            (("pack", empty), "the file is empty"),
-            (("pack", cut), "cut:1: not a text"),
-            (("pack", helpers.__file__), ":1: unknown word"),
-            (("pack", self.text, "-o", self.folder), "cannot be written"),
-            (("unpack", self.folder / "none"), "none: no such file"),
-            (("unpack", self.folder), "is a directory"),
-            (("unpack", empty), "the file is empty"),
-            (("unpack", cut), "refused 1 at 226: the file ends"),
-            (("unpack", self.text), "a packed model starts with byte 01"),
+        for arguments, message, expected in (
+            (("pack", self.folder / "none"), "none: no such file", 3),
+            (("pack", self.folder), "is a directory", 3),
+            (("pack", empty), "the file is empty", 1),
+            (("pack", cut), "cut: not a text, but a packed model", 1),
+            (("pack", helpers.__file__), ":1: unknown word", 1),
+            (("pack", self.text, "-o", self.folder), "cannot be written", 3),
+            (("pack", self.text, "-o", "/dev/full"), "cannot be written", 3),
+            (("unpack", self.folder / "none"), "none: no such file", 3),
+            (("unpack", self.folder), "is a directory", 3),
+            (("unpack", empty), "the file is empty", 1),
+            (("unpack", cut), "refused 1 at 226: the file ends where a guard (40) or", 1),
+            (("unpack", self.text), "a packed model starts with byte 01", 1),
         ):
             with self.subTest(arguments):
                 out, said, status = run_tool("pack.py", *arguments)
-                self.assertEqual((out, status), (b"", 1))
+                self.assertEqual((out, status), (b"", expected))
                 self.assertIn(message, said)
                 self.assertEqual(said.count("\n"), 1)
+        self.assertEqual(run_tool("pack.py", "pack")[2], 2)
 
 
 if __name__ == "__main__":

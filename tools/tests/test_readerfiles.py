@@ -15,7 +15,7 @@ class ReaderFiles(unittest.TestCase):
 
     def test_replies_by_hand(self):
         for what, reply in (
-            ("the sample of document 01", "model 1 3"),
+            ("the sample of the specification", "model 1 3"),
             ("longest with vertices", "model 6 256"),
             ("the head says 0 steps", "model 1 60"),
             ("any numbers beyond n", "model 1 3"),
@@ -76,7 +76,7 @@ class ReaderFiles(unittest.TestCase):
 
     def test_bad_folder(self):
         _, said, status = run_tool("readerfiles.py", __file__)
-        self.assertEqual(status, 1)
+        self.assertEqual(status, 3)
         self.assertIn("cannot be made", said)
 
     def test_the_run_test_has_these_files(self):

@@ -1,0 +1,153 @@
+"""Refusals in words: each number with its record, what is wrong there and what to change."""
+
+import unittest
+from pathlib import Path
+
+from helpers import FolderTest, run_tool
+
+import refusal
+from layout import direction, guard, head, point, row
+
+ROOT = Path(__file__).resolve().parents[2]
+ROWS = head(1, 3) + row(0, [5])
+SETS = ROWS + point(0x14, [1]) + point(0x24, [1])
+ASKED = SETS + direction([1])
+TWO = head(2, 3) + row(0, [5, 5]) + row(1, [5, 5])
+
+FIRST_POINTS = (
+    "the lower corner of the initial set (10), the centre of the initial set (12) or a vertex of"
+    " the initial set (14)"
+)
+START = "a packed model starts with byte 01"
+
+
+class Words(unittest.TestCase):
+    def told(self, data, *messages):
+        for message in messages:
+            self.assertIn(message, refusal.message("rail", data))
+        self.assertTrue(refusal.message("rail", data).startswith("rail: refused "))
+
+    def test_1_the_file_ends(self):
+        self.told(b"", "refused 1 at 0: the file is empty: a packed model starts with the head")
+        self.told(b"\x01", "refused 1 at 0: the file ends within the head: 3 of its 4 bytes are")
+        self.told(ROWS, f"refused 1 at 30: the file ends where {FIRST_POINTS} should come")
+        self.told(TWO[:-1], "refused 1 at 30: the file ends within row 1 (the second): 1 of its 26"
+                            " bytes is missing; get the whole file")
+        self.told(ASKED, "refused 1 at 105: the file ends where a direction (30), a guard (40) or"
+                         " the end (FF) should come")
+
+    def test_2_unknown_kind(self):
+        self.told(b"\0", f"refused 2 at 0: byte 00 is no kind of record; here may stand the head"
+                         f" (01); {START}")
+        self.told(b"coordinates 1\n", START, "if this is a text, pack it first")
+        self.told(SETS + b"\x31", "refused 2 at 80: byte 31 is no kind of record; here may stand a"
+                                  " vertex of the input set (24) or a direction (30)")
+
+    def test_3_not_here(self):
+        self.told(b"\x02", "refused 3 at 0: a row (02) stands where only the head (01) may", START)
+        self.told(ROWS + row(1, [5]),
+                  f"refused 3 at 30: a row (02) stands where only {FIRST_POINTS} may stand")
+        self.told(ROWS + point(0x12, [1]) + point(0x24, [1]),
+                  "refused 3 at 55: a vertex of the input set (24) stands where only a generator of"
+                  " the initial set (13) may stand")
+        # A list that is full is not offered.
+        self.told(ASKED + direction([1]) * 15 + head(1, 1), "only a guard (40) or the end (FF) may")
+
+    def test_4_the_head(self):
+        self.told(head(7, 3), "refused 4 at 0: the head: n is 7; it must be 1 to 6")
+        self.told(head(1, 257), "the head: the number of steps is 257; it must be 1 to 256, or 0"
+                                " for 60")
+        self.told(head(0, 65_535), "n is 0;", "the number of steps is 65,535;")
+
+    def test_5_rows(self):
+        self.told(head(2, 3) + row(0, [5]) + row(0, [5]),
+                  "refused 5 at 30: row 1 (the second): it says number 0 and must say 1")
+        self.told(head(2, 3) + row(0, [5, -131_073]),
+                  "refused 5 at 4: row 0 (the first): entry -131,073 in column 1 (the second) must"
+                  " be -131,072 to 131,072 in 1/65,536, which is -2 to 2")
+
+    def test_6_sets(self):
+        self.told(TWO + point(0x10, [3, 2]) + point(0x11, [3, 1]),
+                  "refused 6 at 81: the upper corner of the initial set: upper 1 is below lower 2"
+                  " in coordinate 1 (the second)")
+        self.told(ROWS + point(0x12, [-1_048_570]) + point(0x13, [-6]) + point(0x13, [1]),
+                  "refused 6 at 80: generator 1 (the second) of the initial set: with it the set's"
+                  " reach in coordinate 0 (the first) is 1,048,577; it must be at most 1,048,576")
+        self.told(ROWS + point(0x14, [0]) + point(0x20, [-(2**31)]),
+                  "the lower corner of the input set: with it the set's reach in coordinate 0"
+                  " (the first) is 2,147,483,648;")
+
+    def test_7_directions(self):
+        self.told(SETS + direction([1_001]), "refused 7 at 80: direction 0 (the first): entry 1,001"
+                                             " in column 0 (the first) must be -1,000 to 1,000")
+        self.told(ASKED + direction([0, 1]), "refused 7 at 105: direction 1 (the second): its entry"
+                                             " is zero; one must not be (those beyond n, 1, don't")
+        self.told(TWO + point(0x14, []) + point(0x24, []) + direction([]), "all of its 2 entries")
+
+    def test_8_guards(self):
+        self.told(ASKED + guard(0, 1) + guard(1, 1), "refused 8 at 115: guard 1 (the second): it is"
+                                                     " on direction 1, but the only one is")
+        self.told(ASKED + direction([1]) + guard(9, 1), "direction 9, but there are 0 to 1;")
+
+    def test_9_too_many(self):
+        for start, record, message in (
+            (ROWS + point(0x12, [1]), point(0x13, [1]) * 9,
+             "generator 8 (the ninth) of the initial set, kind 13, is one too many: a zonotope has"
+             " 1 to 8 generators; leave it out"),
+            (ROWS, point(0x14, [1]) * 17, "vertex 16 (the seventeenth) of the initial set, kind"),
+            (SETS, direction([1]) * 17, "direction 16 (the seventeenth), kind 30, is one too many"),
+            (ASKED, guard(0, 1) * 17, "guard 16 (the seventeenth), kind 40, is one too many"),
+        ):
+            self.told(start + record, "refused 9 at", message)
+
+    def test_10_bytes_behind_the_end(self):
+        self.told(ASKED + b"\xff\xff", "refused 10 at 106: 1 byte follows the end (FF)")
+        self.told(ASKED + b"\xff" + bytes(5_000), "refused 10 at 106: 5,000 bytes follow the end")
+
+    def test_not_refused(self):
+        self.assertEqual(refusal.message("rail", ASKED + b"\xff"),
+                         "rail: not refused: a model with n 1 and 3 steps")
+
+    def test_all_files_of_the_reader(self):
+        """Number and offset are those of the replies, and no sentence serves two numbers."""
+        numbers = {}
+        replies = (ROOT / "crates" / "readings" / "stdout").read_text().splitlines()
+        self.assertEqual(len(replies), 598)
+        for name, reply in (line.split(": ") for line in replies):
+            data = (ROOT / "crates" / "readings" / "data" / name).read_bytes()
+            said = refusal.message("f", data)
+            if reply.startswith("model"):
+                self.assertTrue(said.startswith("f: not refused"), said)
+                continue
+            self.assertTrue(said.startswith(f"f: {reply}: "), said)
+            numbers.setdefault(said.split(": ", 2)[2], set()).add(reply.split()[1])
+        self.assertEqual({len(of_one) for of_one in numbers.values()}, {1})
+        self.assertEqual(set().union(*numbers.values()), {str(i) for i in range(1, 11)})
+
+
+class Command(FolderTest):
+    def test_command(self):
+        cut = self.folder / "cut"
+        cut.write_bytes(ROWS)
+        told = "refused 1 at 30: the file ends where"
+        for arguments, name in (((cut,), str(cut)), (("--name", "rail", cut), "rail")):
+            out, said, status = run_tool("refusal.py", *arguments)
+            self.assertEqual((out, status, said.count("\n")), (b"", 0, 1))
+            self.assertTrue(said.startswith(f"{name}: {told}"), said)
+        out, said, status = run_tool("refusal.py", "-", stdin=ASKED + b"\xff")
+        self.assertEqual((out, status), (b"", 0))
+        self.assertIn("standard input: not refused", said)
+
+    def test_bad_input(self):
+        for arguments, message, expected in (
+            ((self.folder / "none",), "none: no such file", 3),
+            ((self.folder,), "is a directory", 3),
+            ((), "FILE", 2),
+        ):
+            out, said, status = run_tool("refusal.py", *arguments)
+            self.assertEqual((out, status), (b"", expected))
+            self.assertIn(message, said)
+
+
+if __name__ == "__main__":
+    unittest.main()
