@@ -1,5 +1,5 @@
 #!/usr/bin/env python3
-"""Test the program `envelope` and the command `run` from outside, as a user's shell would.
+"""Test the program `envelope` from outside, as a user's shell would.
 
     program.py
 
@@ -28,7 +28,9 @@ MOST_MEMORY = 4 * 1024  # kB
 sys.path.insert(0, str(ROOT / "tools"))
 
 import exact  # noqa: E402
-from layout import BOX, MAX_DIRECTIONS, MAX_GUARDS, MAX_N, MAX_REACH, MAX_STEPS, Model, Set, encode  # noqa: E402
+from layout import (  # noqa: E402
+    BOX, MAX_DIRECTIONS, MAX_GUARDS, MAX_N, MAX_REACH, MAX_STEPS, VERTICES, ZONOTOPE, Model, Set, encode,
+)
 
 
 def largest() -> bytes:
@@ -50,7 +52,7 @@ def reply(data: bytes) -> bytes:
 
 
 class Text(unittest.TestCase):
-    def test_document_01s_sample_is_listed_as_there(self) -> None:
+    def test_the_sample_is_listed_as_in_the_specification(self) -> None:
         self.assertEqual(len(SAMPLE), 186)
         self.assertEqual(reply(SAMPLE), SAMPLE_TEXT)
 
@@ -66,6 +68,32 @@ class Text(unittest.TestCase):
         text = reply(data)
         self.assertEqual(text, exact.listing(data).encode("ascii"))
         self.assertEqual(text.count(b"\n"), 1 + 16 * (1 + 257) + 16)
+
+    def test_equal_corners_and_equal_vertices_are_accepted(self) -> None:
+        corners, vertices = Set(BOX, ((2, 3), (2, 5))), Set(VERTICES, ((4, -1),) * 3 + ((0, 0),) * 2)
+        matrix = ((40_000, -7), (12, 50_000))
+        for initial, input_ in ((corners, vertices), (vertices, corners), (vertices, vertices)):
+            data = encode(Model(2, 5, matrix, initial, input_, ((3, -2),), ((0, 7),)))
+            text = reply(data)
+            self.assertTrue(text.startswith(b"model 2 5\n"), text)
+            self.assertEqual(text, exact.listing(data).encode("ascii"))
+
+    def test_one_to_eight_generators_are_accepted(self) -> None:
+        first, size = 55, 25  # the offset behind the centre, and the length of a point's record
+        for count in range(11):
+            initial = Set(ZONOTOPE, ((1,),) * (1 + count))
+            data = encode(Model(1, 2, ((9,),), initial, Set(BOX, ((0,), (0,))), ((1,),), ()))
+            expected = {0: f"refused 3 at {first}\n"}.get(count, exact.listing(data))
+            if count > 8:
+                expected = f"refused 9 at {first + 8 * size}\n"
+            with self.subTest(count):
+                self.assertEqual(reply(data).decode(), expected)
+                self.assertEqual(expected.startswith("model 1 2\n"), 1 <= count <= 8)
+
+    def test_kinds_are_hexadecimal(self) -> None:
+        # The sample's box begins with the kind 10, sixteen, at offset 30; ten is no kind.
+        self.assertEqual(SAMPLE[30], 0x10)
+        self.assertEqual(reply(SAMPLE[:30] + bytes([10]) + SAMPLE[31:]), b"refused 2 at 30\n")
 
     def test_an_empty_file_is_refused_by_1_at_0(self) -> None:
         self.assertEqual(reply(b""), b"refused 1 at 0\n")
@@ -151,43 +179,6 @@ class Output(unittest.TestCase):
             input=largest(), capture_output=True, timeout=TIME_LIMIT,
         )
         self.assertEqual(done.stdout, exact.listing(largest()).encode("ascii"))
-
-
-class Run(unittest.TestCase):
-    def run_on(self, *words: str) -> subprocess.CompletedProcess[bytes]:
-        return subprocess.run([ROOT / "run", *words], capture_output=True, timeout=600)
-
-    def test_a_text_and_its_packed_file_give_the_listing(self) -> None:
-        for suffix in (".model", ".bin"):
-            with self.subTest(suffix):
-                done = self.run_on(str(EXAMPLES / ("rail" + suffix)))
-                self.assertEqual(done.returncode, 0, done.stderr)
-                self.assertEqual(done.stdout, (EXAMPLES / "rail.listing").read_bytes())
-
-    def test_a_refused_file_has_a_status_of_its_own(self) -> None:
-        with tempfile.NamedTemporaryFile() as file:
-            file.write(SAMPLE[:-1])
-            file.flush()
-            done = self.run_on(file.name)
-        self.assertEqual((done.returncode, done.stdout), (1, b"refused 1 at 185\n"))
-
-    def test_output_that_fails_has_a_status(self) -> None:
-        command = f"'{ROOT / 'run'}' '{EXAMPLES / 'rail.bin'}' > /dev/full"
-        done = subprocess.run(["sh", "-c", command], capture_output=True, timeout=600)
-        self.assertEqual(done.returncode, 2)
-        self.assertIn(b"standard output could not be written", done.stderr)
-
-    def test_bad_input_is_named(self) -> None:
-        for words, status, message in (
-            ([], 2, b"usage"),
-            ([str(EXAMPLES / "missing.model")], 2, b"missing.model is not there"),
-            ([str(EXAMPLES)], 2, b"is a directory"),
-            ([str(ROOT / "README.md")], 1, b"README.md:3: "),
-        ):
-            with self.subTest(words):
-                done = self.run_on(*words)
-                self.assertEqual((done.returncode, done.stdout), (status, b""))
-                self.assertIn(message, done.stderr)
 
 
 if __name__ == "__main__":

@@ -1,0 +1,728 @@
+#!/usr/bin/env python3
+"""Test the command `run` from outside, as a user's shell would.
+
+    run.py
+
+Each test has a small clone of its own, with the built program, target/bin/envelope, and fails where
+there is none. Nothing is proved: the `rt` of a clone only writes rows as the real one does, and
+notes how it was called.
+"""
+
+from __future__ import annotations
+
+import errno
+import fcntl
+import os
+import re
+import shutil
+import signal
+import subprocess
+import sys
+import tempfile
+import time
+import unittest
+from pathlib import Path
+from typing import Callable, Sequence
+
+ROOT = Path(__file__).resolve().parent.parent
+EXAMPLES = ROOT / "examples"
+RAIL_BIN, RAIL_TEXT = EXAMPLES / "rail.bin", EXAMPLES / "rail.listing"
+SAMPLE = (ROOT / "crates" / "envelope" / "stdin").read_bytes()
+SAMPLE_TEXT = (ROOT / "crates" / "envelope" / "stdout").read_bytes()
+sys.path.insert(0, str(ROOT / "tools"))
+
+import pack  # noqa: E402
+
+# A text of the rail with whole numbers, so that nothing is rounded and nothing is said of it.
+TEXTS = tempfile.TemporaryDirectory()
+RAIL = Path(TEXTS.name) / "rail.model"
+RAIL.write_text(pack.unpack(RAIL_BIN.read_bytes()))
+TIME_LIMIT = 20  # seconds; a command that has not ended by then hangs
+# What `run` calls, beside the program.
+COMMANDS = (
+    "awk bash find flock head mkdir mkfifo mktemp od python3 readlink rm sed tac touch wc".split()
+)
+# The crates that the program is made of. Not each has all parts.
+(ROW,) = re.findall(r"^envelope:([^#\n]*)", (ROOT / "crates.txt").read_text(), re.MULTILINE)
+USED = [name for name in ROW.split() if (ROOT / "crates" / name).is_dir()] + ["envelope"]
+OTHER_FILES = ("reader/specs/Some.antt", "reader/proofs/some/Proof.antt", "reader/must-fail/some.edit")
+# An `rt`. Like the real one it leaves the program alone where its stamp is there.
+RT = """#!/usr/bin/env bash
+echo "$*" >> '{notes}/calls'
+mkdir '{notes}/busy' || echo two >> '{notes}/overlaps'
+for crate in {crates}; do echo "fn $crate::some: proved"; echo "rt: $crate proved (3 s)"; done
+sleep {seconds}
+[ -e target/stamp/envelope ] || {{ mkdir -p target/bin && cp '{program}' target/bin/envelope; }}
+{last}
+status=$?
+rmdir '{notes}/busy'
+exit $status
+"""
+
+
+def setUpModule() -> None:
+    # What a shell starts in the background ignores these, and hands that on.
+    for signal_ in (signal.SIGINT, signal.SIGHUP):
+        signal.signal(signal_, lambda *_: sys.exit(2))
+
+
+def script(path: Path, text: str) -> None:
+    path.write_text(text)
+    path.chmod(0o755)
+
+
+def until(condition: Callable[[], bool]) -> None:
+    """Wait for something that another process does."""
+    limit = time.monotonic() + TIME_LIMIT
+    while not condition():
+        assert time.monotonic() < limit, "it does not come"
+        time.sleep(0.01)
+
+
+def end(started: subprocess.Popen[bytes]) -> None:
+    with started:
+        started.kill()
+
+
+class Clone(unittest.TestCase):
+    """A clone in a folder of its own, whose program is newer than its sources."""
+
+    def setUp(self) -> None:
+        self.folder = Path(tempfile.mkdtemp())
+        self.addCleanup(shutil.rmtree, self.folder, ignore_errors=True)
+        self.clone, self.notes, self.temporary, self.bin = (
+            self.folder / name for name in ("clone", "notes", "temporary", "bin")
+        )
+        for folder in (self.clone, self.notes, self.temporary, self.bin):
+            folder.mkdir()
+        for name in ("run", "VERSION", "crates.txt"):
+            shutil.copy(ROOT / name, self.clone / name)
+        (self.clone / "tools").symlink_to(ROOT / "tools")
+        for file in (*(f"{crate}/src/lib.rt" for crate in [*USED, "figures"]), *OTHER_FILES):
+            (self.clone / "crates" / file).parent.mkdir(parents=True)
+            (self.clone / "crates" / file).touch()
+        self.program = self.clone / "target" / "bin" / "envelope"
+        self.program.parent.mkdir(parents=True)
+        shutil.copy(ROOT / "target" / "bin" / "envelope", self.program)
+        (self.bin / "python3").symlink_to(sys.executable)
+        self.rt()
+
+    def rt(self, last: str = "true", seconds: float = 0, crates: list[str] = USED) -> None:
+        """An `rt` that sleeps, and ends with a command of the test's."""
+        script(
+            self.bin / "rt",
+            RT.format(
+                notes=self.notes, program=ROOT / "target" / "bin" / "envelope",
+                crates=" ".join(crates), seconds=seconds, last=last,
+            ),
+        )
+
+    def stamp(self) -> None:
+        """Let `rt` leave the program alone."""
+        stamp = self.clone / "target" / "stamp" / "envelope"
+        stamp.parent.mkdir()
+        stamp.touch()
+
+    def path(self, without: str = "", more: Sequence[str] = ()) -> str:
+        """A PATH with what `run` calls and no more."""
+        places = {"python3": sys.executable, "rt": self.bin / "rt"}
+        folder = self.folder / "path"
+        folder.mkdir()
+        for name in {*COMMANDS, *more} - {without}:
+            (folder / name).symlink_to(places.get(name) or str(shutil.which(name)))
+        return str(folder)
+
+    def start(
+        self, *words: str | Path, path: str | None = None, command: str | Path | None = None, **how
+    ) -> subprocess.Popen[bytes]:
+        """Start `run`, or another command."""
+        path = path or f"{self.bin}:{os.environ['PATH']}"
+        how = {"stdin": subprocess.DEVNULL, "stdout": subprocess.PIPE, "stderr": subprocess.PIPE, **how}
+        started = subprocess.Popen(
+            [command or self.clone / "run", *words],
+            env={**os.environ, "TMPDIR": str(self.temporary), "PATH": path}, bufsize=0, **how,
+        )
+        self.addCleanup(end, started)
+        return started
+
+    def run_on(
+        self, *words: str | Path, data: bytes | None = None, **how
+    ) -> subprocess.CompletedProcess[bytes]:
+        if data is not None:
+            how["stdin"] = subprocess.PIPE
+        started = self.start(*words, **how)
+        out, err = started.communicate(data, TIME_LIMIT)
+        self.assertEqual(list(self.temporary.iterdir()), [], "temporary files are left")
+        return subprocess.CompletedProcess(words, started.returncode, out, err)
+
+    def assert_done(
+        self, done: subprocess.CompletedProcess[bytes], status: int, out: bytes, err: bytes | None = None
+    ) -> None:
+        self.assertEqual((done.returncode, done.stdout), (status, out), done.stderr)
+        if err is not None:
+            self.assertEqual(done.stderr, err)
+
+    def calls(self) -> int:
+        """How often `rt` was called."""
+        calls = self.notes / "calls"
+        return len(calls.read_text().splitlines()) if calls.exists() else 0
+
+    def make_newer(self, file: Path) -> None:
+        """Changed a second after the program was built."""
+        time_ = self.program.stat().st_mtime + 1
+        os.utime(file, (time_, time_))
+
+    def age(self) -> None:
+        """Put everything an hour back, so that whatever is done now is newer."""
+        hour_ago = time.time() - 3600
+        for file in [self.clone / "crates.txt", *self.clone.glob("crates/**/*")]:
+            os.utime(file, (hour_ago, hour_ago))
+        os.utime(self.program, (hour_ago + 1, hour_ago + 1))
+
+
+class Models(Clone):
+    def test_a_text_and_its_packed_file_give_the_listing(self) -> None:
+        for model in (RAIL, RAIL_BIN):
+            with self.subTest(model.name):
+                self.assert_done(self.run_on(model), 0, RAIL_TEXT.read_bytes(), b"")
+
+    def test_several_models_stand_under_their_names(self) -> None:
+        sample = EXAMPLES / "verdicts.model"
+        rows = f"==> {RAIL} <==\n", RAIL_TEXT.read_text(), f"\n==> {sample} <==\n", SAMPLE_TEXT.decode()
+        self.assert_done(self.run_on(RAIL, sample), 0, "".join(rows).encode(), b"")
+
+    def test_each_model_is_answered_whatever_the_others_are(self) -> None:
+        (self.folder / "cut.bin").write_bytes(SAMPLE[:-1])
+        (self.folder / "wrong.model").write_text("steps 3\n")
+        (self.folder / "good.bin").write_bytes(SAMPLE)
+        cut, good = b"==> cut.bin <==\nrefused 1 at 185\n", b"==> good.bin <==\n" + SAMPLE_TEXT
+        for words, status, out in (
+            ("cut.bin missing good.bin", 2, cut + b"\n" + good),
+            ("missing cut.bin", 2, cut),
+            ("good.bin cut.bin", 1, good + b"\n" + cut),
+            ("wrong.model good.bin", 1, good),
+            ("good.bin wrong.model /", 2, good),
+        ):
+            with self.subTest(words):
+                self.assert_done(self.run_on(*words.split(), cwd=self.folder), status, out)
+
+    def test_standard_input_is_a_model(self) -> None:
+        for data in (RAIL.read_bytes(), RAIL_BIN.read_bytes()):
+            self.assert_done(self.run_on("-", data=data), 0, RAIL_TEXT.read_bytes(), b"")
+
+    def test_standard_input_has_a_name(self) -> None:
+        done = self.run_on("-", RAIL, data=SAMPLE)
+        self.assertTrue(done.stdout.startswith(b"==> standard input <==\nmodel 1 3\n"), done.stdout)
+        for data in (b"steps 3\n", SAMPLE[:-1]):
+            done = self.run_on("-", data=data)
+            self.assertEqual(done.returncode, 1)
+            self.assertIn(b"standard input:", done.stderr)
+            self.assertNotIn(bytes(self.temporary), done.stderr)
+
+    def test_a_pipe_is_a_model(self) -> None:
+        pipe = self.folder / "pipe"
+        os.mkfifo(pipe)
+        for model in (RAIL, RAIL_BIN):
+            self.start(model, pipe, command="cp")
+            self.assert_done(self.run_on(pipe), 0, RAIL_TEXT.read_bytes(), b"")
+            number = self.start(model, command="cat").stdout.fileno()
+            done = self.run_on(f"/dev/fd/{number}", pass_fds=[number])
+            self.assert_done(done, 0, RAIL_TEXT.read_bytes(), b"")
+
+    def test_input_without_end_ends(self) -> None:
+        self.assertRegex(self.run_on("/dev/zero").stderr, b"^run: /dev/zero is too long")
+        done = self.run_on("-", stdin=self.start(RAIL_BIN, "/dev/zero", command="cat").stdout)
+        self.assert_done(done, 1, b"refused 10 at %d\n" % len(RAIL_BIN.read_bytes()))
+
+    def test_a_refused_file_is_told_in_words(self) -> None:
+        file = self.folder / "cut.bin"
+        file.write_bytes(SAMPLE[:-1])
+        done = self.run_on(file)
+        self.assert_done(done, 1, b"refused 1 at 185\n")
+        self.assertRegex(done.stderr.decode(), rf"{file}\b.* ends? ")
+
+    def test_an_empty_input_is_told(self) -> None:
+        self.assert_done(self.run_on("-", data=b""), 1, b"refused 1 at 0\n", b"run: standard input is empty\n")
+        self.assert_done(self.run_on("/dev/null"), 1, b"refused 1 at 0\n", b"run: /dev/null is empty\n")
+
+    def test_bad_input_is_named(self) -> None:
+        for words, status, message in (
+            ([], 2, b"usage"),
+            ([EXAMPLES / "missing.model"], 2, b"missing.model is not there"),
+            ([EXAMPLES], 2, b"is a directory"),
+            ([ROOT / "README.md"], 1, b"README.md:3: "),
+        ):
+            with self.subTest(words):
+                done = self.run_on(*words)
+                self.assert_done(done, status, b"")
+                self.assertIn(message, done.stderr)
+
+    def test_output_that_fails_has_a_status(self) -> None:
+        with open("/dev/full", "wb") as full:
+            for words in ([RAIL_BIN], [RAIL_BIN, RAIL_BIN], ["--help"], ["--version"]):
+                done = self.run_on(*words, stdout=full)
+                self.assertEqual((done.returncode, done.stderr), (2, b"run: standard output could not be written\n"))
+
+    def test_a_reader_that_goes_away_gets_no_messages(self) -> None:
+        started = self.start(*[EXAMPLES / "head.bin"] * 40)
+        self.assertEqual(started.stdout.readline(), b"==> %s <==\n" % bytes(EXAMPLES / "head.bin"))
+        started.stdout.close()
+        self.assertEqual((started.wait(TIME_LIMIT), started.stderr.read()), (128 + signal.SIGPIPE, b""))
+        self.assertEqual(list(self.temporary.iterdir()), [])
+
+
+class Words(Clone):
+    def test_help_tells_the_words_and_the_statuses(self) -> None:
+        for words in (["--help"], [RAIL, "--help"]):
+            done = self.run_on(*words)
+            self.assertEqual((done.returncode, done.stderr), (0, b""))
+            for part in (b"usage: ./run [--quiet] MODEL", b"--version", b"tools/pack.py", b"  0  ", b"  1  ", b"  2  "):
+                self.assertIn(part, done.stdout)
+
+    def test_the_examples_of_help_work(self) -> None:
+        (self.clone / "examples").symlink_to(EXAMPLES)
+        examples = re.findall(r"\n  (\./run .*)", self.run_on("--help").stdout.decode())
+        self.assertEqual(len(examples), 2)
+        for example in examples:
+            done = self.run_on("-c", example, command="bash", cwd=self.clone)
+            self.assertEqual(done.returncode, 0)
+            self.assertRegex(done.stderr, rb"^(examples/rail\.model: \d+ entries were rounded .*\n)?$")
+            self.assertIn(RAIL_TEXT.read_bytes(), done.stdout)
+
+    def test_rounding_is_told_unless_quiet(self) -> None:
+        done = self.run_on(EXAMPLES / "rail.model")
+        self.assert_done(done, 0, RAIL_TEXT.read_bytes())
+        self.assertRegex(done.stderr, rb"^\S*rail\.model: 5 entries were rounded \(~\); .*\n$")
+        self.assert_done(self.run_on("--quiet", EXAMPLES / "rail.model"), 0, RAIL_TEXT.read_bytes(), b"")
+
+    def test_the_version_is_that_of_the_bindings(self) -> None:
+        (version,) = re.findall(rb'^version = "(.*)"$', (ROOT / "rust" / "Cargo.toml").read_bytes(), re.MULTILINE)
+        self.assert_done(self.run_on("--version"), 0, b"Pepperscarp %s\n" % version, b"")
+
+    def test_an_unknown_option_is_told(self) -> None:
+        for words in (["--none"], ["-x", RAIL], [RAIL, "-x"]):
+            done = self.run_on(*words)
+            self.assert_done(done, 2, b"")
+            self.assertRegex(done.stderr, rb"^run: unknown option -.+\nrun: usage: \./run \[--quiet\] MODEL")
+
+    def test_two_dashes_end_the_options(self) -> None:
+        for name in ("--help", "-x.model", "-o"):
+            shutil.copy(EXAMPLES / "verdicts.model", self.folder / name)
+            self.assert_done(self.run_on("--", name, cwd=self.folder), 0, SAMPLE_TEXT, b"")
+        self.assert_done(self.run_on("--", "-", data=SAMPLE), 0, SAMPLE_TEXT, b"")
+        self.assertEqual(self.run_on("--").returncode, 2)
+
+
+class Places(Clone):
+    def test_it_works_through_links_and_from_any_directory(self) -> None:
+        shutil.copy(EXAMPLES / "verdicts.model", self.folder / "own.model")
+        (self.bin / "pepperscarp").symlink_to(self.clone / "run")
+        (self.folder / "relative").symlink_to("bin/pepperscarp")
+        for command in ("pepperscarp", "./relative", "clone/run", "bash clone/run"):
+            with self.subTest(command):
+                done = self.run_on("-c", f"{command} own.model", command="bash", cwd=self.folder)
+                self.assert_done(done, 0, SAMPLE_TEXT, b"")
+        self.assertEqual(self.calls(), 0)
+
+    def test_it_builds_through_a_link(self) -> None:
+        self.program.unlink()
+        link = self.folder / "link"
+        link.symlink_to(self.clone / "run")
+        self.assert_done(self.run_on(RAIL, command=link, cwd="/"), 0, RAIL_TEXT.read_bytes())
+        self.assertEqual(self.calls(), 1)
+
+    def test_the_folder_of_the_clone_may_have_any_name(self) -> None:
+        moved = self.clone.rename(self.folder / "a clone's *")
+        for words in (["-"], [RAIL]):
+            done = self.run_on(*words, command=moved / "run", data=SAMPLE)
+            self.assertEqual((done.returncode, done.stderr), (0, b""))
+        os.utime(moved / "crates.txt")
+        self.assertEqual(self.run_on(RAIL, command=moved / "run").returncode, 0)
+        self.assertEqual(self.calls(), 1)
+
+
+class Sources(Clone):
+    """When `rt` is called."""
+
+    def test_rt_is_not_called_where_the_program_is_newer(self) -> None:
+        for model in (RAIL, RAIL_BIN):
+            self.assert_done(self.run_on(model), 0, RAIL_TEXT.read_bytes(), b"")
+        self.assertEqual(self.calls(), 0)
+
+    def test_rt_is_not_called_in_this_clone_where_its_program_is_newer(self) -> None:
+        program = ROOT / "target" / "bin" / "envelope"
+        parts = [ROOT / "crates" / crate / part for crate in USED for part in ("src", "specs", "proofs")]
+        sources = [file for part in parts if part.exists() for file in (part, *part.rglob("*"))]
+        newest = max(file.stat().st_mtime_ns for file in [ROOT / "crates.txt", *sources])
+        if newest > program.stat().st_mtime_ns:
+            self.skipTest("a source is newer")
+        self.assert_done(self.run_on(RAIL_BIN, command=ROOT / "run"), 0, RAIL_TEXT.read_bytes(), b"")
+        self.assertEqual(self.calls(), 0)
+
+    def test_rt_need_not_be_there_where_the_program_is_newer(self) -> None:
+        path = self.path()
+        for model in (RAIL, RAIL_BIN):
+            self.assert_done(self.run_on(model, path=path), 0, RAIL_TEXT.read_bytes(), b"")
+
+    def test_rt_must_be_there_where_a_source_is_newer(self) -> None:
+        self.make_newer(self.clone / "crates.txt")
+        done = self.run_on(RAIL, path=self.path())
+        self.assert_done(done, 2, b"")
+        self.assertRegex(done.stderr, rb"^run: .*\(rt\) is not there\n$")
+
+    def test_rt_is_called_where_a_source_is_newer(self) -> None:
+        sources = [self.clone / "crates.txt"]
+        sources += [self.clone / "crates" / crate / "src" / "lib.rt" for crate in USED]
+        sources += self.clone.glob("crates/reader/*/**/*.antt")
+        self.assertEqual(len(sources), 1 + len(USED) + 2)
+        self.run_on(RAIL_BIN)
+        self.assertEqual(self.calls(), 0)
+        for count, source in enumerate(sources, 1):
+            with self.subTest(source.relative_to(self.clone)):
+                self.age()
+                os.utime(source)
+                self.assert_done(self.run_on(RAIL_BIN), 0, RAIL_TEXT.read_bytes())
+                self.assertEqual(self.calls(), count)
+        self.assertEqual(set((self.notes / "calls").read_text().split("\n")), {"check envelope", ""})
+
+    def test_rt_is_called_where_a_source_was_taken_away(self) -> None:
+        self.age()
+        (self.clone / "crates" / "reader" / "proofs" / "some" / "Proof.antt").unlink()
+        for _ in range(2):
+            self.run_on(RAIL_BIN)
+            self.assertEqual(self.calls(), 1)
+        shutil.rmtree(self.clone / "crates" / "judge" / "src")
+        self.run_on(RAIL_BIN)
+        self.assertEqual(self.calls(), 2)
+
+    def test_rt_is_not_called_for_what_the_program_is_not_made_of(self) -> None:
+        for file in ("figures/src/lib.rt", "reader/must-fail/some.edit"):
+            self.make_newer(self.clone / "crates" / file)
+        self.assert_done(self.run_on(RAIL_BIN), 0, RAIL_TEXT.read_bytes(), b"")
+        self.assertEqual(self.calls(), 0)
+
+    def test_rt_is_called_for_a_crate_that_only_another_names(self) -> None:
+        rows = "deep:\nbelow: deep\nenvelope: below io # all\n"
+        (self.clone / "crates.txt").write_text(rows)
+        for crate in ("deep", "below"):
+            (self.clone / "crates" / crate / "src").mkdir(parents=True)
+        self.age()
+        for count in range(2):
+            self.run_on(RAIL_BIN)
+            self.assertEqual(self.calls(), count)
+            os.utime(self.clone / "crates" / "deep" / "src")
+
+    def test_rt_is_called_where_the_program_is_missing(self) -> None:
+        self.stamp()
+        self.program.unlink()
+        self.assert_done(self.run_on(RAIL_BIN), 0, RAIL_TEXT.read_bytes())
+        shutil.rmtree(self.clone / "target")
+        self.assert_done(self.run_on(RAIL_BIN), 0, RAIL_TEXT.read_bytes())
+        self.assertEqual(self.calls(), 2)
+
+    def test_rt_is_not_called_for_a_model_that_cannot_be_read(self) -> None:
+        self.program.unlink()
+        self.assertEqual(self.run_on(EXAMPLES / "missing.model").returncode, 2)
+        self.assertEqual(self.run_on("-", data=b"steps 3\n").returncode, 1)
+        self.assertEqual(self.calls(), 0)
+
+    def test_a_program_that_rt_left_alone_counts_as_newer(self) -> None:
+        self.stamp()
+        self.age()
+        os.utime(self.clone / "crates" / "text" / "src" / "lib.rt")
+        for _ in range(2):
+            self.assertEqual(self.run_on(RAIL_BIN).returncode, 0)
+        self.assertEqual(self.calls(), 1)
+
+    def test_a_source_that_was_changed_meanwhile_counts_as_newer(self) -> None:
+        self.program.unlink()
+        self.rt("touch crates/text/src/lib.rt && sleep 0.05 && touch target/bin/envelope", seconds=0.05)
+        self.assertEqual(self.run_on(RAIL_BIN).returncode, 0)
+        self.rt()
+        self.assertEqual(self.run_on(RAIL_BIN).returncode, 0)
+        self.assertEqual(self.calls(), 2)
+        self.assertEqual(self.run_on(RAIL_BIN).returncode, 0)
+        self.assertEqual(self.calls(), 2)
+
+
+class Build(Clone):
+    """How the program is built."""
+
+    def setUp(self) -> None:
+        super().setUp()
+        # The last command of an `rt` that ends when it is told to.
+        self.pause = f"for _ in {{1..999}}; do [ ! -e '{self.notes}/on' ] || break; sleep 0.01; done"
+
+    def go_on(self) -> None:
+        (self.notes / "on").touch()
+
+    def note_runs(self) -> Path:
+        """A program that notes that it was run, out of date."""
+        ran = self.notes / "ran"
+        script(self.program, f"#!/bin/sh\ntouch '{ran}'\necho model\n")
+        self.age()
+        os.utime(self.clone / "crates.txt")
+        return ran
+
+    def test_it_tells_how_far_it_is(self) -> None:
+        self.program.unlink()
+        rows = self.run_on(RAIL_BIN).stderr.decode().splitlines()
+        self.assertRegex(rows[0], "^run: proving and building .* two to three minutes the first time$")
+        for place, crate in enumerate(USED, 1):
+            self.assertEqual(rows[place], f"run: proved {crate} (3 s), {place} of {len(USED)} crates")
+        self.assertEqual(len(rows), 1 + len(USED))
+
+    def test_it_tells_this_while_it_proves(self) -> None:
+        self.program.unlink()
+        self.rt(self.pause, crates=["text"])
+        started = self.start(RAIL_BIN)
+        rows = [started.stderr.readline() for _ in range(2)]
+        self.assertEqual(rows[1], b"run: proved text (3 s), 1 of %d crates\n" % len(USED))
+        self.go_on()
+        self.assertEqual(started.communicate(timeout=TIME_LIMIT), (RAIL_TEXT.read_bytes(), b""))
+
+    def test_unchanged_crates_are_counted_and_not_told(self) -> None:
+        self.program.unlink()
+        unchanged = "unchanged since it was last proved"
+        rows = f"rt: text proved ({unchanged})", "rt: listing proved (27 s)", "rt: x proved, and its run"
+        self.rt("printf '%s\\n' " + " ".join(f"'{row}'" for row in rows), crates=[])
+        self.assertEqual(
+            self.run_on(RAIL_BIN).stderr.splitlines()[1:],
+            [b"run: proved listing (27 s), 2 of %d crates" % len(USED)],
+        )
+
+    def test_a_failed_build_is_shown_and_nothing_is_run(self) -> None:
+        ran = self.note_runs()
+        self.stamp()
+        self.rt("(echo 'src/lib.rt:3: error'; echo 'rt: text NOT PROVED (exit 1, 3 s)' >&2; exit 1)")
+        for _ in range(2):
+            done = self.run_on(RAIL_BIN, RAIL)
+            self.assert_done(done, 2, b"")
+            for row in (b"fn text::some: proved", b"src/lib.rt:3: error", b"rt: text NOT PROVED (exit 1, 3 s)"):
+                self.assertIn(b"\n" + row + b"\n", done.stderr)
+            self.assertTrue(done.stderr.endswith(b"\nrun: the program could not be built\n"))
+        self.assertFalse(ran.exists())
+        self.assertEqual(self.calls(), 2)
+
+    def test_a_program_whose_trial_failed_is_not_run(self) -> None:
+        # It was linked, and is newer than every source.
+        self.program.unlink()
+        self.rt("false")
+        for _ in range(2):
+            self.assert_done(self.run_on(RAIL_BIN), 2, b"")
+        self.rt()
+        for _ in range(2):
+            self.assert_done(self.run_on(RAIL_BIN), 0, RAIL_TEXT.read_bytes())
+        self.assertEqual(self.calls(), 3)
+
+    def test_a_build_that_makes_no_program_has_failed(self) -> None:
+        self.program.unlink()
+        self.rt("rm target/bin/envelope")
+        done = self.run_on(RAIL_BIN)
+        self.assert_done(done, 2, b"")
+        self.assertIn(b"has made no", done.stderr)
+
+    def test_rt_takes_nothing_of_standard_input(self) -> None:
+        self.program.unlink()
+        self.rt("cat > /dev/null")
+        done = self.run_on(RAIL_BIN, "-", data=SAMPLE)
+        self.assertEqual(done.returncode, 0)
+        self.assertTrue(done.stdout.endswith(b"\n\n==> standard input <==\n" + SAMPLE_TEXT))
+
+    def test_of_two_at_once_one_builds_and_both_answer(self) -> None:
+        self.program.unlink()
+        self.rt(self.pause)
+        started = [self.start(model) for model in (RAIL, RAIL_BIN, RAIL)]
+        rows = [one.stderr.readline() for one in started]
+        self.assertEqual(sum(row.startswith(b"run: proving and building") for row in rows), 1)
+        self.assertEqual(sum(row.startswith(b"run: another run is building") for row in rows), 2)
+        self.go_on()
+        for one in started:
+            out, err = one.communicate(timeout=TIME_LIMIT)
+            self.assertEqual((one.returncode, out), (0, RAIL_TEXT.read_bytes()), err)
+        self.assertEqual(self.calls(), 1)
+
+    def test_never_two_rt_at_a_time(self) -> None:
+        self.program.unlink()
+        self.rt(f"{self.pause}; sleep 0.1; false")
+        started = [self.start(RAIL_BIN) for _ in range(3)]
+        for one in started:
+            self.assertRegex(one.stderr.readline(), b"^run: ")
+        self.go_on()
+        for one in started:
+            one.communicate(timeout=TIME_LIMIT)
+            self.assertEqual(one.returncode, 2)
+        self.assertEqual(self.calls(), 3)
+        self.assertFalse((self.notes / "overlaps").exists())
+
+    def test_a_program_that_is_being_made_is_not_run(self) -> None:
+        self.program.unlink()
+        self.rt(f"touch '{self.notes}/linked'; {self.pause}")
+        first = self.start(RAIL_BIN)
+        until((self.notes / "linked").exists)
+        second = self.start(RAIL_BIN)
+        self.assertRegex(second.stderr.readline(), b"^run: another run is building the program")
+        self.go_on()
+        self.assertEqual(second.communicate(timeout=TIME_LIMIT), (RAIL_TEXT.read_bytes(), b""))
+        first.communicate(timeout=TIME_LIMIT)
+        self.assertEqual(self.calls(), 1)
+
+    def test_a_lock_that_was_left_hinders_nobody(self) -> None:
+        self.program.unlink()
+        (self.clone / "target" / "run.lock").touch()
+        self.assert_done(self.run_on(RAIL_BIN), 0, RAIL_TEXT.read_bytes())
+
+    def test_the_lock_is_free_once_the_program_is_built(self) -> None:
+        self.program.unlink()
+        started = self.start(RAIL_BIN, "-", stdin=subprocess.PIPE)
+        self.assertEqual(started.stdout.readline(), b"==> %s <==\n" % bytes(RAIL_BIN))
+        with open(self.clone / "target" / "run.lock", "a") as lock:
+            self.assertTrue(is_free(lock.fileno()))
+        self.assertTrue(started.communicate(SAMPLE, TIME_LIMIT)[0].endswith(SAMPLE_TEXT))
+
+    def test_a_run_that_was_killed_leaves_the_lock_to_its_rt(self) -> None:
+        self.program.unlink()
+        self.rt(self.pause, crates=[])  # it writes nothing, which nobody would read
+        first = self.start(RAIL_BIN)
+        until((self.notes / "busy").exists)
+        first.kill()
+        second = self.start(RAIL_BIN)
+        self.assertRegex(second.stderr.readline(), b"^run: another run is building the program")
+        self.go_on()
+        self.assertEqual(second.communicate(timeout=TIME_LIMIT)[0], RAIL_TEXT.read_bytes())
+        self.assertFalse((self.notes / "overlaps").exists())
+        self.assertEqual(self.calls(), 2)
+
+    def test_a_signal_ends_rt_too(self) -> None:
+        for signal_ in (signal.SIGINT, signal.SIGTERM):
+            with self.subTest(signal_):
+                self.program.unlink(missing_ok=True)
+                self.rt(seconds=60)
+                started = self.start(RAIL_BIN)
+                until((self.notes / "busy").exists)
+                started.send_signal(signal_)
+                started.communicate(timeout=TIME_LIMIT)
+                self.assertEqual(started.returncode, 128 + signal_)
+                self.assertEqual(list(self.temporary.iterdir()), [])
+                with open(self.clone / "target" / "run.lock", "a") as lock:
+                    until(lambda: is_free(lock.fileno()))
+                (self.notes / "busy").rmdir()
+                self.rt()
+                self.assert_done(self.run_on(RAIL_BIN), 0, RAIL_TEXT.read_bytes())
+
+    def test_a_signal_ends_a_run_that_waits(self) -> None:
+        self.program.unlink()
+        with open(self.clone / "target" / "run.lock", "a") as lock:
+            self.assertTrue(is_free(lock.fileno()))
+            started = self.start(RAIL_BIN)
+            self.assertRegex(started.stderr.readline(), b"^run: another run is building the program")
+            started.terminate()
+            self.assertEqual(started.wait(TIME_LIMIT), 128 + signal.SIGTERM)
+        self.assertEqual((list(self.temporary.iterdir()), self.calls()), ([], 0))
+
+    def test_without_flock_it_builds_and_says_so(self) -> None:
+        self.program.unlink()
+        done = self.run_on(RAIL_BIN, path=self.path(without="flock", more=("cp", "rmdir", "rt", "sleep")))
+        self.assert_done(done, 0, RAIL_TEXT.read_bytes())
+        self.assertRegex(done.stderr, b"^run: there is no flock: ")
+
+    def test_a_folder_that_cannot_be_written_is_named(self) -> None:
+        shutil.rmtree(self.clone / "target")
+        (self.clone / "target").touch()
+        done = self.run_on(RAIL_BIN)
+        self.assert_done(done, 2, b"", b"run: %s/target can't be written\n" % bytes(self.clone))
+
+
+def is_free(lock: int) -> bool:
+    """Whether a lock can be had; it then is held."""
+    try:
+        fcntl.flock(lock, fcntl.LOCK_EX | fcntl.LOCK_NB)
+    except BlockingIOError:
+        return False
+    return True
+
+
+class Without(Clone):
+    """What is missing or full has status 2."""
+
+    def test_without_python3_a_text_has_status_2(self) -> None:
+        path = self.path(without="python3")
+        done = self.run_on(RAIL, RAIL_BIN, path=path)
+        self.assert_done(done, 2, b"==> %s <==\n" % bytes(RAIL_BIN) + RAIL_TEXT.read_bytes())
+        self.assertRegex(done.stderr, b"^run: .*rail.model is a text, and python3, .* is not there\n$")
+
+    def test_without_python3_a_packed_file_is_listed_or_refused(self) -> None:
+        path = self.path(without="python3")
+        self.assert_done(self.run_on(RAIL_BIN, path=path), 0, RAIL_TEXT.read_bytes(), b"")
+        done = self.run_on("-", data=SAMPLE + b"\0", path=path)
+        self.assert_done(done, 1, b"refused 10 at 186\n")
+        self.assertRegex(done.stderr, rb"^run: standard input is refused by number 10; .*/README.md .*\n$")
+
+    def test_a_python3_that_cannot_run_the_tools_has_status_2(self) -> None:
+        (self.bin / "python3").unlink()
+        for status in (1, 127):
+            script(self.bin / "python3", f"#!/bin/sh\nexit {status}\n")
+            done = self.run_on(RAIL)
+            self.assert_done(done, 2, b"")
+            self.assertIn(b"could not be packed", done.stderr)
+
+    def test_a_temporary_folder_that_is_not_there_has_status_2(self) -> None:
+        self.temporary.rmdir()
+        started = self.start(RAIL)
+        out, err = started.communicate(timeout=TIME_LIMIT)
+        self.temporary.mkdir()
+        self.assertEqual((started.returncode, out), (2, b""))
+        self.assertIn(b"run: no temporary folder can be made in %s\n" % bytes(self.temporary), err)
+
+    def test_a_full_temporary_folder_has_status_2(self) -> None:
+        # A link to /dev/full takes no byte, as a file on a full disk.
+        for name, model in (("model", RAIL), ("model", RAIL_BIN), ("packed", RAIL)):
+            with self.subTest(f"{name} of {model.name}"):
+                real = shutil.which("mktemp")
+                full = f'folder=$({real} -d) && ln -s /dev/full "$folder/{name}" && echo "$folder"'
+                script(self.bin / "mktemp", f"#!/bin/sh\n{full}\n")
+                done = self.run_on(model)
+                self.assert_done(done, 2, b"")
+                self.assertIn(os.strerror(errno.ENOSPC).encode(), done.stderr)
+                place = b"could not be .* temporary folder .*%s\n$" % bytes(self.temporary)
+                self.assertRegex(done.stderr, b"run: .*rail.* " + place)
+
+    def test_a_mktemp_that_makes_no_folder_has_status_2(self) -> None:
+        file = self.folder / "file"
+        file.touch()
+        for line in (f"echo '{file}'", "exit 1", ":"):
+            script(self.bin / "mktemp", f"#!/bin/sh\n{line}\n")
+            done = self.run_on(RAIL)
+            self.assert_done(done, 2, b"")
+            self.assertIn(b"no temporary folder can be made in ", done.stderr)
+        self.assertTrue(file.exists())
+
+    def test_a_signal_removes_temporary_files(self) -> None:
+        pipe = self.folder / "pipe"
+        os.mkfifo(pipe)
+        for signal_ in (signal.SIGINT, signal.SIGTERM, signal.SIGHUP):
+            for words in ([pipe], ["-"]):
+                with self.subTest(f"{signal_} {words}"):
+                    started = self.start(*words, stdin=subprocess.PIPE)
+                    until(lambda: any(self.temporary.iterdir()))
+                    time.sleep(0.05)
+                    started.send_signal(signal_)
+                    self.assertEqual(started.wait(TIME_LIMIT), 128 + signal_)
+                    self.assertEqual(list(self.temporary.iterdir()), [])
+                    self.assertEqual(started.communicate(timeout=TIME_LIMIT), (b"", b""))
+
+    def test_a_program_that_fails_has_status_2(self) -> None:
+        for line, message in (
+            ("exit 3", b"did not end well"),
+            ("echo what", b"wrote no reply"),
+            (":", b"wrote no reply"),
+        ):
+            with self.subTest(line):
+                script(self.program, f"#!/bin/sh\n{line}\n")
+                done = self.run_on(RAIL_BIN)
+                self.assert_done(done, 2, b"")
+                self.assertIn(message, done.stderr)
+
+
+if __name__ == "__main__":
+    unittest.main()
