@@ -17,12 +17,12 @@ static int64_t slacks[PEPPERSCARP_STEPS_MOST + 1];
 
 static uint8_t text[PEPPERSCARP_LISTING_ROOM];
 
-/* K, by the head, where 0 stands for 60. A file too short to say is refused whatever the lists are. */
+/* K, by the head. A file too short to say is refused whatever the lists are. */
 static size_t steps(void)
 {
     size_t said = length < 4 ? 1 : file[2] + 256u * file[3];
     if (said == 0)
-        said = 60;
+        said = PEPPERSCARP_STEPS_DEFAULT;
     return said <= PEPPERSCARP_STEPS_MOST ? said : PEPPERSCARP_STEPS_MOST;
 }
 

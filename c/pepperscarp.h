@@ -63,6 +63,9 @@ extern "C" {
 /* The most steps that a model has. Lists of one more suffice for every model, lent with a length of K + 1. */
 #define PEPPERSCARP_STEPS_MOST 256
 
+/* The steps of a model whose file's head says 0. */
+#define PEPPERSCARP_STEPS_DEFAULT 60
+
 /* One step of a working direction. Takes the number n of coordinates, 1 to 6; the matrix in six rows of six, in units of
  * 1/65,536; the direction r and its errors e, both in units of 1/1,048,576, zero beyond n. A direction d starts with
  * r[i] = 1,048,576 * d[i] and e[i] = 0.
@@ -73,8 +76,8 @@ extern "C" {
 uint64_t pepperscarp_step(size_t n, const int32_t matrix[36], int64_t r[6], int64_t e[6]);
 
 /* The sweep of one direction of a model file. Takes the file's bytes, the direction's number from 0, and two lists of K + 1
- * elements, where K is the model's number of steps: bytes 2 and 3 of the file, counted from 0, low byte first, and 60 where they
- * say 0.
+ * elements, where K is the model's number of steps: bytes 2 and 3 of the file, counted from 0, low byte first, and
+ * PEPPERSCARP_STEPS_DEFAULT where they say 0.
  * Number 0: the lists have the bound and the slack of steps 0 to K, and the figure is the spare figure, 0 to 10. No run of the
  * model passes a bound, and some run comes within its slack.
  * Numbers 1 to 10: the file is refused. 12: it has no such direction. 13: a list has other than K + 1 elements. 14: growth. The

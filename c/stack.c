@@ -191,7 +191,7 @@ static unsigned plain_calls(const uint8_t *bytes, size_t count)
 {
     unsigned said;
     size_t k = count < 4 ? 1 : bytes[2] + 256u * bytes[3];
-    k = k == 0 ? 60 : k;
+    k = k == 0 ? PEPPERSCARP_STEPS_DEFAULT : k;
     k = k <= PEPPERSCARP_STEPS_MOST ? k : PEPPERSCARP_STEPS_MOST;
     file = bytes;
     length = count;

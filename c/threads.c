@@ -98,7 +98,7 @@ static void lists(struct worker *w, struct model *m, const uint8_t *file, int ju
     int64_t *bounds = w->bounds + w->number % 2, *slacks = w->slacks + w->number / 2 % 2;
     size_t k = m->length < 4 ? 1 : m->bytes[2] + 256u * m->bytes[3], i = 0;
     uint64_t answer;
-    k = k == 0 ? 60 : k;
+    k = k == 0 ? PEPPERSCARP_STEPS_DEFAULT : k;
     k = k <= PEPPERSCARP_STEPS_MOST ? k : PEPPERSCARP_STEPS_MOST;
     do {
         memset(bounds, FILL, LIST * sizeof bounds[0]);
