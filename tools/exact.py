@@ -1,5 +1,8 @@
 #!/usr/bin/env python3
-"""The exact program: slow, plain, and written from the specification alone.
+"""The exact program: slow, plain, and written apart from the Rattle code.
+
+It was made from the words of the request, before docs/SPECIFICATION.md was. A change of it is made
+from the changed clauses, before the Rattle side is looked at.
 
 In order: the reader of files; supports, reaches and the recurrence over whole numbers; the
 listing; and, apart from all of these, the exact largest values as fractions, by corners, with the

@@ -1,4 +1,4 @@
-//! Plain Rust: the recurrence as one writes it at first, from the specification (the crate `support`), in i64.
+//! Plain Rust: the recurrence as one writes it at first (the crate `support`), in i64.
 
 use pepperscarp::Refusal;
 use support::recurrence;
