@@ -64,7 +64,7 @@ extern "C" {
 #define PEPPERSCARP_STEPS_MOST 256
 
 /* The steps of a model whose file's head says 0. */
-#define PEPPERSCARP_STEPS_DEFAULT 60
+#define PEPPERSCARP_STEPS_DEFAULT 120
 
 /* One step of a working direction. Takes the number n of coordinates, 1 to 6; the matrix in six rows of six, in units of
  * 1/65,536; the direction r and its errors e, both in units of 1/1,048,576, zero beyond n. A direction d starts with

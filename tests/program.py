@@ -20,6 +20,7 @@ from pathlib import Path
 ROOT = Path(__file__).resolve().parent.parent
 PROGRAM = ROOT / "target" / "bin" / "envelope"
 EXAMPLES = ROOT / "examples"
+READER_FILES = ROOT / "crates" / "readings" / "data"
 SAMPLE = (ROOT / "crates" / "envelope" / "stdin").read_bytes()
 SAMPLE_TEXT = (ROOT / "crates" / "envelope" / "stdout").read_bytes()
 TIME_LIMIT = 10  # seconds; a program that has not ended by then hangs
@@ -94,6 +95,27 @@ class Text(unittest.TestCase):
         # The sample's box begins with the kind 10, sixteen, at offset 30; ten is no kind.
         self.assertEqual(SAMPLE[30], 0x10)
         self.assertEqual(reply(SAMPLE[:30] + bytes([10]) + SAMPLE[31:]), b"refused 2 at 30\n")
+
+    def test_a_head_that_says_0_gets_the_reply_to_120(self) -> None:
+        # File 4, of every file of the reader's tests that has a whole head, refused ones too.
+        replies = set()
+        for path in sorted(READER_FILES.iterdir()):
+            data = path.read_bytes()
+            if data[:1] == b"\x01" and len(data) >= 4:
+                none, said = (
+                    reply(data[:2] + steps.to_bytes(2, "little") + data[4:]) for steps in (0, 120)
+                )
+                self.assertEqual(none, said, path.name)
+                replies.add(none.split(b"\n")[0].split(b" at ")[0])
+        refused = {f"refused {number}".encode() for number in range(1, 11)}
+        self.assertLessEqual({b"model 1 120", b"model 6 120", *refused}, replies)
+
+    def test_every_other_head_says_its_own_steps(self) -> None:
+        for steps in range(1, MAX_STEPS + 1):
+            data = SAMPLE[:2] + steps.to_bytes(2, "little") + SAMPLE[4:]
+            text = reply(data)
+            self.assertTrue(text.startswith(b"model 1 %d\n" % steps), text)
+            self.assertEqual(text, exact.listing(data).encode("ascii"))
 
     def test_an_empty_file_is_refused_by_1_at_0(self) -> None:
         self.assertEqual(reply(b""), b"refused 1 at 0\n")

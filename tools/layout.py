@@ -16,7 +16,7 @@ Vector = tuple[int, ...]
 # "Limits" and "Sets"
 MAX_N = 6  # Limits 1
 MAX_STEPS = 256  # Limits 2
-DEFAULT_STEPS = 60  # File 4: what 0 in the head stands for
+DEFAULT_STEPS = 120  # File 4: what 0 in the head stands for
 MAX_ENTRY = 131_072  # Limits 3
 MAX_REACH = 1_048_576  # Limits 4
 MAX_DIRECTION_ENTRY = 1_000  # Limits 5

@@ -18,10 +18,11 @@ from typing import Iterator
 import exact
 import files
 from layout import (
-    BODY_LENGTHS, BOX, CENTRE, DIRECTION, END, GENERATOR, GUARD, HEAD, INITIAL, INPUT, LOWER,
-    MAX_DIRECTION_ENTRY, MAX_DIRECTIONS, MAX_ENTRY, MAX_GUARDS, MAX_LEVEL, MAX_N, MAX_POINTS,
-    MAX_REACH, MAX_STEPS, MIN_POINTS, MIN_LEVEL, READ_LIMIT, ROW, UPPER, VERTEX, VERTICES, ZONOTOPE,
-    Model, Set, direction, encode, guard, head, point, records, row, set_records,
+    BODY_LENGTHS, BOX, CENTRE, DEFAULT_STEPS, DIRECTION, END, GENERATOR, GUARD, HEAD, INITIAL,
+    INPUT, LOWER, MAX_DIRECTION_ENTRY, MAX_DIRECTIONS, MAX_ENTRY, MAX_GUARDS, MAX_LEVEL, MAX_N,
+    MAX_POINTS, MAX_REACH, MAX_STEPS, MIN_POINTS, MIN_LEVEL, READ_LIMIT, ROW, UPPER, VERTEX,
+    VERTICES, ZONOTOPE, Model, Set, direction, encode, guard, head, point, records, row,
+    set_records,
 )
 from listings import Refusal
 
@@ -223,9 +224,15 @@ def spoilt_files() -> Iterator[File]:
         yield f"all bits changed of byte {offset}", changed
 
 
+def steps_files() -> Iterator[File]:
+    """Steps that the head says outright: the least, 60, and the default (File 4)."""
+    for steps in (1, 60, DEFAULT_STEPS):
+        yield f"steps of {steps} in the head", encode(replace(SAMPLE, steps=steps))
+
+
 def all_files() -> list[File]:
     """All files, in their order."""
-    makers = (accepted_files, order_files, count_files, value_files, spoilt_files)
+    makers = (accepted_files, order_files, count_files, value_files, spoilt_files, steps_files)
     return [file for maker in makers for file in maker()]
 
 

@@ -36,6 +36,9 @@ use std::fmt;
 /// The length that is enough for the lists of every model: 256 steps, and step 0.
 pub const LONGEST_LIST: usize = 257;
 
+/// The steps of a model whose file's head says 0 (File 4).
+pub const DEFAULT_STEPS: usize = 120;
+
 /// The room that is enough for every listing, in bytes.
 pub const LISTING_ROOM: usize = 270_000;
 
@@ -228,11 +231,11 @@ pub fn listing<'a>(file: &[u8], out: &'a mut [u8]) -> Option<&'a [u8]> {
     }
 }
 
-/// The length that the lists for this file have to have, K + 1, as its head says; `None` where the file does not start with a
-/// head. The rest of the file isn't looked at: [`sweep`] and [`judge`] test it all.
+/// The length that the lists for this file have to have, K + 1, as its head says, where 0 stands for [`DEFAULT_STEPS`]; `None` where
+/// the file does not start with a head. The rest of the file isn't looked at: [`sweep`] and [`judge`] test it all.
 pub fn list_length(file: &[u8]) -> Option<usize> {
     match file {
-        [0x01, _, 0, 0, ..] => Some(61),
+        [0x01, _, 0, 0, ..] => Some(DEFAULT_STEPS + 1),
         [0x01, _, low, high, ..] => Some(usize::from(u16::from_le_bytes([*low, *high])) + 1),
         _ => None,
     }

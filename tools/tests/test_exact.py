@@ -135,10 +135,12 @@ class Figures(unittest.TestCase):
         self.assertEqual(exact.listing(encode(model)), text)
 
     def test_default_steps(self):
+        """A head that says 0 says 120; any other says its own steps."""
         model = single(0, (0, 0), (0, 0), 1, 3)
-        text = exact.listing(encode(model, stated_steps=0))
-        self.assertTrue(text.startswith("model 1 60\n"))
-        self.assertTrue(text.endswith("\n60 0 0\n"))
+        for stated, steps in ((0, 120), (1, 1), (60, 60), (119, 119), (120, 120), (256, 256)):
+            text = exact.listing(encode(model, stated_steps=stated))
+            self.assertTrue(text.startswith(f"model 1 {steps}\n"), stated)
+            self.assertTrue(text.endswith(f"\n{steps} 0 0\n"), stated)
 
 
 class Reader(unittest.TestCase):

@@ -29,7 +29,7 @@ class Examples(unittest.TestCase):
 
     def test_up_to_date(self):
         self.assertEqual(examples.stale(), [])
-        self.assertGreaterEqual(len(self.names), 6)
+        self.assertGreaterEqual(len(self.names), 8)
 
     def test_stale_is_seen(self):
         with tempfile.TemporaryDirectory() as name:
@@ -56,7 +56,9 @@ class Examples(unittest.TestCase):
             self.assertLessEqual({"HIT", "UNKNOWN", "CLEAR"}, said[name])
         self.assertEqual(listing_of("runaway").directions[0], listings.Growth(32))
         self.assertIn("GROWTH", said["runaway"])
-        self.assertEqual((source_of("cooling").stated_steps, listing_of("cooling").steps), (0, 60))
+        unnamed = [name for name in self.names if source_of(name).stated_steps == 0]
+        self.assertEqual(unnamed, ["receipt"])
+        self.assertEqual((listing_of("receipt").steps, listing_of("cooling").steps), (120, 60))
         self.assertEqual(source_of("budget").model.input.form, VERTICES)
         self.assertEqual(source_of("head").model.initial.form, ZONOTOPE)
 
@@ -71,6 +73,15 @@ class Examples(unittest.TestCase):
         text = (examples.FOLDER / "runaway.model").read_text()
         model = pack.parse(text.replace("steps 60", "steps 31")).model
         self.assertIsInstance(exact.listing_of(model).directions[0], listings.Sweep)
+
+    def test_receipt_of_one_copy(self):
+        """Its text says that with `steps 60` every guard is CLEAR; the first is HIT behind 60."""
+        text = (examples.FOLDER / "receipt.model").read_text()
+        named = text.replace("\ntime 30 ms", "\nsteps 60\ntime 30 ms")
+        said = exact.listing_of(pack.parse(named).model).guards
+        self.assertEqual([verdict.word for verdict in said], ["CLEAR"] * 3)
+        first = listing_of("receipt").guards[0]
+        self.assertEqual((first.word, 60 < first.step <= 120), ("HIT", True))
 
     def test_budget_as_a_box(self):
         """Its text says that the guard on `both` is HIT with the box around the vertices."""

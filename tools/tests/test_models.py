@@ -38,6 +38,8 @@ EDITS = (
      "        if kind not in allowed:"),
     ("offset_of_body", "self.start, self.at = self.at", "self.start, self.at = self.at + 1"),
     ("zero_steps_kept", "DEFAULT_STEPS if stated_steps == 0 else stated_steps", "stated_steps"),
+    ("old_default", "DEFAULT_STEPS if stated_steps == 0", "60 if stated_steps == 0"),
+    ("default_for_one_step", "if stated_steps == 0 else", "if stated_steps <= 1 else"),
     ("row_number_untested", "body[0] == len(matrix) and in_limits", "in_limits"),
     ("reach_of_one_point", "reach(Set(form, tuple(points))", "reach(Set(form, (points[-1],))"),
     ("corners_crossed", "in_reach and in_order", "in_reach"),
@@ -108,7 +110,7 @@ class Stream(unittest.TestCase):
         forms = {(model.initial.form, model.input.form) for model in accepted}
         self.assertEqual(forms, set(itertools.product((BOX, ZONOTOPE, VERTICES), repeat=2)))
         self.assertEqual({model.n for model in accepted}, set(range(1, 7)))
-        self.assertLessEqual({1, 60, 256}, {model.steps for model in accepted})
+        self.assertLessEqual({1, 120, 256}, {model.steps for model in accepted})
         self.assertTrue(any(len(data) > READ_LIMIT for data in files))
         words = {said.word for model in accepted for said in exact.listing_of(model).guards}
         self.assertEqual(words, {"HIT", "UNKNOWN", "CLEAR", "GROWTH"})

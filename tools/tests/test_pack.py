@@ -71,7 +71,7 @@ class Pack(unittest.TestCase):
             self.assertIn(f"\ntime {written} ms\n", pack.write_text(source))
 
     def test_numbered_coordinates(self):
-        text = "coordinates 1\nrow 1\ninitial box\nlower 0\nupper 1\n"
+        text = "coordinates 1\nsteps 60\nrow 1\ninitial box\nlower 0\nupper 1\n"
         source = pack.parse(text + "input vertices\nvertex 2\ndirection d 1\n")
         self.assertEqual(source.model.initial, box((0, 1)))
         self.assertEqual(source.model.matrix, ((65_536,),))
@@ -79,8 +79,10 @@ class Pack(unittest.TestCase):
     def test_steps_left_out(self):
         source = pack.parse(GOOD.replace("steps 7\n", ""))
         self.assertEqual(source.data[:4], bytes([1, 2, 0, 0]))
-        self.assertEqual(source.model.steps, 60)
-        self.assertNotIn("\nsteps", pack.unpack(source.data))
+        self.assertEqual(source.model.steps, 120)
+        text = pack.unpack(source.data)
+        self.assertNotIn("\nsteps", text)
+        self.assertIn("\n# steps: the default, 120\n", text)
 
     def test_decimals(self):
         for word, scaled in (
@@ -464,8 +466,8 @@ class Command(helpers.FolderTest):
 
     def test_names_that_do_not_fit(self):
         data = pack.parse(GOOD).data
-        fewer = self.write("fewer.model", "coordinates hot\nrow 1\ninitial vertices\nvertex 1\n"
-                                          "input vertices\nvertex 1\ndirection d 1\n")
+        fewer = self.write("fewer.model", "coordinates hot\nsteps 60\nrow 1\ninitial vertices\n"
+                                          "vertex 1\ninput vertices\nvertex 1\ndirection d 1\n")
         more = self.write("more.model", GOOD + "direction more 1 1\n")
         wrong = self.write("wrong.model", GOOD.replace("steps 7", "steps 0"))
         for path, message, expected in (
@@ -484,6 +486,7 @@ class Command(helpers.FolderTest):
             self.assertEqual(status, 0)
             self.assertIn(b"\n    direction NAME ENTRY ..       1 to 16, whole numbers\n", out)
             self.assertIn(b"\n    unit DIRECTION UNIT [COUNTS]  ", out)
+            self.assertIn(b" the file leaves them to the default, 120\n", out)
 
     def test_bad_input(self):
         empty = self.folder / "empty"

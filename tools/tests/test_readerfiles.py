@@ -17,7 +17,10 @@ class ReaderFiles(unittest.TestCase):
         for what, reply in (
             ("the sample of the specification", "model 1 3"),
             ("longest with vertices", "model 6 256"),
-            ("the head says 0 steps", "model 1 60"),
+            ("the head says 0 steps", "model 1 120"),
+            ("steps of 1 in the head", "model 1 1"),
+            ("steps of 60 in the head", "model 1 60"),
+            ("steps of 120 in the head", "model 1 120"),
             ("any numbers beyond n", "model 1 3"),
             ("at the start: no byte", "refused 1 at 0"),
             ("at the start: kind 01 alone", "refused 1 at 0"),
@@ -50,7 +53,19 @@ class ReaderFiles(unittest.TestCase):
     def test_every_number(self):
         refused = [reply for reply in self.replies.values() if reply.startswith("refused")]
         self.assertEqual({int(reply.split()[1]) for reply in refused}, set(range(1, 11)))
-        self.assertLess(len(self.files), 600)
+        self.assertLess(len(self.files), 650)
+
+    def test_a_head_that_says_0_is_read_as_one_that_says_120(self):
+        """File 4, of every file with a whole head, whatever it holds and wherever it is refused."""
+        replies = set()
+        for what, data in self.files:
+            if data[:1] == b"\x01" and len(data) >= 4:
+                none, said = (
+                    readerfiles.reply(data[:2] + steps + data[4:]) for steps in (b"\0\0", b"\x78\0")
+                )
+                self.assertEqual(none, said, what)
+                replies.add(int(none.split()[1]) if none.startswith("refused") else none)
+        self.assertLessEqual({"model 1 120", "model 6 120", *range(1, 11)}, replies)
 
     def test_places(self):
         """The start and behind each of 14 kinds; 30 pairs of a place and a kind are allowed."""

@@ -56,7 +56,7 @@ class Words(unittest.TestCase):
     def test_4_the_head(self):
         self.told(head(7, 3), "refused 4 at 0: the head: n is 7; it must be 1 to 6")
         self.told(head(1, 257), "the head: the number of steps is 257; it must be 1 to 256, or 0"
-                                " for 60")
+                                " for 120")
         self.told(head(0, 65_535), "n is 0;", "the number of steps is 65,535;")
 
     def test_5_rows(self):
@@ -112,7 +112,7 @@ class Words(unittest.TestCase):
         """Number and offset are those of the replies, and no sentence serves two numbers."""
         numbers = {}
         replies = (ROOT / "crates" / "readings" / "stdout").read_text().splitlines()
-        self.assertEqual(len(replies), 598)
+        self.assertEqual(len(replies), 601)
         for name, reply in (line.split(": ") for line in replies):
             data = (ROOT / "crates" / "readings" / "data" / name).read_bytes()
             said = refusal.message("f", data)

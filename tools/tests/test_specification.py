@@ -153,6 +153,31 @@ SAMPLE = """## Sets
 """
 
 
+class Copies(unittest.TestCase):
+    """Numbers of the specification that other texts repeat because their readers look there."""
+
+    DEFAULT_STEPS = {
+        "docs/SPECIFICATION.md": r"Steps of 0 in the head stand for (\d+)\.",
+        "README.md": r"\b0 stands for (\d+)\b",
+        "examples/README.md": r"says 0, which stands for (\d+)\.",
+        "examples/receipt.model": r"says 0, which stands for (\d+) steps",
+        "crates/reader/specs/Models.antt": r"^usualSteps = (\d+)$",
+        "c/pepperscarp.h": r"^#define PEPPERSCARP_STEPS_DEFAULT (\d+)$",
+        "rust/src/lib.rs": r"^pub const DEFAULT_STEPS: usize = (\d+);$",
+        "rust/support/src/specification.rs": r"if steps == 0 \{ (\d+) \} else .* // File 4$",
+        "tools/layout.py": r"^DEFAULT_STEPS = (\d+)\b",
+    }
+
+    def test_the_default_of_the_steps_is_told_alike(self):
+        found = {
+            name: re.findall(form, (ROOT / name).read_text(encoding="utf-8"), re.M)
+            for name, form in self.DEFAULT_STEPS.items()
+        }
+        said = found["docs/SPECIFICATION.md"]
+        self.assertEqual(said, ["120"])
+        self.assertEqual(found, dict.fromkeys(found, said))
+
+
 class Finding(unittest.TestCase):
     def test_clauses_are_found_in_texts_and_tables(self):
         self.assertEqual(clauses(SAMPLE), [("Sets", 1), ("Sets", 3), ("C interface", 2)])

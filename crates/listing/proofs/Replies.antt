@@ -1,7 +1,8 @@
--- The text of a file's reading at the start of the buffer is what `reply` should leave. Assumes nothing.
+-- The text of a file's reading at the start of the buffer is what `reply` should leave; a head that says 0 and one that says
+-- the default get the same reply. Assumes nothing.
 use mathlib.Core.Path.{_≡_, sym, ap, _∙_}
 use mathlib.Core.Bool.{Bool, true, false, cond}
-use mathlib.Core.List.{List, _++_}
+use mathlib.Core.List.{List, _∷_, _++_}
 use Prim.Native.Nat.{ℕ, _≤_, _<_}
 use native.Mathlib.Nat.{zero-add}
 use native.Mathlib.Omega.{arith}
@@ -9,11 +10,13 @@ use borrow.Author.Tests.{le-leb, lt-leb}
 use lib.Dec.{leb}
 use lib.ListN.{length, drop, length-append}
 use Rattle.reachability.specs.Limits.{accepted}
+use Rattle.reader.specs.Models.{usualSteps}
 use Rattle.reader.specs.Reading.{readModel}
 use Rattle.reader.specs.declared.Reading.{Reading}
 use Rattle.reader.specs.declared.Status.{Status}
 use Rattle.reader.specs.declared.Status.the-variants.{Read}
 use Rattle.reader.proofs.ReadModels.{readModel-accepted}
+use Rattle.reader.proofs.DefaultSteps.{readModel-default}
 use Rattle.text.specs.Put.{Put}
 use Rattle.listing.specs.Listing.{statusText, replyText, replyRoom, ReplyLeaves}
 
@@ -58,3 +61,8 @@ reply-inside file out₀ out r p = cases (leb replyRoom (length out₀)) (p .cou
     cases : (b : Bool) → r ≡ cond b (length t) 0 → out ≡ cond b (t ++ drop (length t) out₀) out₀ → r ≤ length out
     cases true e f = omega (arith, e, ap length f, length-append t (drop (length t) out₀))
     cases false e f = omega (arith, e)
+
+-- File 4: a file whose head says 0 gets the reply that it gets with the default there.
+pub replyText-default : (n : ℕ) (rest : List ℕ) → replyText (0x01 ∷ n ∷ 0 ∷ 0 ∷ rest) ≡ replyText (0x01 ∷ n ∷ usualSteps ∷ 0 ∷ rest)
+unfolding replyText
+replyText-default n rest = ap (λ (r : Reading). statusText (r .status) (r .model)) (readModel-default n rest)

@@ -1,5 +1,7 @@
 pub mod ReadingOn
 pub mod RecordInPlace
+pub mod ReadingRest
+pub mod DefaultSteps
 pub mod RowsOfSix
 pub mod OrderFacts
 pub mod PartsSoFar

@@ -57,7 +57,7 @@ sixAt n body at = tabulate 6 (entryAt n body at)
 
 -- File 4.
 abbrev pub usualSteps : ℕ
-usualSteps = 60
+usualSteps = 120
 
 abbrev pub defaultSteps : ℕ → ℕ
 defaultSteps k = cond (eqb k 0) usualSteps k

@@ -38,7 +38,8 @@ fn take_head(state: State, body: &[u8]) -> Taken
     if 256 < said {
         return Taken { number: 4, state };
     }
-    let steps: usize = if said == 0 { 60 } else { said };
+    // File 4: what 0 stands for.
+    let steps: usize = if said == 0 { 120 } else { said };
     let mut model = state.model;
     model.n = n;
     model.steps = steps;

@@ -1,6 +1,6 @@
 -- Laws of `recordAt`. In order: its four cases, each from what the file holds at the offset; back from the case to the file;
--- a record that stands anywhere in a file; files that agree as far as the record reaches; what the record step's kind and
--- number tell. Assumes nothing.
+-- a record that stands anywhere in a file; files that agree from the record on, or as far as it reaches; what the record step's
+-- kind and number tell. Assumes nothing.
 use mathlib.Core.Path.{_≡_, refl, sym, ap, ap₂, subst, _∙_}
 use mathlib.Core.List.{List, [], _∷_, _++_}
 use Prim.Native.Nat.{ℕ, zero, suc, _+_, _-_, _≤_, _<_}
@@ -118,6 +118,21 @@ recordAt-stands prefix kind body rest known =
 
     part : take (length body) (drop (length prefix + 1) (prefix ++ kind ∷ (body ++ rest))) ≡ body
     part = ap (take (length body)) (drop-append-add prefix (kind ∷ (body ++ rest)) 1) ∙ take-append-seam body rest
+
+-- ---- files that agree from the record on
+
+-- One byte more before it makes no difference.
+pub recordAt-cons : (byte : ℕ) (file : List ℕ) (at : ℕ) → recordAt (byte ∷ file) (suc at) ≡ recordAt file at
+recordAt-cons byte file at = by-case (recordAt file at) (recordAt-is file at)
+  where
+    by-case : (r : Record) → StandsAt file at r → recordAt (byte ∷ file) (suc at) ≡ r
+    by-case r (at-nothing h) = recordAt-nothing (byte ∷ file) (suc at) (omega arith)
+    by-case r (at-unknown l u) = recordAt-unknown (byte ∷ file) (suc at) (omega arith) u
+    by-case r (at-short n l known h) = recordAt-short (byte ∷ file) (suc at) (omega arith) n known (omega arith)
+    by-case r (at-whole n known h) =
+        let next : suc at + 1 ≡ suc (at + 1) = omega arith in
+        recordAt-whole (byte ∷ file) (suc at) (omega arith) n known (omega arith)
+        ∙ ap (λ (k : ℕ). whole (getD file at 0) (take n (drop k (byte ∷ file)))) next
 
 -- ---- files that agree as far as the record reaches
 

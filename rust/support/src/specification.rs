@@ -142,7 +142,7 @@ fn take(SoFar { model, rows }: &mut SoFar, kind: u8, body: &[u8]) -> u8 {
                 return 4;
             }
             model.n = n;
-            model.steps = if steps == 0 { 60 } else { steps }; // File 4
+            model.steps = if steps == 0 { 120 } else { steps }; // File 4
         }
         0x02 => {
             let row = six(model.n, &body[1..]);

@@ -1,7 +1,7 @@
 //! Listings: the text is the specification's, whole, and no byte beside it changes.
 
 use crate::makers::{damage_bytes, damage_records, model, Random};
-use pepperscarp::{listing, LISTING_ROOM};
+use pepperscarp::{list_length, listing, LISTING_ROOM};
 use support::listing::{of_file, text};
 use support::records::{end, file, guard, head, numbers, row};
 
@@ -50,6 +50,32 @@ fn listings_of_damaged_files_are_those_of_the_specification() {
         }
         compare(&bytes, &mut out);
     }
+}
+
+#[test]
+fn a_head_that_says_0_steps_is_listed_as_one_that_says_120() {
+    let mut random = Random::new(120);
+    let (mut first, mut second) = (room(LISTING_ROOM), room(LISTING_ROOM));
+    let (mut models, mut refused) = (0, 0);
+    for turn in 0..600 {
+        let mut bytes = file(&model(&mut random));
+        if turn % 2 == 0 {
+            damage_bytes(&mut random, &mut bytes);
+        }
+        if bytes.len() < 4 || bytes[0] != 0x01 {
+            continue;
+        }
+        bytes[2..4].copy_from_slice(&[0, 0]);
+        let none = (list_length(&bytes), listing(&bytes, &mut first).expect("room"));
+        bytes[2] = 120;
+        assert_eq!(none, (Some(121), listing(&bytes, &mut second).expect("room")));
+        assert_eq!(list_length(&bytes), Some(121));
+        match none.1.starts_with(b"model ") {
+            true => models += 1,
+            false => refused += 1,
+        }
+    }
+    assert!(models > 300 && refused > 100, "both come often: {models} and {refused}");
 }
 
 #[test]

@@ -3,7 +3,7 @@
 use crate::lent::Lent;
 use crate::makers::{damage_bytes, damage_records, model, open_model, Random};
 use crate::sweeps::{compare_judge, compare_sweep};
-use pepperscarp::{judge, sweep, Refusal};
+use pepperscarp::{judge, list_length, sweep, Refusal, LONGEST_LIST};
 use support::records::{body_length, end, file, guard, head, numbers, row, Record};
 use support::recurrence;
 use support::specification;
@@ -29,9 +29,10 @@ fn judge_as_unit(bytes: &[u8], guard: usize, bounds: &mut [i64], slacks: &mut [i
 fn compare_file(random: &mut Random, bytes: &[u8]) -> u8 {
     match specification::read(bytes) {
         Err(refusal) => {
-            let length = random.pick(&[0, 1, 2, 4, 61, 257]);
+            let said = list_length(bytes).map_or(0, |length| length.min(LONGEST_LIST));
+            let length = random.pick(&[0, 1, 2, 4, said, LONGEST_LIST]);
             let asked = random.pick(&[0, 0, 1, 15, 16, usize::MAX]);
-            assert_refused(bytes, refusal, asked, (length, random.pick(&[length, 61])));
+            assert_refused(bytes, refusal, asked, (length, random.pick(&[length, said])));
             refusal.number()
         }
         Ok(model) => {

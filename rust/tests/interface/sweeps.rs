@@ -127,7 +127,7 @@ fn every_number_of_steps_is_swept_to_its_end() {
         records.push(end());
         let bytes = file(&records);
         let model = specification::read(&bytes).expect("a model");
-        assert_eq!(model.steps, if steps == 0 { 60 } else { usize::from(steps) });
+        assert_eq!(model.steps, if steps == 0 { 120 } else { usize::from(steps) });
         compare_sweep(&bytes, &model, 0);
     }
 }
