@@ -70,9 +70,10 @@ fn a_head_that_says_0_steps_is_listed_as_one_that_says_120() {
         bytes[2] = 120;
         assert_eq!(none, (Some(121), listing(&bytes, &mut second).expect("room")));
         assert_eq!(list_length(&bytes), Some(121));
-        match none.1.starts_with(b"model ") {
-            true => models += 1,
-            false => refused += 1,
+        if none.1.starts_with(b"model ") {
+            models += 1;
+        } else {
+            refused += 1;
         }
     }
     assert!(models > 300 && refused > 100, "both come often: {models} and {refused}");
