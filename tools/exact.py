@@ -29,7 +29,7 @@ from layout import (
     BODY_LENGTHS, BOX, CENTRE, DEFAULT_STEPS, DIRECTION, DIRECTION_UNIT, END, GROWTH_LIMIT, GUARD,
     HEAD, INITIAL, INPUT, LOWER, MATRIX_UNIT, MAX_DIRECTION_ENTRY, MAX_DIRECTIONS, MAX_ENTRY,
     MAX_GUARDS, MAX_N, MAX_POINTS, MAX_REACH, MAX_SPARE, MAX_STEPS, MIN_POINTS, POINT_KINDS,
-    READ_LIMIT, ROW, VERTEX, ZONOTOPE, Model, Set, Vector,
+    READ_LIMIT, ROW, VERTEX, ZONOTOPE, Model, Set, Vector, no_input,
 )
 from listings import CLEAR, GROWTH, HIT, UNKNOWN, Growth, Listing, Refusal, Sweep, Verdict
 
@@ -135,9 +135,12 @@ def _read(file: _File) -> Model:
         file.require(body[0] == len(matrix) and in_limits, 5)
         matrix.append(entries)
 
-    input_firsts = {INPUT + LOWER, INPUT + CENTRE, INPUT + VERTEX}
-    initial = _read_set(file, INITIAL, n, later=input_firsts)
-    input_ = _read_set(file, INPUT, n, later={DIRECTION})
+    later = {INPUT + LOWER, INPUT + CENTRE, INPUT + VERTEX, DIRECTION}
+    initial = _read_set(file, INITIAL, n, later)
+    if file.kind(later) == DIRECTION:
+        input_ = no_input(n)
+    else:
+        input_ = _read_set(file, INPUT, n, later={DIRECTION})
 
     directions: list[Vector] = []
     allowed = {DIRECTION}

@@ -62,6 +62,11 @@ class Set:
     points: tuple[Vector, ...]
 
 
+def no_input(n: int) -> Set:
+    """The input set of a file that has none: the box from zero to zero (File 10)."""
+    return Set(BOX, ((0,) * n,) * 2)
+
+
 @dataclass(frozen=True)
 class Model:
     """A model without its unused entries: every vector has n entries."""
@@ -108,19 +113,25 @@ def set_records(part: int, set_: Set) -> list[bytes]:
     ]
 
 
-def records(model: Model, stated_steps: int | None = None) -> list[bytes]:
-    """The records of a model; `stated_steps` is what the head says where that is not K."""
+def records(
+    model: Model, stated_steps: int | None = None, input_stated: bool = True
+) -> list[bytes]:
+    """The records of a model.
+
+    `stated_steps` is what the head says where that is not K. An input set that is not stated has
+    no records, and the file is read with that of `no_input`, whatever the model has.
+    """
     return [
         head(model.n, model.steps if stated_steps is None else stated_steps),
         *(row(number, entries) for number, entries in enumerate(model.matrix)),
         *set_records(INITIAL, model.initial),
-        *set_records(INPUT, model.input),
+        *(set_records(INPUT, model.input) if input_stated else ()),
         *map(direction, model.directions),
         *(guard(number, level) for number, level in model.guards),
         bytes([END]),
     ]
 
 
-def encode(model: Model, stated_steps: int | None = None) -> bytes:
+def encode(model: Model, stated_steps: int | None = None, input_stated: bool = True) -> bytes:
     """The file of a model."""
-    return b"".join(records(model, stated_steps))
+    return b"".join(records(model, stated_steps, input_stated))

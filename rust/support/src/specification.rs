@@ -30,6 +30,11 @@ impl Set {
         Set { form: Form::Box, points: Vec::new() }
     }
 
+    /// The input set of a file that has no input record (File 10).
+    pub fn zero() -> Set {
+        Set { form: Form::Box, points: vec![[0; 6]; 2] }
+    }
+
     fn is_complete(&self) -> bool {
         match self.form {
             Form::Box => self.points.len() == 2,
@@ -89,7 +94,11 @@ fn may_come(SoFar { model, rows }: &SoFar, kind: u8) -> bool {
         0x02 => head && !rows,
         0x10..=0x14 => point(&model.initial, rows && model.input.points.is_empty()),
         0x20..=0x24 => point(&model.input, model.initial.is_complete() && model.directions.is_empty()),
-        0x30 => model.input.is_complete() && model.guards.is_empty(),
+        // Without input records straight after the initial set (File 10).
+        0x30 => {
+            let last = if model.input.points.is_empty() { &model.initial } else { &model.input };
+            last.is_complete() && model.guards.is_empty()
+        }
         _ => !model.directions.is_empty(),
     }
 }
@@ -166,6 +175,9 @@ fn take(SoFar { model, rows }: &mut SoFar, kind: u8, body: &[u8]) -> u8 {
             let direction = six(model.n, body);
             if !within(&direction, DIRECTION_LIMIT) || direction == [0; 6] {
                 return 7;
+            }
+            if model.input.points.is_empty() {
+                model.input = Set::zero();
             }
             model.directions.push(direction);
         }
