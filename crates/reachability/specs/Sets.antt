@@ -6,6 +6,7 @@ use mathlib.Core.Bool.{Bool, true, cond, _&&_}
 use mathlib.Core.List.{List}
 use Prim.Native.Nat.{ℕ, zero, suc, _+_, _-_, _<_, max}
 use lib.Dec.{leb, eqb}
+use lib.ListN.{replicate}
 use lib.IntN.{ℤ, pos, negℤ, natAbs, _+ℤ_, _*ℤ_}
 use lib.Signed.{ltZ, leZ}
 use Rattle.integers.specs.Whole.{_⩽_}
@@ -69,6 +70,10 @@ abbrev pub Member : ℕ → Shape → ℕ → (ℕ → ℕ → ℤ) → ℕ → 
 Member n Box count p q x = InBox n q p x
 Member n Zonotope count p q x = InZonotope n q count p x
 Member n Vertices count p q x = InHull n q count p x
+
+-- Runs 8, File 10: the box from zero to zero, as it is stored.
+unfoldable pub zeroBox : Set
+zeroBox = record { shape = Box; count = 2; points = replicate 96 (pos 0) }
 
 -- ---- the rules that number 11 tests
 

@@ -1,24 +1,30 @@
 -- What every state that the reader reaches satisfies, and that each record that is not refused keeps it. In order: the start; each
 -- kind of record; any record. Assumes nothing.
 use mathlib.Core.Path.{_≡_, refl, sym, ap₂, subst, _∙_}
-use mathlib.Core.Bool.{Bool, true, false, cond, _&&_}
+use mathlib.Core.Bool.{Bool, true, false, cond, _&&_, _||_}
 use mathlib.Core.List.{List}
-use Prim.Native.Nat.{ℕ, _+_, _≤_, _<_}
+use Prim.Native.Nat.{ℕ, _+_, _*_, _≤_, _<_}
 use native.Mathlib.Omega.{arith}
 use borrow.Author.Tests.{le-leb, leb-true, ltb-true, eqb-true, eqb-false, leb-false}
 use lib.Dec.{leb, ltb, eqb}
 use lib.ListN.{length-set, replicate}
+use lib.Signed.{leZ}
+use Rattle.integers.specs.Sums.{allBelow}
 use Rattle.integers.proofs.Booleans.{and-true}
+use Rattle.integers.proofs.Sums.{allBelow-intro}
+use Rattle.arrays.proofs.Tests.{zeroOutside-of}
 use Rattle.stepping.specs.Limits.{entryLimit}
 use Rattle.stepping.specs.Refusals.{dimensionOk}
 use Rattle.records.specs.Numbers.{littleEndian, signedAt}
 use Rattle.limits.specs.Limits.{directionLimit, stepsOk}
+use Rattle.reachability.specs.declared.sets.Shape.the-variants.{Box}
+use Rattle.reachability.specs.Sets.{points, orderedOk, zeroBox}
 use Rattle.records.specs.declared.order.Part.{Part}
 use Rattle.records.specs.declared.order.Part.the-variants.{Head, Row, Initial, Input, Direction, Guard, End}
 use Rattle.reader.specs.declared.state.State.{State}
 use Rattle.records.specs.Order.{partOf}
 use Rattle.reader.specs.Order.{mostOf}
-use Rattle.reader.specs.Models.{zeros, blankSet, blankModel, start, firstByte, usualSteps, defaultSteps, rowPlace, withHead, withRow, withPoint, withSetPoint, withDirection, withGuard}
+use Rattle.reader.specs.Models.{zeros, blankSet, blankModel, start, firstByte, usualSteps, defaultSteps, rowPlace, withHead, withRow, withPoint, withSetPoint, inputAt, withDirection, withGuard}
 use Rattle.reader.specs.Values.{headOk, rowOk, pointOk, directionOk, guardOk, valueNumber}
 use Rattle.reader.specs.Refusals.{countOf, kindNumber, storedIn, stored}
 use Rattle.reader.proofs.order.KindNumbers.{kindNumber-zero, lt-of-mostOf}
@@ -36,6 +42,10 @@ pub record AcceptedSoFar (s : State) : Type 0 where
   pub directions : DirectionsAt (s .last) (s .model .n) (s .model .directions) (s .model .entries)
   pub guards : GuardsAt (s .model .directions) (s .model .guards) (s .model .watched) (s .model .levels)
 
+-- corners of zeros are in order
+ordered-zeros : (n : ℕ) → orderedOk n Box (points (zeros 96)) ≡ true
+ordered-zeros n = allBelow-intro n (λ i. leZ (points (zeros 96) 0 i) (points (zeros 96) 1 i)) (λ i l. ap₂ leZ (vector-zeros 96 (6 * 0 + i)) (vector-zeros 96 (6 * 1 + i)))
+
 blank-set : (base place n : ℕ) → place < base → SetAt base place n blankSet
 unfolding zeros blankSet
 blank-set base place n h =
@@ -45,6 +55,18 @@ blank-set base place n h =
       one = λ e. absurd (omega arith);
       some = λ l m. absurd (omega arith);
       done = λ t. absurd (isDone-early base place (omega arith) t);
+    }
+
+-- File 10: behind a direction, the input set that no record told.
+zero-box : (place n : ℕ) → 0x24 < place → SetAt 0x20 place n zeroBox
+unfolding zeros zeroBox allBelow
+zero-box place n h =
+    record {
+      held = record { length-is = refl; outside = zeros-blank 96 2 n; most = omega arith };
+      none = λ l. absurd (omega arith);
+      one = λ e. absurd (omega arith);
+      some = λ l m. absurd (omega arith);
+      done = λ t. ap₂ _&&_ (zeroOutside-of 2 n (zeros 96) (zeros-blank 96 2 n)) (ordered-zeros n);
     }
 
 blank-directions : (place n : ℕ) → place < 0x30 → DirectionsAt place n 0 (zeros 96)
@@ -175,14 +197,22 @@ module _ (s : State) (kind : ℕ) (body : List ℕ) (g : AcceptedSoFar s) where
         guards = g .guards;
       }
 
-  so-far-direction : kind ≡ 0x30 → isDone 0x20 (s .last) ≡ true → 0x20 ≤ s .last → s .model .directions < 16 → directionOk (s .model .n) body ≡ true → AcceptedSoFar (withDirection s kind body)
+  -- the input set that a direction finds or, straight after the initial set, leaves
+  so-far-input-at : 0x24 < kind → ltb (s .last) 0x20 || isDone 0x20 (s .last) ≡ true → SetAt 0x20 kind (s .model .n) (inputAt (s .last) (s .model))
+  so-far-input-at h t = split (ltb (s .last) 0x20) refl t
+    where
+      split : (b : Bool) → ltb (s .last) 0x20 ≡ b → b || isDone 0x20 (s .last) ≡ true → SetAt 0x20 kind (s .model .n) (cond b zeroBox (s .model .input))
+      split true e t = zero-box kind (s .model .n) h
+      split false e t = set-late (g .input) kind h t
+
+  so-far-direction : kind ≡ 0x30 → isDone 0x10 (s .last) ≡ true → 0x02 ≤ s .last → ltb (s .last) 0x20 || isDone 0x20 (s .last) ≡ true → s .model .directions < 16 → directionOk (s .model .n) body ≡ true → AcceptedSoFar (withDirection s kind body)
   unfolding withDirection
-  so-far-direction k done late few ok =
+  so-far-direction k done late input few ok =
       record {
         first = λ z. absurd (omega arith);
         frame = frame-on (g .frame) kind (omega arith) (omega arith);
-        initial = set-late (g .initial) kind (omega arith) (isDone-late 0x10 (s .last) (omega arith));
-        input = set-late (g .input) kind (omega arith) done;
+        initial = set-late (g .initial) kind (omega arith) done;
+        input = so-far-input-at (omega arith) input;
         directions = directions-more (g .directions) kind body few ok;
         guards = record { watched-length = g .guards .watched-length; few = g .guards .few; guarded = guarded-more _ _ _ _ (g .guards .guarded) };
       }
@@ -222,9 +252,10 @@ module _ (s : State) (kind : ℕ) (body : List ℕ) (g : AcceptedSoFar s) where
       let b = and-true (isDone 0x10 (s .last)) (leb 0x02 (s .last)) (a .1) in
       so-far-input (a .0) (b .0) (b .1) few (passed _ 6 (omega arith) z)
   so-far-part Direction f few z =
-      let a = and-true (eqb kind 0x30) (isDone 0x20 (s .last) && leb 0x20 (s .last)) f in
-      let b = and-true (isDone 0x20 (s .last)) (leb 0x20 (s .last)) (a .1) in
-      so-far-direction (eqb-true kind 0x30 (a .0)) (b .0) (leb-true 0x20 (s .last) (b .1)) (lt-of-mostOf kind few) (passed _ 7 (omega arith) z)
+      let a = and-true (eqb kind 0x30) ((isDone 0x10 (s .last) && leb 0x02 (s .last)) && (ltb (s .last) 0x20 || isDone 0x20 (s .last))) f in
+      let b = and-true (isDone 0x10 (s .last) && leb 0x02 (s .last)) (ltb (s .last) 0x20 || isDone 0x20 (s .last)) (a .1) in
+      let d = and-true (isDone 0x10 (s .last)) (leb 0x02 (s .last)) (b .0) in
+      so-far-direction (eqb-true kind 0x30 (a .0)) (d .0) (leb-true 0x02 (s .last) (d .1)) (b .1) (lt-of-mostOf kind few) (passed _ 7 (omega arith) z)
   so-far-part Guard f few z =
       let a = and-true (eqb kind 0x40) (leb 0x30 (s .last)) f in
       so-far-guard (eqb-true kind 0x40 (a .0)) (leb-true 0x30 (s .last) (a .1)) (lt-of-mostOf kind few) (passed _ 8 (omega arith) z)

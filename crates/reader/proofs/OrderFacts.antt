@@ -64,7 +64,7 @@ fact Head place kind = eqb place 0x00
 fact Row place kind = eqb place 0x01
 fact Initial place kind = pointMay 0x10 place kind && (leb 0x02 place && ltb place 0x20)
 fact Input place kind = pointMay 0x20 place kind && (isDone 0x10 place && leb 0x02 place)
-fact Direction place kind = eqb kind 0x30 && (isDone 0x20 place && leb 0x20 place)
+fact Direction place kind = eqb kind 0x30 && ((isDone 0x10 place && leb 0x02 place) && (ltb place 0x20 || isDone 0x20 place))
 fact Guard place kind = eqb kind 0x40 && leb 0x30 place
 fact End place kind = eqb kind 0xFF && leb 0x30 place
 

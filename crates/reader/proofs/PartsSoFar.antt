@@ -25,7 +25,7 @@ use Rattle.reachability.specs.Sets.{points, countOk, orderedOk, reachOk, setOk,
 use Rattle.limits.specs.Limits.{directionLimit, stepsOk, allZero}
 use Rattle.reachability.specs.Limits.{setAccepted}
 use Rattle.reader.specs.Order.{shapeOf, isUpper, mostOf}
-use Rattle.reader.specs.Models.{entryAt, sixAt, putRow, rowPlace, withPoint}
+use Rattle.reader.specs.Models.{zeros, blankSet, entryAt, sixAt, putRow, rowPlace, withPoint}
 use Rattle.reader.specs.Values.{within, pointOk, directionOk, unless}
 use Rattle.reader.proofs.store.PutRow.{length-putRow}
 use Rattle.reader.proofs.order.KindNumbers.{lt-of-mostOf}
@@ -104,12 +104,16 @@ pub record Held (n : ℕ) (set : Set) : Type 0 where
 
 pub record SetAt (base place n : ℕ) (set : Set) : Type 0 where
   pub held : Held n set
-  pub none : place < base → set .count ≡ 0
+  pub none : place < base → set ≡ blankSet
   pub one : place ≡ base → set .count ≡ 1
   pub some : base + 2 ≤ place → place ≤ base + 3 → 1 ≤ set .count
   pub done : isDone base place ≡ true → setAccepted n set ≡ true
 
 module _ {base place n : ℕ} {set : Set} (s : SetAt base place n set) where
+  pub none-count : place < base → set .count ≡ 0
+  unfolding blankSet
+  none-count h = ap (λ (x : Set). x .count) (s .none h)
+
   -- before its own points
   pub set-early : (kind : ℕ) → place < base → kind < base → SetAt base kind n set
   set-early kind h k =
@@ -224,7 +228,7 @@ module _ (base place n : ℕ) (set : Set) (kind : ℕ) (body : List ℕ) (s : Se
       record {
         held = record { length-is = length-putRow (set .count) (sixAt n body 0) (set .points) ∙ s .held .length-is; outside = block-zeros; most = omega (arith, count-few) };
         none = λ l. absurd (omega (arith, point-low));
-        one = λ e. omega (arith, s .none (first-place e));
+        one = λ e. ap (λ (k : ℕ). k + 1) (none-count s (first-place e));
         some = λ l m. omega arith;
         done = λ t. point-done t;
       }

@@ -6,7 +6,7 @@ use mathlib.Core.List.{List}
 use Prim.Native.Nat.{ℕ, _+_, _*_, _≤_, _<_}
 use native.Mathlib.Decide.{decLt}
 use native.Mathlib.Omega.{arith}
-use borrow.Author.Tests.{ne-eqb, eqb-true, leb-true}
+use borrow.Author.Tests.{ne-eqb, eqb-true, leb-true, ltb-true}
 use lib.Dec.{eqb, leb, ltb}
 use lib.ListN.{length}
 use Rattle.integers.specs.Sums.{allBelow}
@@ -16,12 +16,13 @@ use Rattle.records.specs.Kinds.{bodyLength}
 use Rattle.records.proofs.KnownKinds.{everyKind, everyKind-at}
 use Rattle.records.specs.declared.order.Part.{Part}
 use Rattle.records.specs.declared.order.Part.the-variants.{Head, Row, Initial, Input, Direction, Guard, End}
+use Rattle.reachability.specs.Sets.{zeroBox}
 use Rattle.reader.specs.declared.state.State.{State}
 use Rattle.records.specs.Order.{mayFollow, partOf}
-use Rattle.reader.specs.Models.{blankSet, blankModel, start, rowPlace, withHead, withRow, withPoint, withSetPoint, withDirection, withGuard}
+use Rattle.reader.specs.Models.{blankSet, blankModel, start, rowPlace, withHead, withRow, withPoint, withSetPoint, inputAt, withDirection, withGuard}
 use Rattle.reader.specs.Refusals.{storedIn, stored}
 use Rattle.reader.proofs.OrderFacts.{order-at}
-use Rattle.reader.proofs.PartsSoFar.{n-most}
+use Rattle.reader.proofs.PartsSoFar.{n-most, none-count}
 use Rattle.reader.proofs.AcceptedSoFar.{AcceptedSoFar}
 
 -- ---- the longest body of each part
@@ -86,9 +87,18 @@ module _ (s : State) (kind : ℕ) (body : List ℕ) (g : AcceptedSoFar s) (new :
     used-point false n = omega (arith, started-is kind new, started-is (s .last) late)
     used-point true n = omega (arith, started-is kind new, started-is (s .last) late)
 
+    -- straight after the initial set a direction brings the points of the input set too
+    input-more : s .model .input .count ≤ inputAt (s .last) (s .model) .count
+    unfolding zeroBox
+    input-more = split (ltb (s .last) 0x20) refl
+      where
+        split : (b : Bool) → ltb (s .last) 0x20 ≡ b → s .model .input .count ≤ cond b zeroBox (s .model .input) .count
+        split true e = omega (arith, none-count (g .input) (ltb-true (s .last) 0x20 e))
+        split false e = omega arith
+
     used-direction : length body ≤ 24 → used s + (1 + length body) ≤ used (withDirection s kind body)
     unfolding used withDirection
-    used-direction n = omega (arith, started-is kind new, started-is (s .last) late)
+    used-direction n = omega (arith, started-is kind new, started-is (s .last) late, input-more)
 
     used-guard : length body ≤ 9 → used s + (1 + length body) ≤ used (withGuard s kind body)
     unfolding used withGuard

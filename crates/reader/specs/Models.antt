@@ -1,6 +1,6 @@
--- File 3, 4, 7 and 8: how far a file has been read, and what each record adds to the model. Definitions only. A record that a block
+-- File 3, 4, 7, 8 and 10: how far a file has been read, and what each record adds to the model. Definitions only. A record that a block
 -- has no room for changes nothing in it; none such is ever let in. Assumes nothing.
-use mathlib.Core.Bool.{Bool, cond}
+use mathlib.Core.Bool.{Bool, true, cond}
 use mathlib.Core.List.{List}
 use Prim.Native.Nat.{ℕ, zero, suc, _+_, _*_}
 use lib.Dec.{eqb, ltb}
@@ -11,6 +11,7 @@ use Rattle.records.specs.Numbers.{littleEndian, signedAt}
 use Rattle.reachability.specs.declared.sets.Shape.the-variants.{Box}
 use Rattle.reachability.specs.declared.sets.Set.{Set}
 use Rattle.reachability.specs.declared.model.Model.{Model}
+use Rattle.reachability.specs.Sets.{zeroBox}
 use Rattle.reader.specs.declared.state.State.{State}
 use Rattle.reader.specs.Order.{shapeOf}
 
@@ -141,11 +142,16 @@ unfoldable pub withSetPoint : Bool → State → ℕ → List ℕ → State
 withSetPoint input s kind body =
     stateOf kind (s .rows) (setSet input (s .model) (withPoint (s .model .n) (setOf input (s .model)) kind body))
 
+-- File 10: the input set once a direction stands at a place. Below 20 no input record was read, and it is the box from zero to zero.
+abbrev pub inputAt : ℕ → Model → Set
+inputAt place m = cond (ltb place 0x20) zeroBox (m .input)
+
 -- File 3, kind 30.
 unfoldable pub withDirection : State → ℕ → List ℕ → State
 withDirection s kind body =
     stateOf kind (s .rows)
-    (setDirections (s .model) (s .model .directions + 1) (putRow (s .model .entries) (s .model .directions) (sixAt (s .model .n) body 0)))
+    (setDirections (setSet true (s .model) (inputAt (s .last) (s .model))) (s .model .directions + 1)
+    (putRow (s .model .entries) (s .model .directions) (sixAt (s .model .n) body 0)))
 
 -- File 3, kind 40.
 unfoldable pub withGuard : State → ℕ → List ℕ → State

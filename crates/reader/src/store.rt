@@ -2,9 +2,10 @@
 use crate::order::shape_of;
 use reachability::model::Model;
 use reachability::sets::Set;
+use reachability::sets::Shape;
 ghost use mathlib.Core.Path.{_≡_};
 ghost use Prim.Native.Nat.{_≤_, _<_};
-ghost use Rattle.reader.specs.Models.{firstByte, entryAt, sixAt, putRow, setOf, setSet, withPoint};
+ghost use Rattle.reader.specs.Models.{firstByte, entryAt, sixAt, putRow, setOf, setSet, withPoint, inputAt};
 
 // The byte that a body starts with.
 pub(crate) fn first_byte(body: &[u8]) -> usize
@@ -97,4 +98,20 @@ pub(crate) fn with_set(input: bool, model: Model, set: Set) -> Model
     }
     next.initial = set;
     next
+}
+
+// File 10: the input set once a direction stands at the place. Below 20 no input record was read, and it is the box from zero to zero.
+pub(crate) fn input_at(place: u8, model: Model) -> Set
+    ensures { λ r. ⌜ r ≡ inputAt place model ⌝ }
+{
+    let input = model.input;
+    let zero = Set {
+        shape: Shape::Box,
+        count: 2,
+        points: [0i32; 96],
+    };
+    if place < 0x20 {
+        return zero;
+    }
+    input
 }

@@ -1,6 +1,7 @@
 // Taking a whole record: its value test, Refusals 4 to 8, and the state behind it.
 use crate::state::State;
 use crate::store::first_byte;
+use crate::store::input_at;
 use crate::store::put_row;
 use crate::store::set_of;
 use crate::store::six_at;
@@ -137,6 +138,8 @@ fn take_direction(state: State, kind: u8, body: &[u8]) -> Taken
     let directions = model.directions;
     let mut entries = model.entries;
     put_row(&mut entries, directions, &six);
+    let input = input_at(state.last, model);
+    model.input = input;
     model.directions = directions + 1;
     model.entries = entries;
     Taken {

@@ -17,7 +17,7 @@ pub enum Part {
 // rows are in.
 struct Pair(u8, u8);
 
-const ORDER: [Pair; 30] = [
+const ORDER: [Pair; 33] = [
     Pair(0x00, 0x01),
     Pair(0x01, 0x02),
     Pair(0x02, 0x10),
@@ -27,15 +27,18 @@ const ORDER: [Pair; 30] = [
     Pair(0x11, 0x20),
     Pair(0x11, 0x22),
     Pair(0x11, 0x24),
+    Pair(0x11, 0x30),
     Pair(0x12, 0x13),
     Pair(0x13, 0x13),
     Pair(0x13, 0x20),
     Pair(0x13, 0x22),
     Pair(0x13, 0x24),
+    Pair(0x13, 0x30),
     Pair(0x14, 0x14),
     Pair(0x14, 0x20),
     Pair(0x14, 0x22),
     Pair(0x14, 0x24),
+    Pair(0x14, 0x30),
     Pair(0x20, 0x21),
     Pair(0x21, 0x30),
     Pair(0x22, 0x23),
@@ -56,7 +59,7 @@ pub fn may_follow(place: u8, kind: u8) -> bool
 {
     let table = ORDER;
     let mut i: usize = 0;
-    while i < 30 {
+    while i < 33 {
         let pair = table[i];
         if pair.0 == place {
             if pair.1 == kind {

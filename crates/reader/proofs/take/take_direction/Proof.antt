@@ -1,5 +1,5 @@
 -- `reader::take::take_direction` meets its contract: the entries first, then that not all are zero. Assumes nothing.
-use Rattle.integers.proofs.Basics.{_+_, ℤ, _≡_, refl, sym, ap, _∙_, ℕ, arith, needs}
+use Rattle.integers.proofs.Basics.{_+_, ℤ, _≡_, refl, sym, ap, ap₂, _∙_, true, ℕ, arith, needs}
 use borrow.Author.Tests.{not-true, not-false}
 use mathlib.Core.Bool.{not}
 use mathlib.Core.List.{List}
@@ -7,7 +7,8 @@ use Rattle.integers.specs.Sums.{allBelow}
 use Rattle.arrays.specs.Tests.{zeroOutside}
 use Rattle.integers.proofs.Booleans.{and-skip, and-stop}
 use Rattle.limits.specs.Limits.{allZero, directionLimit}
-use Rattle.reader.specs.Models.{setDirections, sixAt, putRow, stateOf, withDirection}
+use Rattle.reachability.specs.declared.sets.Set.{Set}
+use Rattle.reader.specs.Models.{setSet, setDirections, sixAt, putRow, stateOf, withDirection}
 use Rattle.reader.specs.Values.{within, directionOk}
 use Rattle.reader.proofs.take.Taking.{takenAs, takes-refused, takes-passed}
 use Rattle.reader.proofs.take.take_direction.Statement.{statement}
@@ -37,16 +38,17 @@ returns-2 c =
 returns-3 : tie.Need-returns-3
 unfolding directionOk withDirection
 returns-3 c =
-    let at-zero = c .before .before .before .before .before .before in
+    let at-put = c .before .before in
+    let at-zero = at-put .before .before .before .before .before in
     let at-six = at-zero .before .before .before .before .before in
     let a = at-six .before .before .before .args in
     let m = a .state .model in
     let six = at-six .six-at .ensures in
     let small = ap (within directionLimit) (sym six) ∙ sym (at-zero .before .before .before .all-between .ensures) ∙ not-false _ (at-zero .before .before .if1 .left) in
-    let some = sym (zeros-is _ _) ∙ ap (zeroOutside 0 0) (sym six) ∙ sym (at-zero .zero-outside .ensures) ∙ c .before .before .before .before .before .if2 .left in
+    let some = sym (zeros-is _ _) ∙ ap (zeroOutside 0 0) (sym six) ∙ sym (at-zero .zero-outside .ensures) ∙ at-put .before .before .before .before .if2 .left in
     takes-passed 7 (and-skip _ small ∙ ap not some)
-    (ap (λ (xs : List ℤ). takenAs (stateOf (a .kind) (a .state .rows) (setDirections m (m .directions + 1) xs)))
-    (c .before .put-row .ensures ∙ ap (putRow (m .entries) (m .directions)) six))
+    (ap₂ (λ (input : Set) (xs : List ℤ). takenAs (stateOf (a .kind) (a .state .rows) (setDirections (setSet true m input) (m .directions + 1) xs))) (c .input-at .ensures)
+    (at-put .put-row .ensures ∙ ap (putRow (m .entries) (m .directions)) six))
 
 pub take-direction-spec : {M : Type 1} → statement M
 take-direction-spec =
@@ -60,6 +62,7 @@ take-direction-spec =
     (λ c κs. search needs)
     returns-2
     (λ c. search needs)
+    (λ c κs. search needs)
     (λ c κs. search needs)
     (λ c. search needs)
     returns-3)
