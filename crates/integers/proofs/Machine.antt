@@ -1,5 +1,5 @@
 -- Machine integers in proofs. A signed local is its bits: `toZ w` reads them and `ofZ w` writes them.
--- In order: bits that are 0; ranges; a product that is added to a sum; lists filled from the front. Assumes nothing.
+-- In order: bits that are 0; ranges; a product that is added to a sum; lists filled from the front, and of one value. Assumes nothing.
 use mathlib.Core.Path.{_≡_, refl, sym, ap, ap₂, subst, _∙_}
 use mathlib.Core.Bool.{Bool, true, false}
 use mathlib.Core.List.{List, [], _∷_, _++_}
@@ -10,7 +10,7 @@ use native.Mathlib.Omega.{arith}
 use borrow.Author.Tests.{eq-eqb, ne-eqb, eqb-true, eqb-false}
 use lib.Dec.{T, eqb, leb}
 use lib.Pow.{pow-pos}
-use lib.ListN.{length, getD, set, drop, List·getD-append}
+use lib.ListN.{length, getD, set, drop, replicate, List·getD-append}
 use lib.IntN.{ℤ, pos, negsuc, natAbs, _+ℤ_, _*ℤ_}
 use lib.Signed.{mag, shrZ, mag-shr}
 use mir.Syntax.{Width, w32, w64}
@@ -133,3 +133,10 @@ pub getD-filled : (f : ℕ → ℤ) (i : ℕ) (xs : List ℤ) (j : ℕ) (d : ℤ
 unfolding filled
 getD-filled f i xs j d h =
     List·getD-append (tabulate i f) (drop i xs) d j (subst (λ (k : ℕ). j < k) (sym (length-tabulate i f)) h) ∙ getD-tabulate i f j d h
+
+-- ---- a list of one value, which is also what it has beyond its end
+
+pub getD-all : {A : Type 0} (n i : ℕ) (a : A) → getD (replicate n a) i a ≡ a
+getD-all zero i a = refl
+getD-all (suc n) zero a = refl
+getD-all (suc n) (suc i) a = getD-all n i a

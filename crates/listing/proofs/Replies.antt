@@ -1,5 +1,5 @@
 -- The text of a file's reading at the start of the buffer is what `reply` should leave; a head that says 0 and one that says
--- the default get the same reply. Assumes nothing.
+-- the default get the same reply, and so do a file without an input set and one with zero corners. Assumes nothing.
 use mathlib.Core.Path.{_≡_, sym, ap, _∙_}
 use mathlib.Core.Bool.{Bool, true, false, cond}
 use mathlib.Core.List.{List, _∷_, _++_}
@@ -10,13 +10,15 @@ use borrow.Author.Tests.{le-leb, lt-leb}
 use lib.Dec.{leb}
 use lib.ListN.{length, drop, length-append}
 use Rattle.reachability.specs.Limits.{accepted}
-use Rattle.reader.specs.Models.{usualSteps}
-use Rattle.reader.specs.Reading.{readModel}
+use Rattle.reader.specs.Models.{usualSteps, start}
+use Rattle.reader.specs.Reading.{stopFor, readModel}
 use Rattle.reader.specs.declared.Reading.{Reading}
 use Rattle.reader.specs.declared.Status.{Status}
 use Rattle.reader.specs.declared.Status.the-variants.{Read}
 use Rattle.reader.proofs.ReadModels.{readModel-accepted}
+use Rattle.reader.proofs.ReadingRest.{movedStatus}
 use Rattle.reader.proofs.DefaultSteps.{readModel-default}
+use Rattle.reader.proofs.NoInput.{NoInputAt, zeroCorners, putIn, readModel-no-input}
 use Rattle.text.specs.Put.{Put}
 use Rattle.listing.specs.Listing.{statusText, replyText, replyRoom, ReplyLeaves}
 
@@ -66,3 +68,12 @@ reply-inside file out₀ out r p = cases (leb replyRoom (length out₀)) (p .cou
 pub replyText-default : (n : ℕ) (rest : List ℕ) → replyText (0x01 ∷ n ∷ 0 ∷ 0 ∷ rest) ≡ replyText (0x01 ∷ n ∷ usualSteps ∷ 0 ∷ rest)
 unfolding replyText
 replyText-default n rest = ap (λ (r : Reading). statusText (r .status) (r .model)) (readModel-default n rest)
+
+-- File 10: a file in which a direction stands straight after the initial set, and that is read, gets the reply that it gets with two
+-- records of zero corners before that direction.
+pub replyText-no-input : (file : List ℕ) (turns : ℕ) → NoInputAt file (stopFor turns file 0 start) → readModel file .status ≡ Read → replyText (putIn zeroCorners (stopFor turns file 0 start .at) file) ≡ replyText file
+unfolding replyText
+replyText-no-input file turns place e =
+    ap (λ (r : Reading). statusText (r .status) (r .model)) (readModel-no-input file turns place)
+    ∙ ap (λ (t : Status). statusText (movedStatus 50 t) (readModel file .model)) e
+    ∙ sym (ap (λ (t : Status). statusText t (readModel file .model)) e)

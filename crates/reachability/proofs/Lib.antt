@@ -2,3 +2,4 @@ pub mod FirstPlace
 pub mod VerdictLaws
 pub mod Walks
 pub mod AccuracyRule
+pub mod ZeroInput

@@ -12,6 +12,7 @@ use lib.Signed.{leZ}
 use Rattle.integers.specs.Sums.{allBelow}
 use Rattle.integers.proofs.Booleans.{and-true}
 use Rattle.integers.proofs.Sums.{allBelow-intro}
+use Rattle.integers.proofs.Machine.{getD-all}
 use Rattle.arrays.proofs.Tests.{zeroOutside-of}
 use Rattle.stepping.specs.Limits.{entryLimit}
 use Rattle.stepping.specs.Refusals.{dimensionOk}
@@ -28,7 +29,7 @@ use Rattle.reader.specs.Models.{zeros, blankSet, blankModel, start, firs
 use Rattle.reader.specs.Values.{headOk, rowOk, pointOk, directionOk, guardOk, valueNumber}
 use Rattle.reader.specs.Refusals.{countOf, kindNumber, storedIn, stored}
 use Rattle.reader.proofs.order.KindNumbers.{kindNumber-zero, lt-of-mostOf}
-use Rattle.reader.proofs.RowsOfSix.{vector-zeros, getD-zeros, zeros-blank, small-blank, nonzero-none, guarded-more, guarded-set}
+use Rattle.reader.proofs.RowsOfSix.{vector-zeros, zeros-blank, small-blank, nonzero-none, guarded-more, guarded-set}
 use Rattle.reader.proofs.OrderFacts.{isDone, pointMay, fact, order-fact, isDone-late, isDone-early}
 use Rattle.reader.proofs.PartsSoFar.{passed, FrameAt, n-least, frame-on, frame-row, SetAt, set-early, set-late, point-low, point-high, set-point, DirectionsAt, directions-early, directions-late, directions-more, GuardsAt}
 
@@ -43,7 +44,7 @@ pub record AcceptedSoFar (s : State) : Type 0 where
   pub guards : GuardsAt (s .model .directions) (s .model .guards) (s .model .watched) (s .model .levels)
 
 -- corners of zeros are in order
-ordered-zeros : (n : ℕ) → orderedOk n Box (points (zeros 96)) ≡ true
+pub ordered-zeros : (n : ℕ) → orderedOk n Box (points (zeros 96)) ≡ true
 ordered-zeros n = allBelow-intro n (λ i. leZ (points (zeros 96) 0 i) (points (zeros 96) 1 i)) (λ i l. ap₂ leZ (vector-zeros 96 (6 * 0 + i)) (vector-zeros 96 (6 * 1 + i)))
 
 blank-set : (base place n : ℕ) → place < base → SetAt base place n blankSet
@@ -86,7 +87,7 @@ blank-guards =
     record {
       watched-length = refl;
       few = omega arith;
-      guarded = record { on = λ g h. absurd (omega arith); none = λ g h. getD-zeros 16 g; level = λ g h. vector-zeros 16 g };
+      guarded = record { on = λ g h. absurd (omega arith); none = λ g h. getD-all {A = ℕ} 16 g 0; level = λ g h. vector-zeros 16 g };
     }
 
 pub acceptedSoFar-start : AcceptedSoFar start

@@ -8,5 +8,6 @@ pub mod PartsSoFar
 pub mod AcceptedSoFar
 pub mod Sizes
 pub mod ReadModels
+pub mod NoInput
 pub mod Answers
 pub mod Sample

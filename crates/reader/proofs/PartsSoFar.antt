@@ -25,7 +25,7 @@ use Rattle.reachability.specs.Sets.{points, countOk, orderedOk, reachOk, setOk,
 use Rattle.limits.specs.Limits.{directionLimit, stepsOk, allZero}
 use Rattle.reachability.specs.Limits.{setAccepted}
 use Rattle.reader.specs.Order.{shapeOf, isUpper, mostOf}
-use Rattle.reader.specs.Models.{zeros, blankSet, entryAt, sixAt, putRow, rowPlace, withPoint}
+use Rattle.reader.specs.Models.{blankSet, entryAt, sixAt, putRow, rowPlace, withPoint}
 use Rattle.reader.specs.Values.{within, pointOk, directionOk, unless}
 use Rattle.reader.proofs.store.PutRow.{length-putRow}
 use Rattle.reader.proofs.order.KindNumbers.{lt-of-mostOf}

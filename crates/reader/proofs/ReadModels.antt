@@ -114,7 +114,12 @@ module _ (file : List ℕ) (p : Stop) where
         model-is = readingAt-model n;
       }
 
-reachable-stop : (file : List ℕ) (turns : ℕ) → Reachable (stopFor turns file 0 start)
+-- Where a file is read, its model is that of the state before the end record.
+pub readFrom-model : (file : List ℕ) (at : ℕ) (s : State) → readFrom file at s .status ≡ Read → readFrom file at s .model ≡ stopFrom file at s .state .model
+unfolding readFrom
+readFrom-model file at s e = readingAt-model file (stopFrom file at s) (sym (readingAt-tells file (stopFrom file at s) .number-is) ∙ ap statusNumber e)
+
+pub reachable-stop : (file : List ℕ) (turns : ℕ) → Reachable (stopFor turns file 0 start)
 reachable-stop file turns = stopFor-ind file Reachable (reachable-next file) turns 0 start reachable-start
 
 pub readModel-reached : (file : List ℕ) → readModel file .status ≡ Read → Reached file (readModel file)

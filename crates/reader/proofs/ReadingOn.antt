@@ -119,6 +119,13 @@ module _ (file : List ℕ) where
       split true t go = go (keep at s (recordKind (recordAt file at)) (recordBody (recordAt file at)) p (goesOn-true file at s t))
       split false t go = p
 
+  -- Reading goes forward, and not behind the end of the file.
+  pub stopFor-forward : (turns at : ℕ) (s : State) → at ≤ stopFor turns file at s .at
+  stopFor-forward turns at s = stopFor-ind (λ p. at ≤ p .at) (λ a t kind body h g. omega arith) turns at s (omega arith)
+
+  pub stopFor-inside : (turns at : ℕ) (s : State) → at ≤ length file → stopFor turns file at s .at ≤ length file
+  stopFor-inside turns at s = stopFor-ind (λ p. p .at ≤ length file) (λ a t kind body h g. whole-of file a kind body (g .stands) .within) turns at s
+
   -- More turns than the file has bytes left make no difference.
   pub stopFor-enough : (m n at : ℕ) (s : State) → length file - at < m → length file - at < n → stopFor m file at s ≡ stopFor n file at s
   unfolding stopFor
@@ -197,3 +204,21 @@ module _ (file : List ℕ) (at : ℕ) (s : State) where
 
     pub readFrom-end : length file ≤ at + 1 → readFrom file at s ≡ readAs (s .model)
     readFrom-end h = ends (ap (λ (b : Bool). cond b 10 0) (le-ltb (at + 1) (length file) h))
+
+-- Two states in which the record at the offset has the same number, and behind which they are the same.
+pub readFrom-alike : (file : List ℕ) (at : ℕ) (s t : State) → at < length file → (recordKind (recordAt file at) ≡ 0xFF → ⊥) → refusal s (recordAt file at) ≡ refusal t (recordAt file at) → storedRecord s (recordAt file at) ≡ storedRecord t (recordAt file at) → readFrom file at s ≡ readFrom file at t
+readFrom-alike file at s t inside other number next = split (eqb (refusal s here) 0) refl
+  where
+    here : Record
+    here = recordAt file at
+
+    on : (u : State) → refusal u here ≡ 0 → readFrom file at u ≡ readFrom file (behind at here) (storedRecord u here)
+    on u z = readFrom-next file at u (goesOn-true file at u (ap₂ _&&_ (eq-eqb (refusal u here) 0 z) (ap not (ne-eqb (recordKind here) 0xFF other))))
+
+    split : (b : Bool) → eqb (refusal s here) 0 ≡ b → readFrom file at s ≡ readFrom file at t
+    split true e =
+        let z = eqb-true (refusal s here) 0 e in
+        on s z ∙ ap (readFrom file (behind at here)) next ∙ sym (on t (sym number ∙ z))
+    split false e =
+        let ne = eqb-false (refusal s here) 0 e in
+        readFrom-refused file at s refl ne inside ∙ sym (readFrom-refused file at t (sym number) ne inside)

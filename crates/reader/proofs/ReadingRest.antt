@@ -1,32 +1,34 @@
--- What is read from an offset on is settled by the state there, the bytes from there on, and how many stand before them. In order:
--- one byte more before them; two files with equally many bytes before them. Assumes nothing.
+-- What is read from an offset on is settled by the state there, the bytes from there on, and how many stand before them; how a place
+-- is come to, by the bytes before it. In order: one byte more before an offset; bytes before it; two files with the same bytes up to
+-- a place. Assumes nothing.
 use mathlib.Core.Path.{_≡_, refl, sym, ap, ap₂, _∙_}
 use mathlib.Core.Bool.{Bool, true, false, cond}
 use mathlib.Core.List.{List, _∷_, _++_, []}
-use Prim.Native.Nat.{ℕ, zero, suc, _+_, _-_}
+use Prim.Native.Nat.{ℕ, zero, suc, _+_, _-_, _≤_}
 use native.Mathlib.Decide.{decLt}
 use native.Mathlib.Omega.{arith}
 use borrow.Author.Tests.{lt-ltb, le-ltb}
 use lib.Dec.{eqb, ltb}
-use lib.ListN.{length}
-use Rattle.records.specs.Records.{Record, recordAt}
-use Rattle.records.proofs.RecordAt.{recordAt-cons}
+use lib.ListN.{length, take, length-append}
+use Rattle.records.specs.Records.{Record, recordAt, recordKind, recordBody}
+use Rattle.records.proofs.RecordAt.{recordAt-cons, recordAt-within}
 use Rattle.reader.specs.declared.Status.{Status}
 use Rattle.reader.specs.declared.Status.the-variants.{Read, Refused}
 use Rattle.reader.specs.declared.Reading.{Reading}
 use Rattle.reader.specs.declared.state.State.{State}
 use Rattle.reader.specs.Refusals.{firstOf, refusal}
 use Rattle.reader.specs.Reading.{Stop, stopHere, goesOn, behind, storedRecord, stopFor, numberAt, offsetAt, refused, readAs, readingAt, readFrom}
+use Rattle.reader.proofs.ReadingOn.{goesOn-true, stopFor-forward, readFrom-next}
 
 -- ---- one byte more before them
 
--- A reading with the offset of a refusal one higher.
-abbrev movedStatus : Status → Status
-movedStatus Read = Read
-movedStatus (Refused number offset) = Refused number (suc offset)
+-- A reading with the offset of a refusal higher by so many bytes.
+abbrev pub movedStatus : ℕ → Status → Status
+movedStatus k Read = Read
+movedStatus k (Refused number offset) = Refused number (k + offset)
 
-abbrev moved : Reading → Reading
-moved r = record { status = movedStatus (r .status); model = r .model }
+abbrev pub moved : ℕ → Reading → Reading
+moved k r = record { status = movedStatus k (r .status); model = r .model }
 
 abbrev movedStop : Stop → Stop
 movedStop p = stopHere (suc (p .at)) (p .state)
@@ -71,30 +73,75 @@ module _ (byte : ℕ) (file : List ℕ) where
         split false true = refl
         split false false = refl
 
-    reading-cons : readingAt (byte ∷ file) (movedStop p) ≡ moved (readingAt file p)
+    reading-cons : readingAt (byte ∷ file) (movedStop p) ≡ moved 1 (readingAt file p)
     unfolding readingAt
     reading-cons =
         ap₂ (λ (n o : ℕ). cond (eqb n 0) (readAs (p .state .model)) (refused n o)) number-cons offset-cons
         ∙ split (eqb (numberAt file p) 0)
       where
-        split : (b : Bool) → cond b (readAs (p .state .model)) (refused (numberAt file p) (suc (offsetAt file p))) ≡ moved (cond b (readAs (p .state .model)) (refused (numberAt file p) (offsetAt file p)))
+        split : (b : Bool) → cond b (readAs (p .state .model)) (refused (numberAt file p) (suc (offsetAt file p))) ≡ moved 1 (cond b (readAs (p .state .model)) (refused (numberAt file p) (offsetAt file p)))
         split true = refl
-        split false = refl
+        split false = ap (refused (numberAt file p)) (omega arith)
 
-  readFrom-cons : (at : ℕ) (s : State) → readFrom (byte ∷ file) (suc at) s ≡ moved (readFrom file at s)
+  readFrom-cons : (at : ℕ) (s : State) → readFrom (byte ∷ file) (suc at) s ≡ moved 1 (readFrom file at s)
   unfolding readFrom
   readFrom-cons at s =
       let turns : suc (length file) - suc at ≡ length file - at = omega arith in
       ap (readingAt (byte ∷ file)) (ap (λ (k : ℕ). stopFor (suc k) (byte ∷ file) (suc at) s) turns ∙ stopFor-cons (suc (length file - at)) at s)
       ∙ reading-cons (stopFor (suc (length file - at)) file at s)
 
--- ---- two files with equally many bytes before them
+-- ---- bytes before an offset
 
+moved-moved : (j k : ℕ) {m : ℕ} (r : Reading) → m ≡ j + k → moved j (moved k r) ≡ moved m r
+moved-moved j k {m} r e = ap (λ (t : Status). record { status = t; model = r .model }) (by (r .status))
+  where
+    by : (t : Status) → movedStatus j (movedStatus k t) ≡ movedStatus m t
+    by Read = refl
+    by (Refused number offset) = ap (Refused number) (omega arith)
+
+moved-none : (r : Reading) → moved 0 r ≡ r
+moved-none r = ap (λ (t : Status). record { status = t; model = r .model }) (by (r .status))
+  where
+    by : (t : Status) → movedStatus 0 t ≡ t
+    by Read = refl
+    by (Refused number offset) = ap (Refused number) (omega arith)
+
+readFrom-moved : (before rest : List ℕ) (s : State) → readFrom (before ++ rest) (length before) s ≡ moved (length before) (readFrom rest 0 s)
+readFrom-moved [] rest s = sym (moved-none (readFrom rest 0 s))
+readFrom-moved (byte ∷ before) rest s =
+    readFrom-cons byte (before ++ rest) (length before) s ∙ ap (moved 1) (readFrom-moved before rest s) ∙ moved-moved 1 (length before) (readFrom rest 0 s) (omega arith)
+
+-- equally many
 pub readFrom-rest : (before other rest : List ℕ) (s : State) → length before ≡ length other → readFrom (before ++ rest) (length before) s ≡ readFrom (other ++ rest) (length other) s
-readFrom-rest [] [] rest s e = refl
-readFrom-rest [] (b ∷ other) rest s e = absurd (omega arith)
-readFrom-rest (a ∷ before) [] rest s e = absurd (omega arith)
-readFrom-rest (a ∷ before) (b ∷ other) rest s e =
-    readFrom-cons a (before ++ rest) (length before) s
-    ∙ ap moved (readFrom-rest before other rest s (omega arith))
-    ∙ sym (readFrom-cons b (other ++ rest) (length other) s)
+readFrom-rest before other rest s e =
+    readFrom-moved before rest s ∙ ap (λ (k : ℕ). moved k (readFrom rest 0 s)) e ∙ sym (readFrom-moved other rest s)
+
+-- more of them
+pub readFrom-more-before : (before more rest : List ℕ) (s : State) → readFrom ((before ++ more) ++ rest) (length (before ++ more)) s ≡ moved (length more) (readFrom (before ++ rest) (length before) s)
+readFrom-more-before before more rest s =
+    readFrom-moved (before ++ more) rest s
+    ∙ sym (moved-moved (length more) (length before) (readFrom rest 0 s) (simp length-append (omega arith)))
+    ∙ sym (ap (moved (length more)) (readFrom-moved before rest s))
+
+-- ---- two files with the same bytes up to a place
+
+-- Reading of the first comes to the place, and so does that of the second.
+module _ (file rest : List ℕ) (m : ℕ) where
+  abbrev other : List ℕ
+  other = take m file ++ rest
+
+  pub readFrom-same-start : (turns at : ℕ) (s : State) → stopFor turns file at s .at ≤ m → readFrom other at s ≡ readFrom other (stopFor turns file at s .at) (stopFor turns file at s .state)
+  unfolding stopFor
+  readFrom-same-start zero at s h = refl
+  readFrom-same-start (suc turns) at s h = split (goesOn s (recordAt file at)) refl (λ k. readFrom-same-start turns (behind at (recordAt file at)) (storedRecord s (recordAt file at)) k) h
+    where
+      next : Stop
+      next = stopFor turns file (behind at (recordAt file at)) (storedRecord s (recordAt file at))
+
+      split : (b : Bool) → goesOn s (recordAt file at) ≡ b → (next .at ≤ m → readFrom other (behind at (recordAt file at)) (storedRecord s (recordAt file at)) ≡ readFrom other (next .at) (next .state)) → cond b next (stopHere at s) .at ≤ m → readFrom other at s ≡ readFrom other (cond b next (stopHere at s) .at) (cond b next (stopHere at s) .state)
+      split true t go k =
+          let g = goesOn-true file at s t in
+          let end = stopFor-forward file turns (behind at (recordAt file at)) (storedRecord s (recordAt file at)) in
+          readFrom-next other at s (record { stands = recordAt-within m file rest at (recordKind (recordAt file at)) (recordBody (recordAt file at)) (g .stands) (omega (arith, end)); allowed = g .allowed; passes = g .passes; other = g .other })
+          ∙ go k
+      split false t go k = refl

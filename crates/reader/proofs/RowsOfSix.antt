@@ -1,19 +1,20 @@
 -- What a block of rows of six is known to satisfy, place by place, as rows are stored in it. In order: blank blocks; a row stored;
 -- zeros; limits; directions that are not zero; guards. Not here: the tests of number 11 from what is known of each place
 -- (`arrays`, `Introduction`). Assumes nothing.
-use mathlib.Core.Path.{_≡_, refl, sym, ap, ap₂, subst, _∙_}
+use mathlib.Core.Path.{_≡_, sym, ap, ap₂, subst, _∙_}
 use mathlib.Core.Bool.{true, false, not, _&&_}
 use mathlib.Core.List.{List}
-use Prim.Native.Nat.{ℕ, zero, suc, _+_, _*_, _≤_, _<_}
+use Prim.Native.Nat.{ℕ, _+_, _*_, _≤_, _<_}
 use native.Mathlib.Decide.{decLt}
 use native.Mathlib.Omega.{arith}
 use borrow.Author.Tests.{lt-ltb, le-ltb, eq-eqb, le-leb}
 use lib.Dec.{eqb}
-use lib.ListN.{length, getD, set, replicate}
+use lib.ListN.{length, getD, set}
 use lib.Seq.{getD-set-same, getD-set-other}
 use lib.IntN.{ℤ, pos, negℤ, natAbs}
 use Rattle.integers.specs.Sums.{vector, matrix}
 use Rattle.integers.proofs.Sums.{allBelow-intro, allBelow-cong}
+use Rattle.integers.proofs.Machine.{getD-all}
 use Rattle.arrays.specs.Tests.{allBetween}
 use Rattle.arrays.proofs.Tests.{allBetween-at, Zeros, Small}
 use Rattle.limits.specs.Limits.{allZero, someNonzero, guardOk, guardsOk}
@@ -24,14 +25,7 @@ use Rattle.reader.proofs.store.PutRow.{putRow-other, putRow-same}
 
 pub vector-zeros : (n k : ℕ) → vector (zeros n) k ≡ pos 0
 unfolding zeros
-vector-zeros zero k = refl
-vector-zeros (suc n) zero = refl
-vector-zeros (suc n) (suc k) = vector-zeros n k
-
-pub getD-zeros : (n k : ℕ) → _≡_ {A = ℕ} (getD (replicate n 0) k 0) 0
-getD-zeros zero k = refl
-getD-zeros (suc n) zero = refl
-getD-zeros (suc n) (suc k) = getD-zeros n k
+vector-zeros n k = getD-all n k (pos 0)
 
 -- ---- a row stored
 

@@ -170,6 +170,29 @@ recordAt-take m file at reach = by-case (recordAt file at) (recordAt-is file at)
         recordAt-whole (take m file) at (simp length-take (omega arith)) n (ap bodyLength first ∙ known) (simp length-take (omega arith))
         ∙ ap₂ whole first (part-take (at + 1) n m file end)
 
+-- As many bytes as stand before a whole record and in it reach to its end.
+reaches-whole : (m : ℕ) (file : List ℕ) (at : ℕ) {kind : ℕ} (body : List ℕ) → kind ≡ getD file at 0 → bodyLength kind ≡ Bytes (length body) → at + 1 + length body ≤ m → Reaches m file at
+reaches-whole m file at {kind} body first known h =
+    record { kind-reached = omega arith; body-reached = λ n e. omega (arith, as-many n (sym known ∙ ap bodyLength first ∙ e)) }
+  where
+    as-many : (n : ℕ) → Bytes (length body) ≡ Bytes n → length body ≡ n
+    as-many n e = cc
+
+-- A whole record stands in every file that begins with them.
+pub recordAt-within : (m : ℕ) (file rest : List ℕ) (at kind : ℕ) (body : List ℕ) → recordAt file at ≡ whole kind body → at + 1 + length body ≤ m → recordAt (take m file ++ rest) at ≡ whole kind body
+recordAt-within m file rest at kind body e h =
+    let w = whole-of file at kind body e in
+    extended (take m file) (recordAt-take m file at (reaches-whole m file at body (w .kind-is) (w .length-is) h) ∙ e)
+  where
+    extended : (part : List ℕ) → recordAt part at ≡ whole kind body → recordAt (part ++ rest) at ≡ whole kind body
+    extended part f =
+        let w = whole-of part at kind body f in
+        let same = take-append-seam part rest in
+        let first = ap (λ (l : List ℕ). getD l at 0) (sym same) ∙ getD-take (length part) (part ++ rest) at 0 (omega (arith, w .within)) in
+        sym (recordAt-take (length part) (part ++ rest) at (reaches-whole (length part) (part ++ rest) at body (w .kind-is ∙ first) (w .length-is) (w .within)))
+        ∙ ap (λ (l : List ℕ). recordAt l at) same
+        ∙ f
+
 -- ---- what the record step's kind and number tell
 
 whole-only : (r : Record) → recordNumber r ≡ 0 → r ≡ whole (recordKind r) (recordBody r)

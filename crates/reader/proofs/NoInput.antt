@@ -1,0 +1,308 @@
+-- File 10: files in which a direction stands straight after the initial set. In order: such a place of a file, and the two records of
+-- zero corners; what these and the direction make of the state there; the input set behind the direction; the reading of the file
+-- with the two records, the input set of its model, and that model's runs (Runs 8). Assumes nothing.
+use mathlib.Core.Path.{_≡_, refl, sym, ap, ap₂, subst, _∙_}
+use mathlib.Core.Bool.{Bool, true, false, cond, not, _&&_, _||_}
+use mathlib.Core.List.{List, _∷_, _++_, append-assoc}
+use Prim.Native.Nat.{ℕ, zero, suc, _+_, _-_, _*_, _^_, _≤_, _<_}
+use native.Mathlib.Decide.{decLt}
+use native.Mathlib.Omega.{arith}
+use borrow.Author.Tests.{ne-eqb, eqb-true, eqb-false, lt-ltb, le-ltb, ltb-true, le-leb, leb-true}
+use lib.Dec.{eqb, leb, ltb}
+use lib.ListN.{length, take, drop, replicate, take-append-drop}
+use lib.Seq.{length-take-le}
+use lib.IntN.{ℤ, pos}
+use Rattle.integers.specs.Sums.{allBelow}
+use Rattle.integers.proofs.Booleans.{and-true, or-false}
+use Rattle.integers.proofs.Machine.{tabulate-cong, getD-all}
+use Rattle.records.specs.Kinds.{bodyLength}
+use Rattle.records.specs.Numbers.{littleEndian, twosComplement, signedAt}
+use Rattle.records.specs.Order.{mayFollow, partOf}
+use Rattle.records.specs.Records.{Record, whole, short, unknown, nothing, recordAt, recordKind, recordBody}
+use Rattle.records.specs.declared.order.Part.{Part}
+use Rattle.records.specs.declared.order.Part.the-variants.{Head, Row, Initial, Input, Direction, Guard, End}
+use Rattle.records.proofs.RecordAt.{recordAt-nothing}
+use Rattle.reachability.specs.declared.sets.Shape.{Shape}
+use Rattle.reachability.specs.declared.sets.Shape.the-variants.{Box}
+use Rattle.reachability.specs.declared.sets.Set.{Set}
+use Rattle.reachability.specs.declared.model.Model.{Model}
+use Rattle.reachability.specs.Sets.{zeroBox}
+use Rattle.reachability.specs.Runs.{Run}
+use Rattle.reachability.proofs.ZeroInput.{inputs-zero}
+use Rattle.reader.specs.declared.state.State.{State}
+use Rattle.reader.specs.Order.{shapeOf}
+use Rattle.reader.specs.Models.{zeros, blankSet, start, entryAt, sixAt, putRow, setSet, setDirections, stateOf, withPoint, withSetPoint, inputAt, withDirection, withGuard}
+use Rattle.reader.specs.Values.{pointOk, unless, valueNumber}
+use Rattle.reader.specs.Refusals.{oneTooMany, kindNumber, firstOf, refusal, storedIn, stored}
+use Rattle.reader.proofs.OrderFacts.{order-at}
+use Rattle.reader.proofs.order.KindNumbers.{kindNumber-zero}
+use Rattle.reader.specs.declared.Status.the-variants.{Read}
+use Rattle.reader.specs.declared.Reading.{Reading}
+use Rattle.reader.specs.Reading.{Stop, behind, storedRecord, stopFor, readFrom, readModel, statusNumber}
+use Rattle.reader.proofs.ReadingOn.{goesOn-true, stopFor-ind, stopFor-inside, readFrom-next, readFrom-refused, readFrom-alike}
+use Rattle.reader.proofs.RecordInPlace.{readFrom-behind}
+use Rattle.reader.proofs.ReadingRest.{moved, readFrom-more-before, readFrom-same-start}
+use Rattle.reader.proofs.PartsSoFar.{n-most}
+use Rattle.reader.proofs.AcceptedSoFar.{AcceptedSoFar, ordered-zeros}
+use Rattle.reader.proofs.ReadModels.{readFrom-model, reachable-stop}
+
+-- ---- such a place, and the two records
+
+-- The last record of a complete initial set is its upper corner, a generator or a vertex.
+abbrev pub completesInitial : ℕ → Bool
+completesInitial kind = eqb kind 0x11 || (eqb kind 0x13 || eqb kind 0x14)
+
+-- A place that reading comes to: the initial set is complete, and the next record, whole or cut, is a direction.
+pub record NoInputAt (file : List ℕ) (p : Stop) : Type 0 where
+  pub complete : completesInitial (p .state .last) ≡ true
+  pub direction : recordKind (recordAt file (p .at)) ≡ 0x30
+
+abbrev zeroBody : List ℕ
+zeroBody = replicate 24 0
+
+-- A lower and an upper corner of zeros of the input set, 50 bytes.
+abbrev pub zeroCorners : List ℕ
+zeroCorners = (0x20 ∷ zeroBody) ++ (0x21 ∷ zeroBody)
+
+-- A file with bytes put in at an offset.
+abbrev pub putIn : List ℕ → ℕ → List ℕ → List ℕ
+putIn more at file = take at file ++ (more ++ drop at file)
+
+-- ---- six numbers of zeros
+
+littleEndian-zeros : (k at : ℕ) → littleEndian k zeroBody at ≡ 0
+unfolding littleEndian
+littleEndian-zeros zero at = refl
+littleEndian-zeros (suc k) at = omega (arith, getD-all {A = ℕ} 24 at 0, littleEndian-zeros k (suc at))
+
+sixAt-zeros : (n : ℕ) → sixAt n zeroBody 0 ≡ zeros 6
+unfolding sixAt zeros
+sixAt-zeros n = tabulate-cong 6 {f = entryAt n zeroBody 0} {g = λ i. pos 0} (λ i h. either (ltb i n) i)
+  where
+    either : (b : Bool) (i : ℕ) → cond b (signedAt 4 zeroBody (0 + 4 * i)) (pos 0) ≡ pos 0
+    either true i = ap (twosComplement (2 ^ 31)) (littleEndian-zeros 4 (0 + 4 * i))
+    either false i = refl
+
+-- ---- a state straight after the initial set
+
+inside-file : (file : List ℕ) (at : ℕ) → recordKind (recordAt file at) ≡ 0x30 → at < length file
+inside-file file at e = elim (decLt at (length file)) [ yes h ↦ h | no k ↦ absurd (omega (arith, sym e ∙ ap recordKind (recordAt-nothing file at (omega (arith, k))))) ]
+
+-- A box of which so many corners are read, all of zeros.
+abbrev zeroSet : ℕ → Set
+zeroSet count = record { shape = Box; count = count; points = zeros 96 }
+
+-- A state with the place of this kind and so many corners of zeros for its input set.
+abbrev corner : State → ℕ → ℕ → State
+corner s kind count = stateOf kind (s .rows) (setSet true (s .model) (zeroSet count))
+
+module _ (s : State) (g : AcceptedSoFar s) (complete : completesInitial (s .last) ≡ true) where
+  -- what holds at the three kinds holds at the place
+  at-place : (test : ℕ → Bool) → test 0x11 ≡ true → test 0x13 ≡ true → test 0x14 ≡ true → test (s .last) ≡ true
+  at-place test a b d = by (eqb (s .last) 0x11) refl (eqb (s .last) 0x13) refl complete
+    where
+      is : (kind : ℕ) → eqb (s .last) kind ≡ true → test kind ≡ true → test (s .last) ≡ true
+      is kind e t = ap test (eqb-true (s .last) kind e) ∙ t
+
+      by : (x : Bool) → eqb (s .last) 0x11 ≡ x → (y : Bool) → eqb (s .last) 0x13 ≡ y → x || (y || eqb (s .last) 0x14) ≡ true → test (s .last) ≡ true
+      by true e y f t = is 0x11 e a
+      by false e true f t = is 0x13 f b
+      by false e false f t = is 0x14 t d
+
+  early : s .last < 0x20
+  early = ltb-true (s .last) 0x20 (at-place (λ k. ltb k 0x20) refl refl refl)
+
+  dimension : s .model .n ≤ 6
+  dimension = n-most (s .model .n) (g .frame .dimension (ltb-true 0 (s .last) (at-place (λ k. ltb 0 k) refl refl refl)))
+
+  blank : s .model .input ≡ zeroSet 0
+  unfolding blankSet
+  blank = g .input .none early
+
+  with-corner : (kind count : ℕ) → shapeOf kind ≡ Box → putRow (zeros 96) count (zeros 6) ≡ zeros 96 → withPoint (s .model .n) (zeroSet count) kind zeroBody ≡ zeroSet (count + 1)
+  unfolding withPoint
+  with-corner kind count box still =
+      ap₂ (λ (shape : Shape) (xs : List ℤ). record { shape = shape; count = count + 1; points = xs }) box
+      (ap (putRow (zeros 96) count) (sixAt-zeros (s .model .n)) ∙ still)
+
+  with-lower : withPoint (s .model .n) (s .model .input) 0x20 zeroBody ≡ zeroSet 1
+  unfolding putRow zeros
+  with-lower = ap (λ (x : Set). withPoint (s .model .n) x 0x20 zeroBody) blank ∙ with-corner 0x20 0 refl refl
+
+  with-upper : withPoint (s .model .n) (zeroSet 1) 0x21 zeroBody ≡ zeroSet 2
+  unfolding putRow zeros
+  with-upper = with-corner 0x21 1 refl refl
+
+  lower-allowed : kindNumber s 0x20 ≡ 0
+  unfolding kindNumber mayFollow partOf
+  lower-allowed = ap₂ (λ (a : Bool) (x : Set). cond a (cond (leb 16 (x .count)) 9 0) 3) (at-place (λ k. mayFollow k 0x20) refl refl refl) blank
+
+  lower-ok : valueNumber Input s 0x20 zeroBody ≡ 0
+  unfolding pointOk zeros allBelow
+  lower-ok = ap (λ (x : Set). unless (pointOk (s .model .n) 0x20 x) 6) with-lower
+
+  upper-allowed : kindNumber (corner s 0x20 1) 0x21 ≡ 0
+  unfolding kindNumber mayFollow partOf
+  upper-allowed = refl
+
+  upper-ok : valueNumber Input (corner s 0x20 1) 0x21 zeroBody ≡ 0
+  unfolding pointOk zeros allBelow
+  upper-ok =
+      ap (λ (x : Set). unless (pointOk (s .model .n) 0x21 x) 6) with-upper
+      ∙ ap (λ (b : Bool). unless b 6) (ap₂ _&&_ (le-leb (s .model .n) 6 dimension) (ordered-zeros (s .model .n)))
+
+  lower-stored : stored s 0x20 zeroBody ≡ corner s 0x20 1
+  unfolding stored partOf withSetPoint
+  lower-stored = ap (λ (x : Set). stateOf 0x20 (s .rows) (setSet true (s .model) x)) with-lower
+
+  upper-stored : stored (corner s 0x20 1) 0x21 zeroBody ≡ corner s 0x21 2
+  unfolding stored partOf withSetPoint
+  upper-stored = ap (λ (x : Set). stateOf 0x21 (s .rows) (setSet true (s .model) x)) with-upper
+
+  -- The two records are read wherever they stand.
+  read-corners : (before rest : List ℕ) → readFrom (before ++ (zeroCorners ++ rest)) (length before) s ≡ readFrom ((before ++ zeroCorners) ++ rest) (length (before ++ zeroCorners)) (corner s 0x21 2)
+  unfolding bodyLength partOf
+  read-corners before rest =
+      readFrom-behind before 0x20 zeroBody ((0x21 ∷ zeroBody) ++ rest) s refl lower-allowed lower-ok (λ e. omega arith)
+      ∙ ap (readFrom ((before ++ (0x20 ∷ zeroBody)) ++ ((0x21 ∷ zeroBody) ++ rest)) (length (before ++ (0x20 ∷ zeroBody)))) lower-stored
+      ∙ readFrom-behind (before ++ (0x20 ∷ zeroBody)) 0x21 zeroBody rest (corner s 0x20 1) refl upper-allowed upper-ok (λ e. omega arith)
+      ∙ ap₂ (λ (x : List ℕ) (t : State). readFrom (x ++ rest) (length x) t) (append-assoc before (0x20 ∷ zeroBody) (0x21 ∷ zeroBody)) upper-stored
+
+  -- A direction is let in, tested and stored behind them as without them.
+  direction-allowed : kindNumber s 0x30 ≡ kindNumber (corner s 0x21 2) 0x30
+  unfolding kindNumber mayFollow partOf
+  direction-allowed = ap (λ (a : Bool). cond a (cond (oneTooMany s 0x30) 9 0) 3) (at-place (λ k. mayFollow k 0x30) refl refl refl)
+
+  direction-number : (r : Record) → recordKind r ≡ 0x30 → refusal s r ≡ refusal (corner s 0x21 2) r
+  unfolding refusal partOf
+  direction-number nothing e = refl
+  direction-number (unknown kind) e = refl
+  direction-number (short kind) e = subst (λ (k : ℕ). firstOf (kindNumber s k) 1 ≡ firstOf (kindNumber (corner s 0x21 2) k) 1) (sym e) (ap (λ (k : ℕ). firstOf k 1) direction-allowed)
+  direction-number (whole kind body) e =
+      subst (λ (k : ℕ). firstOf (kindNumber s k) (valueNumber (partOf k) s k body) ≡ firstOf (kindNumber (corner s 0x21 2) k) (valueNumber (partOf k) (corner s 0x21 2) k body)) (sym e)
+      (ap (λ (k : ℕ). firstOf k (valueNumber Direction s 0x30 body)) direction-allowed)
+
+  zero-input : inputAt (s .last) (s .model) ≡ zeroSet 2
+  unfolding zeroBox zeros
+  zero-input = ap (λ (b : Bool). cond b zeroBox (s .model .input)) (lt-ltb (s .last) 0x20 early)
+
+  direction-stored : (body : List ℕ) → stored s 0x30 body ≡ stored (corner s 0x21 2) 0x30 body
+  unfolding stored partOf withDirection
+  direction-stored body =
+      ap (λ (x : Set). stateOf 0x30 (s .rows) (setDirections (setSet true (s .model) x) (s .model .directions + 1) (putRow (s .model .entries) (s .model .directions) (sixAt (s .model .n) body 0)))) zero-input
+
+  -- So the file is read on from there as behind them.
+  read-direction : (file : List ℕ) (at : ℕ) → recordKind (recordAt file at) ≡ 0x30 → readFrom file at (corner s 0x21 2) ≡ readFrom file at s
+  read-direction file at e =
+      sym (readFrom-alike file at s (corner s 0x21 2) (inside-file file at e) (λ f. omega arith) (direction-number (recordAt file at) e)
+      (subst (λ (k : ℕ). stored s k (recordBody (recordAt file at)) ≡ stored (corner s 0x21 2) k (recordBody (recordAt file at))) (sym e) (direction-stored (recordBody (recordAt file at)))))
+
+-- ---- the input set behind a direction
+
+-- A direction has been read, and the input set is the box from zero to zero.
+record ZeroInput (s : State) : Type 0 where
+  late : 0x30 ≤ s .last
+  zero : s .model .input ≡ zeroBox
+
+-- behind a direction come directions, guards and the end, and none changes the input set
+abbrev isLate : Part → Bool
+isLate Head = false
+isLate Row = false
+isLate Initial = false
+isLate Input = false
+isLate Direction = true
+isLate Guard = true
+isLate End = true
+
+zero-kept : (p : Part) (s : State) (kind : ℕ) (body : List ℕ) → isLate p ≡ true → 0x30 ≤ kind → ZeroInput s → ZeroInput (storedIn p s kind body)
+unfolding withDirection withGuard
+zero-kept Direction s kind body t h z =
+    record { late = h; zero = ap (λ (b : Bool). cond b zeroBox (s .model .input)) (le-ltb (s .last) 0x20 (omega (arith, z .late))) ∙ z .zero }
+zero-kept Guard s kind body t h z = record { late = h; zero = z .zero }
+zero-kept End s kind body t h z = z
+zero-kept Head s kind body t h z = let y : _≡_ {A = ℕ} 0 1 = cc in absurd (omega arith)
+zero-kept Row s kind body t h z = let y : _≡_ {A = ℕ} 0 1 = cc in absurd (omega arith)
+zero-kept Initial s kind body t h z = let y : _≡_ {A = ℕ} 0 1 = cc in absurd (omega arith)
+zero-kept Input s kind body t h z = let y : _≡_ {A = ℕ} 0 1 = cc in absurd (omega arith)
+
+zero-stored : (s : State) (kind : ℕ) (body : List ℕ) → kindNumber s kind ≡ 0 → ZeroInput s → ZeroInput (stored s kind body)
+unfolding stored partOf
+zero-stored s kind body allowed z =
+    let test = order-at (λ a b. ltb a 0x30 || (isLate (partOf b) && leb 0x30 b)) refl (s .last) kind (kindNumber-zero s kind allowed .0) in
+    let both = and-true (isLate (partOf kind)) (leb 0x30 kind) (or-false (ltb (s .last) 0x30) _ test (le-ltb (s .last) 0x30 (z .late))) in
+    zero-kept (partOf kind) s kind body (both .0) (leb-true 0x30 kind (both .1)) z
+
+zero-first : (s : State) (body : List ℕ) → s .last < 0x20 → ZeroInput (stored s 0x30 body)
+unfolding stored partOf withDirection
+zero-first s body early = record { late = omega arith; zero = ap (λ (b : Bool). cond b zeroBox (s .model .input)) (lt-ltb (s .last) 0x20 early) }
+
+-- ---- files in which a direction stands straight after the initial set
+
+-- A place of such a file: where reading comes to after so many records, the initial set is complete, and a direction is next.
+module _ (file : List ℕ) (turns : ℕ) (place : NoInputAt file (stopFor turns file 0 start)) where
+  abbrev at : ℕ
+  at = stopFor turns file 0 start .at
+
+  abbrev s : State
+  s = stopFor turns file 0 start .state
+
+  abbrev before : List ℕ
+  before = take at file
+
+  abbrev rest : List ℕ
+  rest = drop at file
+
+  so-far : AcceptedSoFar s
+  so-far = reachable-stop file turns .so-far
+
+  joined : before ++ rest ≡ file
+  joined = take-append-drop at file
+
+  size : length before ≡ at
+  size = length-take-le at file (stopFor-inside file turns 0 start (omega arith))
+
+  -- reading comes to the place
+  comes : readModel file ≡ readFrom file at s
+  unfolding readModel
+  comes =
+      sym (ap (λ (f : List ℕ). readFrom f 0 start) joined)
+      ∙ readFrom-same-start file rest at turns 0 start (omega arith)
+      ∙ ap (λ (f : List ℕ). readFrom f at s) joined
+
+  -- The file is read as the file with two records of zero corners put before that direction: the same model, or the same number with
+  -- the offset 50 higher.
+  pub readModel-no-input : readModel (putIn zeroCorners at file) ≡ moved 50 (readModel file)
+  unfolding readModel
+  readModel-no-input =
+      readFrom-same-start file (zeroCorners ++ rest) at turns 0 start (omega arith)
+      ∙ ap (λ (k : ℕ). readFrom (before ++ (zeroCorners ++ rest)) k s) (sym size)
+      ∙ read-corners s so-far (place .complete) before rest
+      ∙ readFrom-more-before before zeroCorners rest (corner s 0x21 2)
+      ∙ ap (moved 50)
+      (ap₂ (λ (f : List ℕ) (k : ℕ). readFrom f k (corner s 0x21 2)) joined size
+      ∙ read-direction s so-far (place .complete) file at (place .direction)
+      ∙ sym comes)
+
+  -- Its model, where it has one, has the box from zero to zero for its input set.
+  pub readModel-zero-input : readModel file .status ≡ Read → readModel file .model .input ≡ zeroBox
+  readModel-zero-input e = by (eqb (refusal s here) 0) refl
+    where
+      here : Record
+      here = recordAt file at
+
+      by : (b : Bool) → eqb (refusal s here) 0 ≡ b → readModel file .model .input ≡ zeroBox
+      by true z =
+          let g = goesOn-true file at s (ap₂ _&&_ z (ap not (ne-eqb (recordKind here) 0xFF (λ f. omega (arith, place .direction))))) in
+          let is = comes ∙ readFrom-next file at s g in
+          let first : ZeroInput (storedRecord s here) = subst (λ (k : ℕ). ZeroInput (stored s k (recordBody here))) (sym (place .direction)) (zero-first s (recordBody here) (early s so-far (place .complete))) in
+          ap (λ (r : Reading). r .model .input) is
+          ∙ ap (λ (m : Model). m .input) (readFrom-model file (behind at here) (storedRecord s here) (sym (ap (λ (r : Reading). r .status) is) ∙ e))
+          ∙ stopFor-ind file (λ p. ZeroInput (p .state)) (λ a t kind body k g. zero-stored t kind body (g .allowed) k) (suc (length file - behind at here)) (behind at here) (storedRecord s here) first .zero
+      by false z =
+          let ne = eqb-false (refusal s here) 0 z in
+          let is = comes ∙ readFrom-refused file at s refl ne (inside-file file at (place .direction)) in
+          absurd (ne (sym (ap (λ (r : Reading). statusNumber (r .status)) is) ∙ ap statusNumber e))
+
+  -- Runs 8: its runs have no other input than zero.
+  pub no-input-runs : readModel file .status ≡ Read → {q : ℕ} (run : Run (readModel file .model) q) (j : ℕ) → j < readModel file .model .steps → (i : ℕ) → i < readModel file .model .n → run .inputs j i ≡ pos 0
+  no-input-runs e run j h i l = inputs-zero (readModel file .model) (readModel-zero-input e) run j h i l
