@@ -40,7 +40,8 @@ static void put_record(struct file *f, uint8_t kind, int32_t first)
     put_six(f, first);
 }
 
-/* Head, row, the boxes [low, high] of the initial and the input set, and direction 1. */
+/* Head, row, the boxes [low, high] of the initial and the input set, and direction 1. Without an input set its records are left
+ * out, and the input is zero. */
 static struct file model(int steps, int32_t entry, const int32_t initial[2], const int32_t input[2])
 {
     struct file f;
@@ -53,8 +54,10 @@ static struct file model(int steps, int32_t entry, const int32_t initial[2], con
     put_six(&f, entry);
     put_record(&f, 0x10, initial[0]);
     put_record(&f, 0x11, initial[1]);
-    put_record(&f, 0x20, input[0]);
-    put_record(&f, 0x21, input[1]);
+    if (input != NULL) {
+        put_record(&f, 0x20, input[0]);
+        put_record(&f, 0x21, input[1]);
+    }
     put_record(&f, 0x30, 1);
     return f;
 }
@@ -184,7 +187,7 @@ int main(void)
     int64_t r[6] = {1048576};
     int64_t e[6] = {0};
     struct file sample = model(3, 32768, none, to_one);
-    struct file growing = model(11, 131072, none, none);
+    struct file growing = model(11, 131072, none, NULL);
     int64_t level;
 
     for (level = 1; level <= 3; level++)

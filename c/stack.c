@@ -261,7 +261,9 @@ static void put_set(struct model *m, int first_kind, int set)
     }
 }
 
-/* The largest model: 6 coordinates, 256 steps, 16 directions, 16 guards. */
+/* The largest model: 6 coordinates, 256 steps, 16 directions, 16 guards. An input set of NO_INPUT has no records. */
+#define NO_INPUT 3
+
 static struct model largest(int32_t entry, int initial, int input)
 {
     struct model m;
@@ -277,7 +279,8 @@ static struct model largest(int32_t entry, int initial, int input)
             put(&m, entry, 4);
     }
     put_set(&m, 0x10, initial);
-    put_set(&m, 0x20, input);
+    if (input != NO_INPUT)
+        put_set(&m, 0x20, input);
     for (i = 0; i < 16; i++)
         put_point(&m, 0x30, 50 * i - 400);
     for (i = 0; i < 16; i++) {
@@ -295,7 +298,7 @@ static void models(void)
     size_t i;
     struct model m, changed;
     for (initial = 0; initial < 3; initial++)
-        for (input = 0; input < 3; input++) {
+        for (input = 0; input <= NO_INPUT; input++) {
             m = largest(10000, initial, input);
             if (all_calls(m.bytes, m.length) != PEPPERSCARP_FINISHED)
                 wrong = 1;

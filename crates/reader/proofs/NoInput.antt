@@ -1,6 +1,6 @@
 -- File 10: files in which a direction stands straight after the initial set. In order: such a place of a file, and the two records of
 -- zero corners; what these and the direction make of the state there; the input set behind the direction; the reading of the file
--- with the two records, the input set of its model, and that model's runs (Runs 8). Assumes nothing.
+-- with the two records, the input set of its model, and that model's runs (Runs 8); files that are refused before. Assumes nothing.
 use mathlib.Core.Path.{_≡_, refl, sym, ap, ap₂, subst, _∙_}
 use mathlib.Core.Bool.{Bool, true, false, cond, not, _&&_, _||_}
 use mathlib.Core.List.{List, _∷_, _++_, append-assoc}
@@ -21,7 +21,7 @@ use Rattle.records.specs.Order.{mayFollow, partOf}
 use Rattle.records.specs.Records.{Record, whole, short, unknown, nothing, recordAt, recordKind, recordBody}
 use Rattle.records.specs.declared.order.Part.{Part}
 use Rattle.records.specs.declared.order.Part.the-variants.{Head, Row, Initial, Input, Direction, Guard, End}
-use Rattle.records.proofs.RecordAt.{recordAt-nothing}
+use Rattle.records.proofs.RecordAt.{recordAt-nothing, Reaches}
 use Rattle.reachability.specs.declared.sets.Shape.{Shape}
 use Rattle.reachability.specs.declared.sets.Shape.the-variants.{Box}
 use Rattle.reachability.specs.declared.sets.Set.{Set}
@@ -39,9 +39,9 @@ use Rattle.reader.proofs.order.KindNumbers.{kindNumber-zero}
 use Rattle.reader.specs.declared.Status.the-variants.{Read}
 use Rattle.reader.specs.declared.Reading.{Reading}
 use Rattle.reader.specs.Reading.{Stop, behind, storedRecord, stopFor, readFrom, readModel, statusNumber}
-use Rattle.reader.proofs.ReadingOn.{goesOn-true, stopFor-ind, stopFor-inside, readFrom-next, readFrom-refused, readFrom-alike}
+use Rattle.reader.proofs.ReadingOn.{goesOn-true, stopFor-ind, stopFor-inside, readFrom-next, readFrom-refused, readFrom-comes, readFrom-alike}
 use Rattle.reader.proofs.RecordInPlace.{readFrom-behind}
-use Rattle.reader.proofs.ReadingRest.{moved, readFrom-more-before, readFrom-same-start}
+use Rattle.reader.proofs.ReadingRest.{moved, readFrom-more-before, readFrom-same-start, readFrom-refused-before}
 use Rattle.reader.proofs.PartsSoFar.{n-most}
 use Rattle.reader.proofs.AcceptedSoFar.{AcceptedSoFar, ordered-zeros}
 use Rattle.reader.proofs.ReadModels.{readFrom-model, reachable-stop}
@@ -258,23 +258,23 @@ module _ (file : List ℕ) (turns : ℕ) (place : NoInputAt file (stopFor turns 
   joined : before ++ rest ≡ file
   joined = take-append-drop at file
 
+  inside : at ≤ length file
+  inside = stopFor-inside file turns 0 start (omega arith)
+
   size : length before ≡ at
-  size = length-take-le at file (stopFor-inside file turns 0 start (omega arith))
+  size = length-take-le at file inside
 
   -- reading comes to the place
   comes : readModel file ≡ readFrom file at s
   unfolding readModel
-  comes =
-      sym (ap (λ (f : List ℕ). readFrom f 0 start) joined)
-      ∙ readFrom-same-start file rest at turns 0 start (omega arith)
-      ∙ ap (λ (f : List ℕ). readFrom f at s) joined
+  comes = readFrom-comes file turns 0 start
 
   -- The file is read as the file with two records of zero corners put before that direction: the same model, or the same number with
   -- the offset 50 higher.
   pub readModel-no-input : readModel (putIn zeroCorners at file) ≡ moved 50 (readModel file)
   unfolding readModel
   readModel-no-input =
-      readFrom-same-start file (zeroCorners ++ rest) at turns 0 start (omega arith)
+      readFrom-same-start file (zeroCorners ++ rest) at inside turns 0 start (omega arith)
       ∙ ap (λ (k : ℕ). readFrom (before ++ (zeroCorners ++ rest)) k s) (sym size)
       ∙ read-corners s so-far (place .complete) before rest
       ∙ readFrom-more-before before zeroCorners rest (corner s 0x21 2)
@@ -306,3 +306,9 @@ module _ (file : List ℕ) (turns : ℕ) (place : NoInputAt file (stopFor turns 
   -- Runs 8: its runs have no other input than zero.
   pub no-input-runs : readModel file .status ≡ Read → {q : ℕ} (run : Run (readModel file .model) q) (j : ℕ) → j < readModel file .model .steps → (i : ℕ) → i < readModel file .model .n → run .inputs j i ≡ pos 0
   no-input-runs e run j h i l = inputs-zero (readModel file .model) (readModel-zero-input e) run j h i l
+
+-- A file that is refused before such a place: bytes put in anywhere behind the record that it is refused at, the two records before a
+-- later direction among them, change nothing.
+pub readModel-refused-before : (file more : List ℕ) (turns m : ℕ) → m ≤ length file → Reaches m file (stopFor turns file 0 start .at) → (refusal (stopFor turns file 0 start .state) (recordAt file (stopFor turns file 0 start .at)) ≡ 0 → ⊥) → readModel (putIn more m file) ≡ readModel file
+unfolding readModel
+readModel-refused-before file more turns m inside reach ne = readFrom-refused-before file (more ++ drop m file) m inside turns 0 start reach ne

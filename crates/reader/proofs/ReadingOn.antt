@@ -205,6 +205,10 @@ module _ (file : List ℕ) (at : ℕ) (s : State) where
     pub readFrom-end : length file ≤ at + 1 → readFrom file at s ≡ readAs (s .model)
     readFrom-end h = ends (ap (λ (b : Bool). cond b 10 0) (le-ltb (at + 1) (length file) h))
 
+-- Reading from an offset is reading on from each place that it comes to.
+pub readFrom-comes : (file : List ℕ) (turns at : ℕ) (s : State) → readFrom file at s ≡ readFrom file (stopFor turns file at s .at) (stopFor turns file at s .state)
+readFrom-comes file turns at s = stopFor-ind file (λ p. readFrom file at s ≡ readFrom file (p .at) (p .state)) (λ a t kind body e g. e ∙ readFrom-next file a t g) turns at s refl
+
 -- Two states in which the record at the offset has the same number, and behind which they are the same.
 pub readFrom-alike : (file : List ℕ) (at : ℕ) (s t : State) → at < length file → (recordKind (recordAt file at) ≡ 0xFF → ⊥) → refusal s (recordAt file at) ≡ refusal t (recordAt file at) → storedRecord s (recordAt file at) ≡ storedRecord t (recordAt file at) → readFrom file at s ≡ readFrom file at t
 readFrom-alike file at s t inside other number next = split (eqb (refusal s here) 0) refl

@@ -10,15 +10,16 @@ use native.Mathlib.Omega.{arith}
 use borrow.Author.Tests.{lt-ltb, le-ltb}
 use lib.Dec.{eqb, ltb}
 use lib.ListN.{length, take, length-append}
+use lib.Seq.{length-take-le}
 use Rattle.records.specs.Records.{Record, recordAt, recordKind, recordBody}
-use Rattle.records.proofs.RecordAt.{recordAt-cons, recordAt-within}
+use Rattle.records.proofs.RecordAt.{whole-of, recordAt-cons, Reaches, reaches-whole, recordAt-within}
 use Rattle.reader.specs.declared.Status.{Status}
 use Rattle.reader.specs.declared.Status.the-variants.{Read, Refused}
 use Rattle.reader.specs.declared.Reading.{Reading}
 use Rattle.reader.specs.declared.state.State.{State}
 use Rattle.reader.specs.Refusals.{firstOf, refusal}
 use Rattle.reader.specs.Reading.{Stop, stopHere, goesOn, behind, storedRecord, stopFor, numberAt, offsetAt, refused, readAs, readingAt, readFrom}
-use Rattle.reader.proofs.ReadingOn.{goesOn-true, stopFor-forward, readFrom-next}
+use Rattle.reader.proofs.ReadingOn.{goesOn-true, stopFor-forward, readFrom-next, readFrom-refused, readFrom-comes}
 
 -- ---- one byte more before them
 
@@ -126,7 +127,7 @@ readFrom-more-before before more rest s =
 -- ---- two files with the same bytes up to a place
 
 -- Reading of the first comes to the place, and so does that of the second.
-module _ (file rest : List ℕ) (m : ℕ) where
+module _ (file rest : List ℕ) (m : ℕ) (inside : m ≤ length file) where
   abbrev other : List ℕ
   other = take m file ++ rest
 
@@ -142,6 +143,21 @@ module _ (file rest : List ℕ) (m : ℕ) where
       split true t go k =
           let g = goesOn-true file at s t in
           let end = stopFor-forward file turns (behind at (recordAt file at)) (storedRecord s (recordAt file at)) in
-          readFrom-next other at s (record { stands = recordAt-within m file rest at (recordKind (recordAt file at)) (recordBody (recordAt file at)) (g .stands) (omega (arith, end)); allowed = g .allowed; passes = g .passes; other = g .other })
+          let w = whole-of file at (recordKind (recordAt file at)) (recordBody (recordAt file at)) (g .stands) in
+          let reach = reaches-whole m file at (recordKind (recordAt file at)) (recordBody (recordAt file at)) w (omega (arith, end)) in
+          readFrom-next other at s (record { stands = recordAt-within m file rest at inside reach ∙ g .stands; allowed = g .allowed; passes = g .passes; other = g .other })
           ∙ go k
       split false t go k = refl
+
+  -- A file that is refused at a record which lies in the same bytes is refused alike, whatever stands behind them.
+  pub readFrom-refused-before : (turns at : ℕ) (s : State) → Reaches m file (stopFor turns file at s .at) → (refusal (stopFor turns file at s .state) (recordAt file (stopFor turns file at s .at)) ≡ 0 → ⊥) → readFrom other at s ≡ readFrom file at s
+  readFrom-refused-before turns at s reach ne =
+      readFrom-same-start turns at s (omega (arith, reach .kind-reached))
+      ∙ readFrom-refused other stop t (ap (refusal t) (recordAt-within m file rest stop inside reach)) ne (omega (arith, reach .kind-reached, length-take-le m file inside, length-append (take m file) rest))
+      ∙ sym (readFrom-comes file turns at s ∙ readFrom-refused file stop t refl ne (omega (arith, reach .kind-reached)))
+    where
+      stop : ℕ
+      stop = stopFor turns file at s .at
+
+      t : State
+      t = stopFor turns file at s .state

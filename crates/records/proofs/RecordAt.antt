@@ -171,27 +171,29 @@ recordAt-take m file at reach = by-case (recordAt file at) (recordAt-is file at)
         ∙ ap₂ whole first (part-take (at + 1) n m file end)
 
 -- As many bytes as stand before a whole record and in it reach to its end.
-reaches-whole : (m : ℕ) (file : List ℕ) (at : ℕ) {kind : ℕ} (body : List ℕ) → kind ≡ getD file at 0 → bodyLength kind ≡ Bytes (length body) → at + 1 + length body ≤ m → Reaches m file at
-reaches-whole m file at {kind} body first known h =
-    record { kind-reached = omega arith; body-reached = λ n e. omega (arith, as-many n (sym known ∙ ap bodyLength first ∙ e)) }
+pub reaches-whole : (m : ℕ) (file : List ℕ) (at kind : ℕ) (body : List ℕ) → Whole file at kind body → at + 1 + length body ≤ m → Reaches m file at
+reaches-whole m file at kind body w h =
+    record { kind-reached = omega arith; body-reached = λ n e. omega (arith, as-many n (sym (w .length-is) ∙ ap bodyLength (w .kind-is) ∙ e)) }
   where
     as-many : (n : ℕ) → Bytes (length body) ≡ Bytes n → length body ≡ n
     as-many n e = cc
 
--- A whole record stands in every file that begins with them.
-pub recordAt-within : (m : ℕ) (file rest : List ℕ) (at kind : ℕ) (body : List ℕ) → recordAt file at ≡ whole kind body → at + 1 + length body ≤ m → recordAt (take m file ++ rest) at ≡ whole kind body
-recordAt-within m file rest at kind body e h =
-    let w = whole-of file at kind body e in
-    extended (take m file) (recordAt-take m file at (reaches-whole m file at body (w .kind-is) (w .length-is) h) ∙ e)
+-- Where they reach to the end of a record, it stands in every file that begins with them.
+pub recordAt-within : (m : ℕ) (file rest : List ℕ) (at : ℕ) → m ≤ length file → Reaches m file at → recordAt (take m file ++ rest) at ≡ recordAt file at
+recordAt-within m file rest at h reach =
+    sym (recordAt-take m other at there) ∙ ap (λ (l : List ℕ). recordAt l at) same ∙ recordAt-take m file at reach
   where
-    extended : (part : List ℕ) → recordAt part at ≡ whole kind body → recordAt (part ++ rest) at ≡ whole kind body
-    extended part f =
-        let w = whole-of part at kind body f in
-        let same = take-append-seam part rest in
-        let first = ap (λ (l : List ℕ). getD l at 0) (sym same) ∙ getD-take (length part) (part ++ rest) at 0 (omega (arith, w .within)) in
-        sym (recordAt-take (length part) (part ++ rest) at (reaches-whole (length part) (part ++ rest) at body (w .kind-is ∙ first) (w .length-is) (w .within)))
-        ∙ ap (λ (l : List ℕ). recordAt l at) same
-        ∙ f
+    other : List ℕ
+    other = take m file ++ rest
+
+    same : take m other ≡ take m file
+    same = ap (λ (k : ℕ). take k other) (sym (length-take-le m file h)) ∙ take-append-seam (take m file) rest
+
+    first : getD other at 0 ≡ getD file at 0
+    first = sym (getD-take m other at 0 (reach .kind-reached)) ∙ ap (λ (l : List ℕ). getD l at 0) same ∙ getD-take m file at 0 (reach .kind-reached)
+
+    there : Reaches m other at
+    there = record { kind-reached = reach .kind-reached; body-reached = λ n known. reach .body-reached n (sym (ap bodyLength first) ∙ known) }
 
 -- ---- what the record step's kind and number tell
 

@@ -79,6 +79,45 @@ fn a_head_that_says_0_steps_is_listed_as_one_that_says_120() {
     assert!(models > 300 && refused > 100, "both come often: {models} and {refused}");
 }
 
+/// What a listing says of a refused file with the offset higher by so many bytes; of a model what it says.
+fn moved(reply: &[u8], bytes: usize) -> String {
+    let reply = std::str::from_utf8(reply).expect("a text");
+    match reply.strip_prefix("refused ").and_then(|rest| rest.trim_end().split_once(" at ")) {
+        Some((number, offset)) => format!("refused {number} at {}\n", offset.parse::<usize>().expect("an offset") + bytes),
+        None => reply.to_string(),
+    }
+}
+
+#[test]
+fn a_file_without_an_input_set_is_listed_as_one_with_zero_corners() {
+    let mut random = Random::new(2_026_02);
+    let (mut first, mut second) = (room(LISTING_ROOM), room(LISTING_ROOM));
+    let (mut models, mut refused) = (0, 0);
+    let corners = file(&[numbers(0x20, &[0; 6]), numbers(0x21, &[0; 6])]);
+    for turn in 0..1_500 {
+        let mut records = model(&mut random);
+        records.retain(|record| !(0x20..0x30).contains(&record.kind));
+        let place = records.iter().position(|record| record.kind == 0x30).expect("a direction");
+        let start = file(&records[..place]);
+        // From the direction on anything may follow; it is damaged behind its kind byte.
+        let mut behind = file(&records[place..]).split_off(1);
+        if turn % 2 == 0 {
+            damage_bytes(&mut random, &mut behind);
+        }
+        let without = [&start[..], &[0x30], &behind].concat();
+        let with = [&start[..], &corners, &[0x30], &behind].concat();
+        let said = listing(&without, &mut first).expect("room");
+        assert_eq!(listing(&with, &mut second).expect("room"), moved(said, corners.len()).as_bytes(), "file {without:02X?}");
+        assert_eq!(said, text(of_file::<i128>(&without)).as_bytes());
+        if said.starts_with(b"model ") {
+            models += 1;
+        } else {
+            refused += 1;
+        }
+    }
+    assert!(models > 700 && refused > 400, "both come often: {models} and {refused}");
+}
+
 #[test]
 fn less_room_than_the_longest_listing_needs_is_refused_and_nothing_is_written() {
     let bytes = file(&model(&mut Random::new(43)));

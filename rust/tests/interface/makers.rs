@@ -130,7 +130,7 @@ fn direction(random: &mut Random, n: usize) -> Record {
     numbers(0x30, &entries)
 }
 
-/// The records of a valid model without guards and without the end.
+/// The records of a valid model without guards and without the end. One in six has no input set.
 pub fn open_model(random: &mut Random) -> Vec<Record> {
     let n = 1 + random.below(6);
     let steps = match random.below(8) {
@@ -144,7 +144,9 @@ pub fn open_model(random: &mut Random) -> Vec<Record> {
     let mut records = vec![head(n as u8, steps as u16)];
     records.extend(matrix_rows(random, n));
     records.extend(set_points(random, n, 0x10));
-    records.extend(set_points(random, n, 0x20));
+    if !random.one_in(6) {
+        records.extend(set_points(random, n, 0x20));
+    }
     let count = random.pick(&[1, 2, 3, 4, 16]);
     records.extend((0..count).map(|_| direction(random, n)));
     records

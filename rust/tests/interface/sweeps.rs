@@ -77,6 +77,7 @@ fn every_sweep_and_every_verdict_of_random_models_is_that_of_the_specification()
     let mut verdicts = [0; 4];
     let mut sizes = [0; 7];
     let mut forms = [0; 3];
+    let mut without_input = 0;
     for _ in 0..6_000 {
         let mut records = open_model(&mut random);
         records.push(end());
@@ -84,7 +85,11 @@ fn every_sweep_and_every_verdict_of_random_models_is_that_of_the_specification()
         records.pop();
         sizes[model.n] += 1;
         forms[model.initial.form as usize] += 1;
-        forms[model.input.form as usize] += 1;
+        if records.iter().any(|record| (0x20..0x30).contains(&record.kind)) {
+            forms[model.input.form as usize] += 1;
+        } else {
+            without_input += 1;
+        }
         let envelopes: Vec<Option<Envelope>> =
             model.directions.iter().map(|direction| recurrence::sweep(&model, direction).ok()).collect();
         let guards = random.pick(&[0, 1, 3, 16]);
@@ -112,10 +117,10 @@ fn every_sweep_and_every_verdict_of_random_models_is_that_of_the_specification()
             }] += 1;
         }
     }
-    println!("swept {swept}, grown {grown}, HIT UNKNOWN CLEAR growth {verdicts:?}, n {sizes:?}, forms {forms:?}");
+    println!("swept {swept}, grown {grown}, HIT UNKNOWN CLEAR growth {verdicts:?}, n {sizes:?}, forms {forms:?}, no input {without_input}");
     assert!(swept > 10_000 && grown > 2_000, "both come often");
     assert!(verdicts.iter().all(|count| *count > 800), "each verdict comes often");
-    assert!(sizes[1..].iter().all(|count| *count > 800) && forms.iter().all(|count| *count > 3_000));
+    assert!(sizes[1..].iter().all(|count| *count > 800) && forms.iter().all(|count| *count > 3_000) && without_input > 800);
 }
 
 #[test]
