@@ -10,6 +10,7 @@ built program, target/bin/envelope, and fails where there is none.
 from __future__ import annotations
 
 import os
+import re
 import socket
 import subprocess
 import sys
@@ -29,8 +30,10 @@ MOST_MEMORY = 4 * 1024  # kB
 sys.path.insert(0, str(ROOT / "tools"))
 
 import exact  # noqa: E402
+import readerfiles  # noqa: E402
 from layout import (  # noqa: E402
     BOX, MAX_DIRECTIONS, MAX_GUARDS, MAX_N, MAX_REACH, MAX_STEPS, VERTICES, ZONOTOPE, Model, Set, encode,
+    no_input,
 )
 
 
@@ -116,6 +119,55 @@ class Text(unittest.TestCase):
             text = reply(data)
             self.assertTrue(text.startswith(b"model 1 %d\n" % steps), text)
             self.assertEqual(text, exact.listing(data).encode("ascii"))
+
+    def test_a_model_without_an_input_set_is_listed(self) -> None:
+        # Figures 4, 5 and 8 without their input sets.
+        for entry, largest_, steps, rows in (
+            (32_768, 100, 3, "dir 0 spare 10/0 100 0/1 50 0/2 25 0/3 13 1/"),
+            (1, 100, 2, "dir 0 spare 10/0 100 0/1 1 1/2 1 2/"),
+            (131_072, 0, 11, "dir 0 growth 11/"),
+        ):
+            initial = Set(BOX, ((0,), (largest_,)))
+            model = Model(1, steps, ((entry,),), initial, no_input(1), ((1,),), ())
+            text = f"model 1 {steps}/{rows}".replace("/", "\n")
+            for stated in (False, True):
+                self.assertEqual(reply(encode(model, input_stated=stated)).decode(), text)
+
+    def test_only_a_direction_stands_straight_after_the_initial_set(self) -> None:
+        # The sample's records: lower and upper corner of both sets at 30, 55, 80 and 105, a direction
+        # at 130 and a guard at 155.
+        direction, guard = SAMPLE[130:155], SAMPLE[155:165]
+        for data, expected in (
+            (SAMPLE[:80] + direction, "refused 1 at 105"),
+            (SAMPLE[:80] + guard, "refused 3 at 80"),
+            (SAMPLE[:80] + b"\xff", "refused 3 at 80"),
+            (SAMPLE[:55] + direction, "refused 3 at 55"),
+            (SAMPLE[:30] + b"\x12" + SAMPLE[31:55] + direction, "refused 3 at 55"),
+            (SAMPLE[:105] + direction, "refused 3 at 105"),
+            (SAMPLE[:80] + b"\x22" + SAMPLE[81:105] + direction, "refused 3 at 105"),
+            (SAMPLE[:80] + direction + SAMPLE[80:], "refused 3 at 105"),
+        ):
+            self.assertEqual(reply(data).decode(), expected + "\n")
+
+    def test_a_file_without_an_input_set_gets_the_reply_to_zero_corners(self) -> None:
+        # File 10, of every file of the reader's tests in which a direction stands straight after the
+        # initial set. What is expected of both is the exact program's reply to the one with corners.
+        replies = set()
+        for path in sorted(READER_FILES.iterdir()):
+            data = path.read_bytes()
+            found = readerfiles.with_zero_corners(data)
+            if found is None:
+                continue
+            at, with_corners = found
+            expected = exact.listing(with_corners)
+            self.assertEqual(reply(with_corners).decode(), expected, path.name)
+            if refused := re.fullmatch(r"refused (\d+) at (\d+)\n", expected):
+                expected = f"refused {refused[1]} at {int(refused[2]) - 50}\n"
+                self.assertGreaterEqual(int(refused[2]) - 50, at)
+            self.assertEqual(reply(data).decode(), expected, path.name)
+            replies.add(expected.split("\n")[0].split(" at ")[0])
+        refused = {f"refused {number}" for number in (1, 3, 7, 8, 9, 10)}
+        self.assertLessEqual({"model 1 1", "model 1 120", "model 6 256", *refused}, replies)
 
     def test_an_empty_file_is_refused_by_1_at_0(self) -> None:
         self.assertEqual(reply(b""), b"refused 1 at 0\n")

@@ -278,6 +278,7 @@ class Words(Clone):
             self.assertEqual((done.returncode, done.stderr), (0, b""))
             for part in (b"usage: ./run [--quiet] MODEL", b"--version", b"tools/pack.py", b"  0  ", b"  1  ", b"  2  "):
                 self.assertIn(part, done.stdout)
+            self.assertRegex(done.stdout, rb"rounded \(~\), and that it has no input set, .*--quiet")
 
     def test_the_examples_of_help_work(self) -> None:
         (self.clone / "examples").symlink_to(EXAMPLES)
@@ -294,6 +295,29 @@ class Words(Clone):
         self.assert_done(done, 0, RAIL_TEXT.read_bytes())
         self.assertRegex(done.stderr, rb"^\S*rail\.model: 5 entries were rounded \(~\); .*\n$")
         self.assert_done(self.run_on("--quiet", EXAMPLES / "rail.model"), 0, RAIL_TEXT.read_bytes(), b"")
+
+    def test_no_input_set_is_told_unless_quiet(self) -> None:
+        # Figures 4, whose input is zero.
+        file, packed = self.folder / "still.model", self.folder / "still.bin"
+        text = "coordinates 1\nsteps 3\nrow 0.5\ninitial box\nlower 0\nupper 100\ndirection d 1\n"
+        file.write_text(text)
+        packed.write_bytes(pack.parse(text).data)
+        listing = b"model 1 3\ndir 0 spare 10\n0 100 0\n1 50 0\n2 25 0\n3 13 1\n"
+        note = b"%s: no input set: the input is zero in every coordinate\n"
+        self.assert_done(self.run_on(file), 0, listing, note % bytes(file))
+        self.assert_done(self.run_on("-", data=text.encode()), 0, listing, note % b"standard input")
+        self.assert_done(self.run_on("--quiet", file), 0, listing, b"")
+        self.assert_done(self.run_on(packed), 0, listing, b"")
+        file.write_text(text + "input box\nlower 0\nupper 0\n")
+        self.assert_done(self.run_on(file), 0, listing, b"")
+
+    def test_the_example_without_an_input_set_is_listed(self) -> None:
+        text, listing = EXAMPLES / "cooling.model", (EXAMPLES / "cooling.listing").read_bytes()
+        done = self.run_on(text)
+        self.assert_done(done, 0, listing)
+        self.assertRegex(done.stderr, rb"^\S*: \d+ entries were rounded .*\n\S*: no input set: .*\n$")
+        self.assert_done(self.run_on("--quiet", text), 0, listing, b"")
+        self.assert_done(self.run_on(EXAMPLES / "cooling.bin"), 0, listing, b"")
 
     def test_the_version_is_that_of_the_bindings(self) -> None:
         (version,) = re.findall(rb'^version = "(.*)"$', (ROOT / "rust" / "Cargo.toml").read_bytes(), re.MULTILINE)

@@ -21,7 +21,7 @@ import exact
 import files
 import listings
 import models
-from layout import DEFAULT_STEPS, MAX_N, MAX_STEPS
+from layout import DEFAULT_STEPS, MAX_N, MAX_STEPS, states_input
 from listings import CLEAR, GROWTH, HIT, UNKNOWN, Growth, Refusal
 
 TIME_LIMIT = 10  # seconds for one file
@@ -56,16 +56,17 @@ def first_difference(expected: bytes, found: bytes) -> str:
 
 
 class Counts:
-    """What kinds of reply were seen."""
+    """What kinds of file and of reply were seen."""
 
     def __init__(self) -> None:
         self.seen: collections.Counter[str] = collections.Counter()
 
-    def add(self, told: listings.Listing | Refusal) -> None:
+    def add(self, data: bytes, told: listings.Listing | Refusal) -> None:
         if isinstance(told, Refusal):
             self.seen[f"refused {told.number}"] += 1
             return
         self.seen["accepted"] += 1
+        self.seen["without input"] += not states_input(data)
         self.seen[f"n {told.n}"] += 1
         self.seen[f"K {told.steps}"] += 1
         for swept in told.directions:
@@ -79,7 +80,7 @@ class Counts:
 
         return (
             f"{self.seen['accepted']} accepted (n {counted('n ', list(range(1, MAX_N + 1)))},"
-            f" K {counted('K ', [DEFAULT_STEPS, MAX_STEPS])}),"
+            f" K {counted('K ', [DEFAULT_STEPS, MAX_STEPS])}, {counted('', ['without input'])}),"
             f" refused {counted('refused ', list(exact.REASONS))};"
             f" directions {counted('', ['swept', 'growth'])};"
             f" guards {counted('', [HIT, UNKNOWN, CLEAR, GROWTH])};"
@@ -99,7 +100,7 @@ def compare(program: str, seed: int, count: int, accuracy_every: int, save: str)
             if found != expected:
                 raise files.Failure(first_difference(expected, found))
             told = listings.parse(found.decode("ascii"))
-            counts.add(told)
+            counts.add(data, told)
             if not isinstance(told, Refusal):
                 accepted += 1
                 model = exact.read_model(data)

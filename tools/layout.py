@@ -1,15 +1,15 @@
 """The limits, the record layout and the model values of the specification, each stated once.
 
-In order: limits and units; record kinds and body lengths; sets and models; makers of records.
-The makers fill up to six entries with zeros and test nothing, so that wrong files can be made too.
-Not here: reading a file (`exact`).
+In order: limits and units; record kinds and body lengths; sets and models; makers of records; where
+records start. The makers fill up to six entries with zeros and test nothing, so that wrong files
+can be made too. Not here: reading a file (`exact`).
 """
 
 from __future__ import annotations
 
 import struct
 from dataclasses import dataclass
-from typing import Sequence
+from typing import Iterator, Sequence
 
 Vector = tuple[int, ...]
 
@@ -135,3 +135,16 @@ def records(
 def encode(model: Model, stated_steps: int | None = None, input_stated: bool = True) -> bytes:
     """The file of a model."""
     return b"".join(records(model, stated_steps, input_stated))
+
+
+def offsets(data: bytes) -> Iterator[int]:
+    """Where the records of a file start, as long as their kinds are known; the last may be cut."""
+    at = 0
+    while at < len(data) and data[at] in BODY_LENGTHS:
+        yield at
+        at += 1 + BODY_LENGTHS[data[at]]
+
+
+def states_input(data: bytes) -> bool:
+    """Whether a file has a record of the input set."""
+    return any(data[at] & 0xF0 == INPUT for at in offsets(data))

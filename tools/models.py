@@ -19,9 +19,10 @@ from typing import Iterator
 import exact
 import files
 from layout import (
-    BODY_LENGTHS, BOX, DIRECTION, END, GUARD, HEAD, LONGEST_FILE, MATRIX_UNIT, MAX_DIRECTION_ENTRY,
-    MAX_DIRECTIONS, MAX_ENTRY, MAX_GUARDS, MAX_LEVEL, MAX_N, MAX_POINTS, MAX_REACH, MAX_STEPS,
-    MIN_LEVEL, READ_LIMIT, ROW, VERTICES, ZONOTOPE, Model, Set, Vector, head, point, records,
+    BODY_LENGTHS, BOX, DIRECTION, END, GUARD, HEAD, INITIAL, INPUT, LONGEST_FILE, MATRIX_UNIT,
+    MAX_DIRECTION_ENTRY, MAX_DIRECTIONS, MAX_ENTRY, MAX_GUARDS, MAX_LEVEL, MAX_N, MAX_POINTS,
+    MAX_REACH, MAX_STEPS, MIN_LEVEL, READ_LIMIT, ROW, VERTICES, ZONOTOPE, Model, Set, Vector, guard,
+    head, no_input, point, records,
 )
 from listings import Growth
 
@@ -181,6 +182,8 @@ def random_model(rng: random.Random) -> Model:
         model = _edge(rng, model)
     elif choice < 0.032:
         model = _largest(rng)
+    if rng.random() < 0.08:
+        model = replace(model, input=no_input(model.n))
     return replace(model, guards=_guards(rng, model))
 
 
@@ -195,11 +198,17 @@ def _guards(rng: random.Random, model: Model) -> tuple[tuple[int, int], ...]:
 # Files of accepted models
 
 
+def _records(rng: random.Random, model: Model, stated_steps: int | None = None) -> list[bytes]:
+    """The records of a model, most of the time without those of an input set that is zero."""
+    left_out = model.input == no_input(model.n) and rng.random() < 0.8
+    return records(model, stated_steps, input_stated=not left_out)
+
+
 def _stated(rng: random.Random, model: Model) -> list[bytes]:
     """The records of a model, now and then with its steps left to the default."""
     if model.steps < MAX_STEPS and len(model.directions) < 3 and rng.random() < 0.06:
-        return records(model, stated_steps=0)
-    return records(model)
+        return _records(rng, model, stated_steps=0)
+    return _records(rng, model)
 
 
 def _put(record: bytes, offset: int, form: str, value: int) -> bytes:
@@ -236,7 +245,7 @@ def _around(limit: int) -> tuple[int, ...]:
 
 def _strained(rng: random.Random, model: Model) -> list[bytes]:
     """The records of a model with one value at its limit, beyond it by one, or far beyond."""
-    parts = records(model)
+    parts = _records(rng, model)
     index = rng.choice((0, rng.randrange(len(parts) - 1), rng.randrange(len(parts) - 1)))
     record = parts[index]
     kind, first = record[0], _first_entry(record)
@@ -266,7 +275,7 @@ def _overreaching(rng: random.Random, model: Model) -> list[bytes]:
         points[1][i] = points[0][i] - 1
     else:
         _stretch(points, set_.form, rng.randrange(len(points)), i, MAX_REACH + 1)
-    return records(replace(model, **{name: Set(set_.form, tuple(map(tuple, points)))}))
+    return _records(rng, replace(model, **{name: Set(set_.form, tuple(map(tuple, points)))}))
 
 
 def _crowded(rng: random.Random, model: Model) -> list[bytes]:
@@ -283,17 +292,41 @@ def _crowded(rng: random.Random, model: Model) -> list[bytes]:
         points = [[rng.randint(-9, 9) for _ in range(model.n)] for _ in range(MAX_POINTS[form])]
         points = sorted(points) + [points[0]] * extra
         model = replace(model, **{what: Set(form, tuple(map(tuple, points)))})
-    return records(model)
+    return _records(rng, model)
 
 
 # Damaged files
 
 
+def _of_part(parts: list[bytes], part: int) -> list[int]:
+    """Where the records of the initial set, the input set or the directions are, by their kinds."""
+    return [i for i, record in enumerate(parts) if record[0] & 0xF0 == part]
+
+
+def _with_wrong_sets(rng: random.Random, model: Model) -> list[bytes]:
+    """The records of a model with the input set left out, short, or behind the directions.
+
+    Or both sets are wrong: there is no input set, and of the initial one the first point alone.
+    """
+    parts = _records(rng, model)
+    initial, input_ = _of_part(parts, INITIAL), _of_part(parts, INPUT)
+    how = rng.choice(("left out", "behind", "without first", *("first alone", "both") * 2))
+    gone = {"without first": input_[:1], "first alone": input_[1:], "both": initial[1:] + input_}
+    kept = [record for i, record in enumerate(parts) if i not in gone.get(how, input_)]
+    if how == "behind":
+        place = _of_part(kept, DIRECTION)[-1] + 1
+        kept[place:place] = (parts[i] for i in input_)
+    return kept
+
+
 def _disordered(rng: random.Random, model: Model) -> list[bytes]:
-    """The records of a model with one or two swapped, dropped, doubled, put elsewhere or new."""
-    parts = records(model)
+    """The records of a model with one or two swapped, dropped, doubled, put elsewhere or new.
+
+    Or a guard or the end stands right behind the initial set.
+    """
+    parts = _records(rng, model)
     for _ in range(rng.choice((1, 1, 2))):
-        how = rng.choice(("swap", "drop", "double", "move", "kind", "unknown"))
+        how = rng.choice(("swap", "drop", "double", "move", "kind", "unknown", "early"))
         i, j = rng.randrange(len(parts)), rng.randrange(len(parts))
         if how == "swap":
             parts[i], parts[j] = parts[j], parts[i]
@@ -303,6 +336,9 @@ def _disordered(rng: random.Random, model: Model) -> list[bytes]:
             parts.insert(j, parts[i])
         elif how == "move":
             parts.insert(j, parts.pop(i))
+        elif how == "early":
+            behind = max(_of_part(parts, INITIAL), default=0) + 1
+            parts.insert(behind, rng.choice((guard(0, 1), bytes([END]))))
         else:
             kinds = BODY_LENGTHS if how == "kind" else range(256)
             parts[i] = bytes([rng.choice(list(kinds))]) + parts[i][1:]
@@ -335,18 +371,20 @@ def random_file(rng: random.Random) -> bytes:
     """A file: of an accepted model, of one at or beyond a limit, or a damaged one."""
     model = random_model(rng)
     choice = rng.random()
-    if choice < 0.60:
+    if choice < 0.58:
         parts = _stated(rng, model)
-    elif choice < 0.72:
+    elif choice < 0.70:
         parts = _strained(rng, model)
-    elif choice < 0.78:
+    elif choice < 0.76:
         parts = _overreaching(rng, model)
-    elif choice < 0.83:
+    elif choice < 0.81:
         parts = _crowded(rng, model)
+    elif choice < 0.85:
+        parts = _with_wrong_sets(rng, model)
     elif choice < 0.91:
         parts = _disordered(rng, model)
     else:
-        return _damaged(rng, records(model))
+        return _damaged(rng, _records(rng, model))
     if rng.random() < 0.3:
         parts = _with_rubbish(rng, parts, model.n)
     return b"".join(parts)

@@ -11,10 +11,11 @@ A text has one statement in a row, and `#` starts a comment:
     time NUMBER UNIT              how long a step takes, as in `time 1.25 ms`; may be left out
     row [NAME] ENTRY ..           a row of the matrix, in the order of the coordinates
     scaled [NAME] ENTRY ..        the same, in whole numbers of 1/65,536
-    initial FORM, input FORM      starts a set; FORM is box, zonotope or vertices, and below it:
+    initial FORM                  the initial set; FORM is box, zonotope or vertices, and below it:
       lower .., upper ..          the two corners of a box
       centre .., generator ..     the centre of a zonotope and its 1 to 8 generators
       vertex ..                   1 to 16 vertices
+    input FORM                    the input set, in the same way; left out, the input is zero
     direction NAME ENTRY ..       1 to 16, whole numbers
     unit DIRECTION UNIT [COUNTS]  what a direction above it is in, as in `unit hottest °C 16`, and
                                   how many counts make one (1 without); may be left out
@@ -22,9 +23,9 @@ A text has one statement in a row, and `#` starts a comment:
 
 An ENTRY of a `row` is a decimal from -2 to 2. It must be a multiple of 1/65,536, as 0.5 is;
 `~0.97` stands for the nearest multiple (of two equally near the even one), so that all rounding
-shows in the text. `pack` says on standard error how much was rounded, unless it is to be quiet.
-Points and levels are whole counts. What the reader would refuse is refused here: all mistakes, up
-to twenty, are told with the text's name, or NAME, and the row.
+shows in the text. `pack` says on standard error how much was rounded, and where there is no input
+set, unless it is to be quiet. Points and levels are whole counts. What the reader would refuse is
+refused here: all mistakes, up to twenty, are told with the text's name, or NAME, and the row.
 
 A file has no names, units or time. Unpacked, its coordinates are x0, x1, .. and its directions d0,
 d1, .., or all of these are those of the text that `--names` gives.
@@ -42,7 +43,7 @@ from typing import Sequence
 import exact
 import files
 import refusal
-from layout import DEFAULT_STEPS, HEAD, MAX_N, ROW
+from layout import DEFAULT_STEPS, HEAD, MAX_N, ROW, states_input
 from listings import Refusal
 from spelling import decimal_text
 from textform import POINT_WORDS, Source, parse
@@ -56,6 +57,7 @@ def read_source(data: bytes, name: str = "file") -> Source:
     return Source(
         model,
         int.from_bytes(data[2:4], "little"),
+        states_input(data),
         tuple(f"x{i}" for i in range(model.n)),
         tuple(f"d{i}" for i in range(len(model.directions))),
         (None,) * len(model.directions),
@@ -119,11 +121,13 @@ def write_text(source: Source) -> str:
     rows.append("")
     for name, entries in zip(names, model.matrix):
         rows.append(statement("scaled" if made_up else f"scaled {name}", entries))
-    for which, set_ in (("initial", model.initial), ("input", model.input)):
+    inputs = [("input", model.input)] if source.input_stated else []
+    for which, set_ in [("initial", model.initial), *inputs]:
         rows += ["", f"{which} {set_.form}"]
         first, other = POINT_WORDS[set_.form]
         for index, entries in enumerate(set_.points):
             rows.append("  " + statement(other if index else first, entries))
+    rows += [] if inputs else ["", "# input: none, zero in every coordinate"]
     rows.append("")
     for name, entries, unit in zip(source.directions, model.directions, source.units):
         rows.append(statement(f"direction {name}", entries))
@@ -157,6 +161,12 @@ def rounding(source: Source) -> str | None:
     return f"{told} rounded (~); the largest relative change is {percent(most.change)}, of {of}"
 
 
+def notes(source: Source) -> list[str]:
+    """What is told of a text that packs: rounding, and an input set that may only be forgotten."""
+    missing = None if source.input_stated else "no input set: the input is zero in every coordinate"
+    return [said for said in (rounding(source), missing) if said]
+
+
 def main() -> None:
     raw = argparse.RawDescriptionHelpFormatter
     form = __doc__.replace("to the default", f"to the default, {DEFAULT_STEPS}")
@@ -171,7 +181,8 @@ def main() -> None:
         sub.add_argument("-o", dest="to", metavar=to.upper(), help="standard output without it")
         subs[command] = sub
     subs["pack"].add_argument("--name", help="what messages call the text")
-    subs["pack"].add_argument("--quiet", action="store_true", help="say nothing of rounding")
+    subs["pack"].add_argument("--quiet", action="store_true",
+                              help="say nothing of rounding, or of an input set that is left out")
     subs["unpack"].add_argument("--names", metavar="TEXT", help="the names, units and time")
     options = parser.parse_args()
     data, name = files.read_bytes(options.source), files.shown(options.source)
@@ -181,8 +192,7 @@ def main() -> None:
         if options.to is None and sys.stdout.isatty():
             raise files.Failure("a packed model is no text: name a file with -o")
         files.write_bytes(options.to, source.data)
-        said = rounding(source)
-        if said and not options.quiet:
+        for said in () if options.quiet else notes(source):
             print(f"{name}: {said}", file=sys.stderr)
         return
     source = read_source(data, name)

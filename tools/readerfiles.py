@@ -11,6 +11,7 @@ The files and their order are always the same.
 from __future__ import annotations
 
 import argparse
+import itertools
 import os
 from dataclasses import replace
 from typing import Iterator
@@ -20,9 +21,9 @@ import files
 from layout import (
     BODY_LENGTHS, BOX, CENTRE, DEFAULT_STEPS, DIRECTION, END, GENERATOR, GUARD, HEAD, INITIAL,
     INPUT, LOWER, MAX_DIRECTION_ENTRY, MAX_DIRECTIONS, MAX_ENTRY, MAX_GUARDS, MAX_LEVEL, MAX_N,
-    MAX_POINTS, MAX_REACH, MAX_STEPS, MIN_POINTS, MIN_LEVEL, READ_LIMIT, ROW, UPPER, VERTEX,
-    VERTICES, ZONOTOPE, Model, Set, direction, encode, guard, head, point, records, row,
-    set_records,
+    MAX_POINTS, MAX_REACH, MAX_STEPS, MIN_POINTS, MIN_LEVEL, POINT_KINDS, READ_LIMIT, ROW, UPPER,
+    VERTEX, VERTICES, ZONOTOPE, Model, Set, direction, encode, guard, head, no_input, offsets,
+    point, records, row, set_records,
 )
 from listings import Refusal
 
@@ -64,6 +65,11 @@ SAMPLE = Model(  # Listing 8
 # The file that is cut and changed everywhere.
 SMALL = replace(made_model(VERTICES), guards=((0, 2),))
 WIDE = replace(made_model(BOX, n=2), guards=((0, 5),))
+# The rows of a file with n 2, and a direction.
+ROWS = head(2, 3) + row(0, [32_768, 1]) + row(1, [0, 16_384])
+ASKED = direction([1, -1])
+# For the entries beyond n, where n is 1.
+RUBBISH = [2**31 - 1, -(2**31), 1, -1, 0x01020304]
 
 
 def places() -> dict[int, bytes]:
@@ -79,6 +85,21 @@ def places() -> dict[int, bytes]:
     found[DIRECTION] = found[INPUT + UPPER] + direction([1])
     found[GUARD] = found[DIRECTION] + guard(0, 2)
     return found
+
+
+def with_zero_corners(data: bytes) -> tuple[int, bytes] | None:
+    """Where a direction stands straight after the initial set, and the file with corners before it.
+
+    The corners are the two records of zeros that stand for what is left out (File 10).
+    """
+    last = (INITIAL + UPPER, INITIAL + GENERATOR, INITIAL + VERTEX)
+    before = None
+    for at in offsets(data):
+        if data[at] == DIRECTION and before in last:
+            corners = point(INPUT + LOWER, ()) + point(INPUT + UPPER, ())
+            return at, data[:at] + corners + data[at:]
+        before = data[at]
+    return None
 
 
 def accepted_files() -> Iterator[File]:
@@ -100,14 +121,13 @@ def accepted_files() -> Iterator[File]:
     yield "reach of a zonotope at its limit", encode(replace(SAMPLE, initial=spread))
     yield "extreme levels", encode(replace(SAMPLE, guards=((0, MIN_LEVEL), (0, MAX_LEVEL))))
     yield "a generator of zeros", encode(replace(SAMPLE, input=Set(ZONOTOPE, ((0,), (0,)))))
-    rubbish = [2**31 - 1, -(2**31), 1, -1, 0x01020304]
     parts = [
         head(1, 3),
-        row(0, [32_768, *rubbish]),
-        point(INITIAL + LOWER, [0, *rubbish]),
-        point(INITIAL + UPPER, [0, *rubbish[1:], 0]),
-        point(INPUT + VERTEX, [1, *rubbish]),
-        direction([1, *rubbish]),
+        row(0, [32_768, *RUBBISH]),
+        point(INITIAL + LOWER, [0, *RUBBISH]),
+        point(INITIAL + UPPER, [0, *RUBBISH[1:], 0]),
+        point(INPUT + VERTEX, [1, *RUBBISH]),
+        direction([1, *RUBBISH]),
         bytes([END]),
     ]
     yield "any numbers beyond n", b"".join(parts)
@@ -230,9 +250,73 @@ def steps_files() -> Iterator[File]:
         yield f"steps of {steps} in the head", encode(replace(SAMPLE, steps=steps))
 
 
+def behind_initial_files() -> Iterator[File]:
+    """What comes straight after a complete initial set, of each form and with each count."""
+    unknown = iter((0x15, 0x1F, 0x25, 0x2F, 0x31))
+    firsts = itertools.cycle(INPUT + first for first, _ in POINT_KINDS.values())
+    for form in FORMS:
+        for count in sorted({MIN_POINTS[form], MAX_POINTS[form]}):
+            points = set_records(INITIAL, made_set(form, 2, count))
+            first, last, no_kind = next(firsts), points[-1], next(unknown)
+            for what, record in (
+                ("no byte", b""),
+                ("a direction", ASKED),
+                ("a direction without its last byte", ASKED[:-1]),
+                ("a direction beyond its limit", direction([0, MAX_DIRECTION_ENTRY + 1])),
+                ("a guard", guard(0, 1)),
+                ("the end", bytes([END])),
+                (f"kind {no_kind:02X} alone", bytes([no_kind])),
+                (f"record {first:02X}", point(first, [0, 0])),
+                (f"one {last[0]:02X} more", last),
+            ):
+                about = f"initial {form} of count {count}, then {what}"
+                yield about, ROWS + b"".join(points) + record
+
+
+def no_input_files() -> Iterator[File]:
+    """No input set (File 10): the order before and behind the directions, and whole models."""
+    initial = ROWS + point(INITIAL + VERTEX, [5, 6])
+    for what, start in (
+        ("the head", head(2, 3)),
+        ("row 0 of 2", head(2, 3) + row(0, [0, 0])),
+        ("all rows", ROWS),
+        ("10 alone", ROWS + point(INITIAL + LOWER, [5, 6])),
+        ("12 alone", ROWS + point(INITIAL + CENTRE, [5, 6])),
+        ("20 alone", initial + point(INPUT + LOWER, [0, 0])),
+        ("22 alone", initial + point(INPUT + CENTRE, [0, 0])),
+    ):
+        yield f"a direction after {what}", start + ASKED
+    for kind in (*range(INPUT + LOWER, INPUT + VERTEX + 1), INITIAL + VERTEX):
+        yield f"no input set: {kind:02X} after a direction", initial + ASKED + point(kind, [0, 0])
+
+    whole = {f"shortest with {form}": made_model(form) for form in FORMS}
+    whole |= {f"longest with {form}": made_model(form, MAX_N, full=True) for form in FORMS}
+    whole |= {f"n {n}": made_model(form, n) for n, form in zip(range(2, MAX_N), FORMS * 2)}
+    for what, model in whole.items():
+        yield f"no input set: {what}", encode(model, input_stated=False)
+        zero = replace(model, input=no_input(model.n))
+        yield f"input set from zero to zero: {what}", encode(zero)
+    yield "no input set: the head says 0 steps", encode(SAMPLE, stated_steps=0, input_stated=False)
+    start = head(1, 3) + row(0, [32_768, *RUBBISH]) + point(INITIAL + VERTEX, [5, *RUBBISH])
+    zeros = point(INPUT + LOWER, [0, *RUBBISH]) + point(INPUT + UPPER, [0, *RUBBISH[1:], 0])
+    end = direction([1, *RUBBISH]) + bytes([END])
+    yield "no input set: any numbers beyond n", start + end
+    yield "input set from zero to zero: any numbers beyond n", start + zeros + end
+
+    many = initial + ASKED * MAX_DIRECTIONS
+    yield "no input set: a 17th direction", many + ASKED
+    yield "no input set: a 17th direction, its kind alone", many + bytes([DIRECTION])
+    yield "no input set: guard on direction 1 of 1", initial + ASKED + guard(1, 0)
+    longest = encode(made_model(VERTICES, MAX_N, full=True), input_stated=False)
+    yield "no input set: the longest file, then a byte", longest + b"\0"
+
+
 def all_files() -> list[File]:
     """All files, in their order."""
-    makers = (accepted_files, order_files, count_files, value_files, spoilt_files, steps_files)
+    makers = (
+        accepted_files, order_files, count_files, value_files, spoilt_files, steps_files,
+        behind_initial_files, no_input_files,
+    )
     return [file for maker in makers for file in maker()]
 
 

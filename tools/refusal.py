@@ -135,8 +135,14 @@ class Place:
         return f"byte {self.kind:02X} is no kind of record; here may stand {due}{self.start()}"
 
     def not_here(self) -> str:
-        due = choice(may_follow(self.data[: self.offset]))
-        return f"{kind_name(self.kind)} stands where only {due} may stand{self.start()}"
+        due = may_follow(self.data[: self.offset])
+        more = self.start()
+        if self.kind in (GUARD, END) and DIRECTION in due:
+            more = f"; {COUNTS[DIRECTION]}"
+            more += ", also without an input set" if INPUT + LOWER in due else ""
+        elif self.kind & 0xF0 == INPUT and self.bodies(DIRECTION):
+            more = "; the input set comes before the directions"
+        return f"{kind_name(self.kind)} stands where only {choice(due)} may stand{more}"
 
     def head(self) -> str:
         n, steps = self.body[0], int.from_bytes(self.body[1:], "little")

@@ -17,7 +17,7 @@ import files
 from layout import (
     BOX, DEFAULT_STEPS, MATRIX_UNIT, MAX_DIRECTION_ENTRY, MAX_DIRECTIONS, MAX_ENTRY,
     MAX_GENERATORS, MAX_GUARDS, MAX_LEVEL, MAX_N, MAX_POINTS, MAX_REACH, MAX_STEPS, MAX_VERTICES,
-    MIN_LEVEL, MIN_POINTS, VERTICES, ZONOTOPE, Model, Set, encode,
+    MIN_LEVEL, MIN_POINTS, VERTICES, ZONOTOPE, Model, Set, encode, no_input,
 )
 from spelling import DECIMAL, ENDLESS, WHOLE, plain, quoted, suggestion, two_readings
 
@@ -58,6 +58,7 @@ class Source:
 
     model: Model
     stated_steps: int
+    input_stated: bool  # or there is no input set, and the model's is that of `no_input`
     coordinates: tuple[str, ...]
     directions: tuple[str, ...]
     units: tuple[tuple[str, int] | None, ...]  # of each direction: the unit, and counts in one
@@ -66,7 +67,7 @@ class Source:
 
     @property
     def data(self) -> bytes:
-        return encode(self.model, self.stated_steps)
+        return encode(self.model, self.stated_steps, self.input_stated)
 
 
 class _Wrong(Exception):
@@ -302,6 +303,8 @@ class _Parser:
         word, rest = words[0], words[1:]
         allowed = self.allowed()
         guess = suggestion(word, allowed) if rest else None
+        if guess in ("initial", "input") and DECIMAL.fullmatch(rest[0]):
+            guess = None  # a form would follow, and no number
         hint = f" did you mean {guess!r}?" if guess else ""
         if guess is None:
             guess = self.left_out(words, allowed)
@@ -539,12 +542,9 @@ class _Parser:
         if missing:
             names = ", ".join(repr(self.coordinates[number]) for number in missing)
             self.tell(f"no row for {names}", place)
-        for which in ("initial", "input"):
-            if which not in self.sets:
-                if not self.lost_sets:
-                    self.tell(f"no {which} set")
-                continue
-            set_ = self.sets[which]
+        if "initial" not in self.sets and not self.lost_sets:
+            self.tell("no initial set")
+        for which, set_ in self.sets.items():
             if set_.form and not set_.doubtful and len(set_.points) < MIN_POINTS[set_.form]:
                 told = f"the {which} set is not complete: {SET_LIMITS[set_.form]}"
                 self.tell(told, set_.start)
@@ -558,23 +558,30 @@ class _Parser:
             self.tell_missing()
         if self.mistakes:
             raise self.failure()
-        names = tuple(self.directions)
-        initial, input_ = (
-            Set(set_.form, tuple(map(tuple, set_.points)))
-            for set_ in (self.sets["initial"], self.sets["input"])
-        )
+        n, names = len(self.coordinates), tuple(self.directions)
+        sets = {
+            which: Set(set_.form, tuple(map(tuple, set_.points)))
+            for which, set_ in self.sets.items()
+        }
         model = Model(
-            len(self.coordinates),
+            n,
             self.steps or DEFAULT_STEPS,
             tuple(map(tuple, self.matrix)),
-            initial,
-            input_,
+            sets["initial"],
+            sets.get("input", no_input(n)),
             tuple(map(tuple, self.directions.values())),
             tuple((names.index(name), level) for name, level in self.guards),
         )
-        units = tuple(self.units.get(name) for name in names)
-        rounded = tuple(self.rounded)
-        return Source(model, self.steps or 0, self.coordinates, names, units, self.time, rounded)
+        return Source(
+            model,
+            self.steps or 0,
+            "input" in sets,
+            self.coordinates,
+            names,
+            tuple(self.units.get(name) for name in names),
+            self.time,
+            tuple(self.rounded),
+        )
 
 
 def parse(text: str, name: str = "model", wrong: dict[int, str] | None = None) -> Source:

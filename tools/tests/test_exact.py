@@ -1,6 +1,7 @@
 """The exact program against the specification's figures, and against runs counted one by one."""
 
 import itertools
+import random
 import tempfile
 import unittest
 from fractions import Fraction
@@ -11,9 +12,10 @@ from helpers import box, run_tool, single
 import exact
 import listings
 import models
+import readerfiles
 from layout import (
-    BODY_LENGTHS, LONGEST_FILE, VERTICES, ZONOTOPE, Model, Set, direction, encode, guard, head,
-    point, row,
+    BODY_LENGTHS, BOX, LONGEST_FILE, VERTICES, ZONOTOPE, Model, Set, direction, encode, guard, head,
+    point, row, states_input,
 )
 from listings import Growth, Listing, Refusal, Sweep, Verdict
 
@@ -227,6 +229,145 @@ class Reader(unittest.TestCase):
         self.assertEqual(exact.read_model(data), model)
 
 
+class NoInput(unittest.TestCase):
+    """A direction straight after a complete initial set (File 6, File 10), and its neighbours."""
+
+    rows = head(1, 3) + row(0, [5])  # 30 bytes
+    # Each form at its least and at its largest count.
+    initial = {
+        "box": rows + point(0x10, [1]) + point(0x11, [2]),
+        "one generator": rows + point(0x12, [1]) + point(0x13, [2]),
+        "eight generators": rows + point(0x12, [1]) + point(0x13, [2]) * 8,
+        "one vertex": rows + point(0x14, [1]),
+        "sixteen vertices": rows + point(0x14, [1]) * 16,
+    }
+
+    def refused(self, data, number, offset):
+        self.assertEqual(exact.read_model(data), Refusal(number, offset), data.hex())
+
+    def test_case_4_without_its_input(self):
+        data = bytes.fromhex(
+            f"01 01 0300 02 00 00800000 {REST} 10 00000000 {REST} 11 64000000 {REST}"
+            f"30 01000000 {REST} 40 00 0D00000000000000 FF"
+        )
+        text = "model 1 3\ndir 0 spare 10\n0 100 0\n1 50 0\n2 25 0\n3 13 1\nguard 0 HIT 0\n"
+        self.assertEqual(exact.listing(data), text)
+
+    def test_the_input_is_the_box_from_zero_to_zero(self):
+        for what, start in self.initial.items():
+            with self.subTest(what):
+                read = exact.read_model(start + direction([1]) + b"\xff")
+                self.assertEqual(read.input, Set(BOX, ((0,), (0,))))
+                self.assertEqual(len(read.initial.points), (len(start) - 30) // 25)
+        for n in range(1, 7):
+            data = head(n, 3) + b"".join(row(i, []) for i in range(n)) + point(0x14, [7] * n)
+            read = exact.read_model(data + direction([1]) + guard(0, 1) + b"\xff")
+            self.assertEqual(read.input, box(*[(0, 0)] * n))
+            self.assertEqual((read.n, read.guards), (n, ((0, 1),)))
+
+    def test_behind_the_initial_set(self):
+        for what, start in self.initial.items():
+            at = len(start)
+            for record, number, offset in (
+                (b"", 1, at),
+                (direction([1]), 1, at + 25),
+                (direction([1])[:-1], 1, at),
+                (b"\x30", 1, at),
+                (direction([0, 1]), 7, at),
+                (direction([1_001]), 7, at),
+                (guard(0, 1), 3, at),
+                (b"\x40", 3, at),
+                (b"\xff", 3, at),
+                (b"\x31", 2, at),
+                (row(1, [5]), 3, at),
+                (point(0x21, [1]), 3, at),
+                (point(0x23, [1]), 3, at),
+                (point(0x20, [1]), 1, at + 25),
+                (point(0x22, [1]), 1, at + 25),
+                (point(0x24, [1]), 1, at + 25),
+            ):
+                with self.subTest(what):
+                    self.refused(start + record, number, offset)
+
+    def test_an_incomplete_set_is_refused(self):
+        vertex = self.rows + point(0x14, [1])  # 55 bytes
+        for start, number, offset in (
+            (b"", 3, 0),
+            (head(1, 3), 3, 4),
+            (head(2, 3) + row(0, [5]), 3, 30),
+            (self.rows, 3, 30),
+            (self.rows + point(0x10, [1]), 3, 55),
+            (self.rows + point(0x12, [1]), 3, 55),
+            (vertex + point(0x20, [0]), 3, 80),
+            (vertex + point(0x22, [0]), 3, 80),
+        ):
+            self.refused(start + direction([1]), number, offset)
+
+    def test_no_set_behind_a_direction(self):
+        for start in self.initial.values():
+            asked = start + direction([1])
+            for kind in (*range(0x20, 0x25), *range(0x10, 0x15)):
+                self.refused(asked + point(kind, [0]), 3, len(asked))
+                self.refused(asked + guard(0, 1) + point(kind, [0]), 3, len(asked) + 10)
+            self.refused(asked + guard(1, 1), 8, len(asked))
+            self.refused(asked + direction([1]) * 16, 9, len(asked) + 15 * 25)
+            self.refused(asked + b"\xff\0", 10, len(asked) + 1)
+
+    def damaged(self):
+        """Files that have no input set, and each of them damaged in many ways."""
+        rnd = random.Random(2)
+        for data in models.stream(12, 900):
+            if states_input(data):
+                continue
+            yield data
+            for _ in range(30):
+                at = rnd.randrange(len(data))
+                byte = bytes([rnd.choice((rnd.randrange(256), *BODY_LENGTHS))])
+                rest = rnd.choice((b"", byte, byte + data[at:], byte + data[at + 1 :]))
+                yield data[:at] + rest
+            yield data + rnd.randbytes(3)
+
+    def test_it_is_read_as_with_two_corners_of_zeros(self):
+        """The same model, or the same number 50 bytes later, unless it comes before the corners."""
+        replies = {"before": 0}
+        for data in (*(data for _, data in readerfiles.all_files()), *self.damaged()):
+            found = readerfiles.with_zero_corners(data)
+            if found is None:
+                continue
+            at, with_corners = found
+            self.assertEqual(with_corners[at : at + 50], b"\x20" + bytes(24) + b"\x21" + bytes(24))
+            expected = read = exact.read_model(data)
+            reply = "model"
+            if isinstance(read, Refusal):
+                reply = "before" if read.offset < at else read.number
+            if reply in range(1, 11):
+                expected = Refusal(read.number, read.offset + 50)
+            self.assertEqual(exact.read_model(with_corners), expected, data.hex())
+            replies[reply] = replies.get(reply, 0) + 1
+        self.assertEqual(set(replies), {"before", "model", 1, 2, 3, 7, 8, 9, 10})
+        self.assertGreater(min(replies.values()), 5, replies)
+
+    def test_no_input_is_checked_with_the_zero_input_alone(self):
+        """Runs 8: exact largest values are those of the initial corners, moved by the matrix."""
+        checked = 0
+        for data in models.stream(13, 400):
+            model = exact.read_model(data)
+            if isinstance(model, Refusal) or states_input(data) or model.steps > 16:
+                continue
+            self.assertEqual(exact.corners(model.input), [(0,) * model.n])
+            exact.check_accuracy(model, exact.listing_of(model))
+            states = [list(map(Fraction, state)) for state in exact.corners(model.initial)]
+            for k, values in enumerate(zip(*exact.exact_values(model))):
+                for entries, value in zip(model.directions, values):
+                    self.assertEqual(value, max(exact.dot(entries, state) for state in states), k)
+                states = [
+                    [exact.dot(entries, state) / 65_536 for entries in model.matrix]
+                    for state in states
+                ]
+            checked += 1
+        self.assertGreater(checked, 10)
+
+
 def values_by_runs(model):
     """The exact largest values over all corner runs, each counted whole by the run's definition."""
     largest = [[None] * (model.steps + 1) for _ in model.directions]
@@ -278,13 +419,15 @@ class ExactValues(unittest.TestCase):
         self.assertGreater(checked, 20)
 
     def test_accuracy_of_random_models(self):
-        checked = 0
+        checked = without_input = 0
         for data in models.stream(8, 250):
             model = exact.read_model(data)
             if not isinstance(model, Refusal) and exact.check_cost(model) < 100_000:
                 exact.check_accuracy(model, exact.listing_of(model))
                 checked += 1
+                without_input += not states_input(data)
         self.assertGreater(checked, 100)
+        self.assertGreater(without_input, 10)
 
 
 class Accuracy(unittest.TestCase):

@@ -58,6 +58,8 @@ class Examples(unittest.TestCase):
         self.assertIn("GROWTH", said["runaway"])
         unnamed = [name for name in self.names if source_of(name).stated_steps == 0]
         self.assertEqual(unnamed, ["receipt"])
+        still = [name for name in self.names if not source_of(name).input_stated]
+        self.assertEqual(still, ["cooling"])
         self.assertEqual((listing_of("receipt").steps, listing_of("cooling").steps), (120, 60))
         self.assertEqual(source_of("budget").model.input.form, VERTICES)
         self.assertEqual(source_of("head").model.initial.form, ZONOTOPE)
@@ -82,6 +84,22 @@ class Examples(unittest.TestCase):
         self.assertEqual([verdict.word for verdict in said], ["CLEAR"] * 3)
         first = listing_of("receipt").guards[0]
         self.assertEqual((first.word, 60 < first.step <= 120), ("HIT", True))
+
+    def test_cooling_with_corners_of_zeros(self):
+        """Its text has no input set; one from zero to zero gives the same listing and chart."""
+        text = (examples.FOLDER / "cooling.model").read_text()
+        self.assertNotIn("\ninput", text)
+        stated = text.replace("direction element", "input box\nlower 0 0 0\nupper 0 0 0\n"
+                                                   "direction element")
+        with tempfile.TemporaryDirectory() as name:
+            path = Path(name, "cooling.model")
+            path.write_text(stated)
+            made = {path.name: data for path, data in examples.made_from(path).items()}
+        here = {path.name: path.read_bytes() for path in examples.FOLDER.glob("cooling.*")}
+        for name in ("cooling.listing", "cooling.svg"):
+            self.assertEqual(made[name], here[name])
+        self.assertEqual(len(made["cooling.bin"]), len(here["cooling.bin"]) + 50)
+        self.assertEqual(exact.read_model(made["cooling.bin"]), source_of("cooling").model)
 
     def test_budget_as_a_box(self):
         """Its text says that the guard on `both` is HIT with the box around the vertices."""

@@ -8,10 +8,10 @@ import helpers  # noqa: F401
 
 import exact
 import models
-from layout import BOX, READ_LIMIT, VERTICES, ZONOTOPE
+from layout import BOX, READ_LIMIT, VERTICES, ZONOTOPE, no_input, states_input
 from listings import Refusal
 
-SEED, COUNT = 1, 1_000
+SEED, COUNT = 1, 1_500
 
 # A wrong answer's name, the text of `exact` that is changed, and what it becomes.
 EDITS = (
@@ -56,16 +56,44 @@ EDITS = (
     ("ninth_generator", "len(points) == MAX_POINTS[form]", "len(points) == MAX_POINTS[form] + 1"),
     ("seventeenth_direction", "len(directions) == MAX_DIRECTIONS", "len(directions) == 17"),
     ("seventeenth_guard", "len(guards) == MAX_GUARDS", "len(guards) == 17"),
+    ("input_set_needed", "INPUT + VERTEX, DIRECTION}", "INPUT + VERTEX}"),
+    *((f"input_set_needed_after_{form}", "allowed |= later",
+       f"allowed |= later - ({{DIRECTION}} if (part, form) == (INITIAL, {form!r}) else set())")
+      for form in (BOX, ZONOTOPE, VERTICES)),
+    ("input_left_blank", "input_ = no_input(n)", "input_ = Set(BOX, ())"),
+    ("initial_set_as_input", "input_ = no_input(n)", "input_ = initial"),
+    *((f"direction_after_{kind:02X}_alone", "            allowed |= later\n",
+       f"            allowed |= later\n"
+       f"        elif file.data[file.start] == {kind}:\n"
+       f"            allowed |= {{DIRECTION}}\n")
+      for kind in (0x10, 0x12, 0x20, 0x22)),
+)
+# The same with several changes.
+LARGER_EDITS = (
+    ("guard_or_end_behind_the_initial_set", (
+        ("INPUT + VERTEX, DIRECTION}", "INPUT + VERTEX, DIRECTION, GUARD, END}"),
+        ("if file.kind(later) == DIRECTION:", "if file.kind(later) in (DIRECTION, GUARD, END):"),
+        ("allowed = {DIRECTION}\n", "allowed = {DIRECTION, GUARD, END}\n"),
+    )),
+    ("input_set_behind_the_directions", (
+        ("allowed = {DIRECTION, GUARD, END}\n", "allowed = {DIRECTION, GUARD, END} | later\n"),
+        ("    guards: list[tuple[int, int]] = []\n",
+         "    if file.data[file.at] & 0xF0 == INPUT:\n"
+         "        input_ = _read_set(file, INPUT, n, {GUARD, END})\n"
+         "    guards: list[tuple[int, int]] = []\n"),
+    )),
 )
 
 
-def edited(old, new):
-    """The exact program with one text in it changed, which must stand there once."""
+def edited(*changes):
+    """The exact program with texts in it changed, each of which must stand there once."""
     with open(exact.__file__, encoding="utf-8") as file:
         source = file.read()
-    assert source.count(old) == 1, f"{old!r} stands {source.count(old)} times"
+    for old, new in changes:
+        assert source.count(old) == 1, f"{old!r} stands {source.count(old)} times"
+        source = source.replace(old, new)
     module = types.ModuleType("edited")
-    exec(compile(source.replace(old, new), "edited", "exec"), module.__dict__)
+    exec(compile(source, "edited", "exec"), module.__dict__)
     return module
 
 
@@ -84,14 +112,15 @@ class Strength(unittest.TestCase):
             return True
 
     def test_edits(self):
-        for name, old, new in EDITS:
+        edits = [(name, [(old, new)]) for name, old, new in EDITS]
+        for name, changes in (*edits, *LARGER_EDITS):
             with self.subTest(name):
-                program = edited(old, new)
+                program = edited(*changes)
                 found = any(self.differs(program, index) for index in range(COUNT))
                 self.assertTrue(found, f"no file of {COUNT} shows {name}")
 
     def test_no_edit(self):
-        program = edited("slow, plain", "plain, slow")
+        program = edited(("slow, plain", "plain, slow"))
         self.assertFalse(any(self.differs(program, index) for index in range(200)))
 
 
@@ -114,6 +143,22 @@ class Stream(unittest.TestCase):
         self.assertTrue(any(len(data) > READ_LIMIT for data in files))
         words = {said.word for model in accepted for said in exact.listing_of(model).guards}
         self.assertEqual(words, {"HIT", "UNKNOWN", "CLEAR", "GROWTH"})
+
+    def test_no_input(self):
+        """About one in ten of the accepted models, with every form and n; few state it."""
+        files = list(models.stream(SEED, 2_000))
+        replies = [(states_input(data), exact.read_model(data)) for data in files]
+        accepted = [(stated, model) for stated, model in replies if not isinstance(model, Refusal)]
+        zero = [stated for stated, model in accepted if model.input == no_input(model.n)]
+        without = [model for stated, model in accepted if not stated]
+        self.assertTrue(0.07 < len(zero) / len(accepted) < 0.14, (len(zero), len(accepted)))
+        self.assertTrue(0.7 < len(without) / len(zero) < 0.9, (len(without), len(zero)))
+        self.assertEqual({model.initial.form for model in without}, {BOX, ZONOTOPE, VERTICES})
+        self.assertEqual({model.n for model in without}, set(range(1, 7)))
+        refused = {
+            reply.number for stated, reply in replies if isinstance(reply, Refusal) and not stated
+        }
+        self.assertEqual(refused, set(range(1, 11)))
 
 
 if __name__ == "__main__":

@@ -12,7 +12,7 @@ import exact
 import files
 import models
 import pack
-from layout import VERTICES, ZONOTOPE, Model, Set, encode
+from layout import VERTICES, ZONOTOPE, Model, Set, encode, guard, states_input
 from listings import Refusal
 
 GOOD = """\
@@ -32,6 +32,10 @@ direction gap 1 -1
 guard gap -12
 guard warm 9223372036854775807
 """
+INPUT = "input vertices\n  vertex 0 0\n  vertex 5 -6\n"
+ZERO = "input box\n  lower 0 0\n  upper 0 0\n"
+NO_INPUT = GOOD.replace(INPUT, "")
+NO_INPUT_NOTE = "no input set: the input is zero in every coordinate"
 
 
 class Pack(unittest.TestCase):
@@ -84,6 +88,47 @@ class Pack(unittest.TestCase):
         self.assertNotIn("\nsteps", text)
         self.assertIn("\n# steps: the default, 120\n", text)
 
+    def test_input_left_out(self):
+        source, stated = pack.parse(NO_INPUT), pack.parse(GOOD.replace(INPUT, ZERO))
+        self.assertEqual((source.input_stated, stated.input_stated), (False, True))
+        self.assertEqual(source.model.input, box((0, 0), (0, 0)))
+        self.assertEqual(source.model, stated.model)
+        at = 4 + 2 * 26 + 2 * 25  # behind head, rows, centre and generator
+        self.assertEqual(source.data[at], 0x30)
+        corners = b"\x20" + bytes(24) + b"\x21" + bytes(24)
+        self.assertEqual(stated.data, source.data[:at] + corners + source.data[at:])
+
+    def test_input_left_out_is_unpacked_so(self):
+        """A file tells by its own records, and not by its model, whether its text has an input."""
+        note = "\n# input: none, zero in every coordinate\n"
+        without, stated = pack.parse(NO_INPUT).data, pack.parse(GOOD.replace(INPUT, ZERO)).data
+        self.assertIn(note, pack.unpack(without))
+        self.assertNotIn("\ninput", pack.unpack(without))
+        self.assertNotIn(note, pack.unpack(stated))
+        self.assertIn("\n" + ZERO, pack.unpack(stated))
+        for data in (without, stated):
+            self.assertEqual(pack.parse(pack.unpack(data)).data, data)
+        # Bytes 20 to 24 within records are no records.
+        numbers = NO_INPUT.replace("warm 1 0", "warm 32 36").replace("generator 3", "generator 34")
+        data = pack.parse(numbers).data[:-1] + guard(1, 0x2021222324232221) + b"\xff"
+        self.assertFalse(pack.read_source(data).input_stated)
+        self.assertEqual(pack.parse(pack.unpack(data)).data, data)
+
+    def test_input_stands_anywhere(self):
+        for text in (NO_INPUT + INPUT, NO_INPUT.replace("initial", INPUT + "initial"),
+                     NO_INPUT.replace("direction gap", INPUT + "direction gap")):
+            self.assertEqual(pack.parse(text), pack.parse(GOOD))
+
+    def test_notes(self):
+        rounded = "1 entry was rounded (~); the largest relative change is 0.00013 %, of ~0.97 in"
+        for text, told in (
+            (GOOD, []),
+            (GOOD.replace(INPUT, ZERO), []),
+            (NO_INPUT, [NO_INPUT_NOTE]),
+            (NO_INPUT.replace("0.5", "~0.97"), [f"{rounded} row 'hot'", NO_INPUT_NOTE]),
+        ):
+            self.assertEqual(pack.notes(pack.parse(text)), told)
+
     def test_decimals(self):
         for word, scaled in (
             ("2", 131_072), ("-2", -131_072), (".5", 32_768), ("+1.", 65_536),
@@ -112,14 +157,18 @@ class Pack(unittest.TestCase):
             self.assertEqual(pack.rounding(pack.parse(GOOD.replace("0.5 -0.25", row))), told)
 
     def test_round_trip(self):
-        count = 0
+        count = without_input = 0
         for data in models.stream(11, 150):
             if isinstance(exact.read_model(data), Refusal):
                 continue
             source = pack.read_source(data)
+            self.assertEqual(source.input_stated, states_input(source.data))
+            self.assertEqual(len(source.data), len(data))
             self.assertEqual(pack.parse(pack.write_text(source)).data, source.data)
             count += 1
+            without_input += not source.input_stated
         self.assertGreater(count, 60)
+        self.assertGreater(without_input, 5)
         data = pack.parse(GOOD).data
         self.assertEqual(pack.parse(pack.unpack(data)).data, data)
 
@@ -183,7 +232,9 @@ class Messages(unittest.TestCase):
             ("initial zonotope\n  centre 1 2\n  generator 3 -4",
              "initial box\nlower 1 2", 6, "one lower and one upper corner"),
             ("input vertices", "initial vertices", 9, "a second initial set"),
-            ("input vertices\n  vertex 0 0\n  vertex 5 -6\n", "", 12, "no input set"),
+            ("initial zonotope\n  centre 1 2\n  generator 3 -4\n", "", 12, "no initial set"),
+            ("input vertices", "input box", 10, "'vertex' here: a box"),
+            ("  vertex 0 0\n  vertex 5 -6\n", "", 9, "the input set is not complete"),
             ("guard gap -12\n", "vertex 1 -1\nvertex 1 1\n", 14,
              "stands below no 'initial' or 'input'"),
             ("input vertices\n", "direction x 1 1\n", 10, "stands below no 'initial' or 'input'"),
@@ -212,6 +263,28 @@ class Messages(unittest.TestCase):
         ):
             with self.subTest(new[:40]):
                 self.refused(old, new, place, message)
+
+    def test_no_input_set(self):
+        """Its absence is no mistake, and none is told beside what may have been meant for it."""
+        for old, new, place, message in (
+            ("input vertices", "blob vertices", 9, "unknown word 'blob'"),
+            ("input vertices\n", "", 9, "'vertex' here: a zonotope has one centre"),
+            (INPUT, "vertex 0 0\n", 9, "'vertex' here: a zonotope has one centre"),
+            (INPUT, "initial box\nlower 0 0\nupper 1 1\n", 9, "a second initial set"),
+            (INPUT, "steps 8\n", 9, "a second 'steps'"),
+            (INPUT + "direction warm 1 0", "warm 1 0", 9, "did you mean 'direction warm ..'?"),
+        ):
+            with self.subTest(new):
+                self.refused(old, new, place, message)
+        neither = NO_INPUT.replace("initial zonotope\n  centre 1 2\n  generator 3 -4\n", "")
+        self.assertEqual(mistakes(neither), ["9: no initial set"])
+        # `in` and `u` may stand for `input`, but not before numbers.
+        for name in ("in", "u"):
+            text = NO_INPUT.replace("direction gap", name).replace("guard gap", f"guard {name}")
+            (said,) = mistakes(text)
+            self.assertIn(f"did you mean 'direction {name} ..'?", said)
+            (said,) = mistakes(GOOD.replace("input", name))
+            self.assertIn("did you mean 'input'?", said)
 
     def test_too_many_directions(self):
         extra = "".join(f"direction e{i} 1 1\n" for i in range(16))
@@ -341,6 +414,8 @@ class Messages(unittest.TestCase):
             ("hot cold", "= hot cold", "2: '=' is no name: "),
             ("hot cold", "hot,cold", "2: 'hot,cold' is no name: "),
             ("initial", "initial zonotope\ninitial", "7: a second initial set"),
+            ("hot cold\nsteps 7\nrow hot 0.5", "2\nsteps 7\nx0 0.5",
+             "4: unknown word 'x0'; did you mean 'row x0 ..'?"),
             ("row hot 0.5 -0.25", "row hot ~ 0.5 -0.25",
              "4: expected 2 numbers, one for each coordinate, found 3; ~ stands right before"),
         ):
@@ -352,8 +427,8 @@ class Messages(unittest.TestCase):
     def test_nothing_is_told_that_only_follows(self):
         """Of a text with one word changed there is one mistake, or a few in the same row."""
         rnd = random.Random(3)
-        rows = GOOD.splitlines()
         for _ in range(600):
+            rows = rnd.choice((GOOD, NO_INPUT)).splitlines()
             at = rnd.randrange(2, len(rows))
             words = rows[at].partition("#")[0].split()
             words[rnd.randrange(1, len(words))] = rnd.choice(("1e99", "?", "0,5", "2.7182", "-"))
@@ -442,6 +517,27 @@ class Command(helpers.FolderTest):
             self.assertEqual(out, pack.parse(text.decode()).data)
         self.assertEqual(run_tool("pack.py", "pack", "--quiet", "-", stdin=text)[1], "")
 
+    def test_no_input_set_is_told_unless_quiet(self):
+        text = NO_INPUT.encode()
+        for options, name in (((), "standard input"), (("--name", "rail"), "rail")):
+            out, said, status = run_tool("pack.py", "pack", *options, "-", stdin=text)
+            self.assertEqual((said, status), (f"{name}: {NO_INPUT_NOTE}\n", 0))
+            self.assertEqual(out, pack.parse(NO_INPUT).data)
+        self.assertEqual(run_tool("pack.py", "pack", "--quiet", "-", stdin=text), (out, "", 0))
+        both = run_tool("pack.py", "pack", "-", stdin=text.replace(b"0.5", b"~0.97"))[1]
+        self.assertRegex(both, rf"^standard input: 1 entry .*\nstandard input: {NO_INPUT_NOTE}\n$")
+        # A wrong text has its mistakes alone.
+        wrong = run_tool("pack.py", "pack", "-", stdin=text.replace(b"steps 7", b"steps 0"))[1]
+        self.assertEqual(wrong.count("\n"), 1)
+
+    def test_no_input_set_is_unpacked_and_listed(self):
+        data = pack.parse(NO_INPUT).data
+        out, said, status = run_tool("pack.py", "unpack", "-", stdin=data)
+        self.assertEqual((out.decode(), said, status), (pack.unpack(data), "", 0))
+        listing = exact.listing(data).encode()
+        for given in (data, out, NO_INPUT.encode()):
+            self.assertEqual(run_tool("exact.py", "-", stdin=given), (listing, "", 0))
+
     def test_the_name_in_messages(self):
         wrong = GOOD.replace("steps 7", "steps 0").encode()
         for options, name in (((), "standard input"), (("--name", "rail"), "rail")):
@@ -463,6 +559,14 @@ class Command(helpers.FolderTest):
         again = run_tool("pack.py", "unpack", "-", "--names", names, stdin=data)
         self.assertEqual(again, (out, "", 0))
         self.assertNotIn(b"hot", run_tool("pack.py", "unpack", "-", stdin=data)[0])
+        # Neither of the two needs an input set, and none is taken from the text.
+        names = self.write("still.model", text.replace(INPUT, ""))
+        again = run_tool("pack.py", "unpack", "-", "--names", names, stdin=data)
+        self.assertEqual(again, (out, "", 0))
+        names, still = self.write("names.model", text), pack.parse(NO_INPUT).data
+        out, said, status = run_tool("pack.py", "unpack", "-", "--names", names, stdin=still)
+        self.assertEqual((said, status), ("", 0))
+        self.assertEqual(pack.parse(out.decode()), pack.parse(text.replace(INPUT, "")))
 
     def test_names_that_do_not_fit(self):
         data = pack.parse(GOOD).data
@@ -486,6 +590,7 @@ class Command(helpers.FolderTest):
             self.assertEqual(status, 0)
             self.assertIn(b"\n    direction NAME ENTRY ..       1 to 16, whole numbers\n", out)
             self.assertIn(b"\n    unit DIRECTION UNIT [COUNTS]  ", out)
+            self.assertIn(b" set, in the same way; left out, the input is zero\n", out)
             self.assertIn(b" the file leaves them to the default, 120\n", out)
 
     def test_bad_input(self):

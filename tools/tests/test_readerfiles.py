@@ -6,7 +6,9 @@ from pathlib import Path
 
 from helpers import run_tool
 
+import exact
 import readerfiles
+from layout import point, states_input
 
 
 class ReaderFiles(unittest.TestCase):
@@ -47,13 +49,45 @@ class ReaderFiles(unittest.TestCase):
             ("a wrong row without its last byte", "refused 1 at 4"),
             ("its first 115 bytes", "refused 1 at 115"),
             ("all bits changed of byte 115", "refused 2 at 115"),
+            ("after 11: kind 30 alone", "refused 1 at 80"),
+            ("after 13: kind 30 alone", "refused 1 at 80"),
+            ("after 14: kind 30 alone", "refused 1 at 55"),
+            ("after 10: kind 30 alone", "refused 3 at 55"),
+            ("after 12: kind 30 alone", "refused 3 at 55"),
+            ("after 14: kind FF alone", "refused 3 at 55"),
+            # 4 + 2 * 26 is 56; then 25 for each point.
+            ("initial box of count 2, then a direction", "refused 1 at 131"),
+            ("initial box of count 2, then a direction without its last byte", "refused 1 at 106"),
+            ("initial box of count 2, then a guard", "refused 3 at 106"),
+            ("initial box of count 2, then one 11 more", "refused 3 at 106"),
+            ("initial zonotope of count 2, then the end", "refused 3 at 106"),
+            ("initial zonotope of count 2, then one 13 more", "refused 1 at 131"),
+            ("initial zonotope of count 9, then a direction", "refused 1 at 306"),
+            ("initial zonotope of count 9, then one 13 more", "refused 9 at 281"),
+            ("initial vertices of count 1, then no byte", "refused 1 at 81"),
+            ("initial vertices of count 1, then kind 2F alone", "refused 2 at 81"),
+            ("initial vertices of count 16, then a direction beyond its limit", "refused 7 at 456"),
+            ("initial vertices of count 16, then record 22", "refused 1 at 481"),
+            ("a direction after row 0 of 2", "refused 3 at 30"),
+            ("a direction after 12 alone", "refused 3 at 81"),
+            ("a direction after 20 alone", "refused 3 at 106"),
+            ("no input set: 20 after a direction", "refused 3 at 106"),
+            ("no input set: 14 after a direction", "refused 3 at 106"),
+            ("no input set: shortest with vertices", "model 1 1"),
+            ("no input set: longest with vertices", "model 6 256"),
+            ("input set from zero to zero: longest with vertices", "model 6 256"),
+            ("no input set: the head says 0 steps", "model 1 120"),
+            ("no input set: any numbers beyond n", "model 1 3"),
+            ("no input set: a 17th direction", "refused 9 at 481"),  # 81 + 16 * 25
+            ("no input set: guard on direction 1 of 1", "refused 8 at 106"),
+            ("no input set: the longest file, then a byte", "refused 10 at 1121"),  # 1,521 - 400
         ):
             self.assertEqual(self.replies.get(what), reply, what)
 
     def test_every_number(self):
         refused = [reply for reply in self.replies.values() if reply.startswith("refused")]
         self.assertEqual({int(reply.split()[1]) for reply in refused}, set(range(1, 11)))
-        self.assertLess(len(self.files), 650)
+        self.assertLess(len(self.files), 700)
 
     def test_a_head_that_says_0_is_read_as_one_that_says_120(self):
         """File 4, of every file with a whole head, whatever it holds and wherever it is refused."""
@@ -68,13 +102,36 @@ class ReaderFiles(unittest.TestCase):
         self.assertLessEqual({"model 1 120", "model 6 120", *range(1, 11)}, replies)
 
     def test_places(self):
-        """The start and behind each of 14 kinds; 30 pairs of a place and a kind are allowed."""
+        """The start and behind each of 14 kinds; 33 pairs of a place and a kind are allowed."""
         alone = [reply for what, reply in self.replies.items() if what.endswith(" alone")
                  and what.startswith(("at the start", "after"))]
         self.assertEqual(len(readerfiles.places()), 15)
         self.assertEqual(len(alone), 15 * 16)
         wrong = [reply for reply in alone if reply.startswith(("refused 2", "refused 3"))]
-        self.assertEqual(len(alone) - len(wrong), 30)
+        self.assertEqual(len(alone) - len(wrong), 33)
+
+    def test_no_input_set(self):
+        """Whole models without one are read as the same files with two corners of zeros."""
+        files, zero = dict(self.files), "input set from zero to zero: "
+        stated = [what for what in files if what.startswith(zero)]
+        self.assertEqual(len(stated), 11)
+        for what in stated:
+            without = files[what.replace(zero, "no input set: ")]
+            self.assertFalse(states_input(without), what)
+            self.assertEqual(len(files[what]), len(without) + 50, what)
+            self.assertEqual(exact.read_model(files[what]), exact.read_model(without), what)
+
+    def test_with_zero_corners(self):
+        corners = b"\x20" + bytes(24) + b"\x21" + bytes(24)
+        rows, asked = readerfiles.ROWS, readerfiles.ASKED
+        start = rows + point(0x14, [1, 2])
+        for behind in (asked, asked[:1], asked[:-1], asked + b"\xff", asked + asked):
+            found = readerfiles.with_zero_corners(start + behind)
+            self.assertEqual(found, (len(start), start + corners + behind))
+        other = start + point(0x24, [0, 0]) + asked
+        for data in (b"", start, start + b"\xff" + asked, start + b"\x31" + asked, other,
+                     rows + asked, rows + point(0x10, [1, 2]) + asked):
+            self.assertIsNone(readerfiles.with_zero_corners(data))
 
     def test_written(self):
         with tempfile.TemporaryDirectory() as folder:

@@ -18,6 +18,10 @@ FIRST_POINTS = (
     "the lower corner of the initial set (10), the centre of the initial set (12) or a vertex of"
     " the initial set (14)"
 )
+FIRST_INPUTS = (
+    "the lower corner of the input set (20), the centre of the input set (22), a vertex of the"
+    " input set (24)"
+)
 START = "a packed model starts with byte 01"
 
 
@@ -50,8 +54,35 @@ class Words(unittest.TestCase):
         self.told(ROWS + point(0x12, [1]) + point(0x24, [1]),
                   "refused 3 at 55: a vertex of the input set (24) stands where only a generator of"
                   " the initial set (13) may stand")
+        self.told(ROWS + point(0x10, [1]) + direction([1]),
+                  "a direction (30) stands where only the upper corner of the initial set (11) may")
         # A list that is full is not offered.
         self.told(ASKED + direction([1]) * 15 + head(1, 1), "only a guard (40) or the end (FF) may")
+
+    def test_3_behind_the_initial_set(self):
+        """A direction is offered too, and is said to be needed."""
+        needed = "; a model has 1 to 16 directions"
+        for start, more in (
+            (ROWS + point(0x10, [1]) + point(0x11, [1]), ""),
+            (ROWS + point(0x12, [1]) + point(0x13, [1]), "a generator of the initial set (13), "),
+            (ROWS + point(0x12, [1]) + point(0x13, [1]) * 8, ""),
+            (ROWS + point(0x14, [1]), "a vertex of the initial set (14), "),
+        ):
+            due = f"{more}{FIRST_INPUTS} or a direction (30)"
+            for record, name in ((guard(0, 1), "a guard (40)"), (b"\xff", "the end (FF)")):
+                self.told(start + record, f"refused 3 at {len(start)}: {name} stands where only"
+                                          f" {due} may stand{needed}, also without an input set")
+            self.told(start, f"the file ends where {due} should come")
+            self.told(start + b"\x31", f"here may stand {due}")
+            self.told(start + direction([0]), "direction 0 (the first): its entry is zero;")
+        said = refusal.message("rail", SETS + guard(0, 1))
+        self.assertTrue(said.endswith(f"a direction (30) may stand{needed}"), said)
+
+    def test_3_an_input_set_behind_a_direction(self):
+        for start in (ROWS + point(0x14, [1]) + direction([1]), ASKED, ASKED + guard(0, 1)):
+            self.told(start + point(0x20, [1]),
+                      "the lower corner of the input set (20) stands where only ",
+                      "the end (FF) may stand; the input set comes before the directions")
 
     def test_4_the_head(self):
         self.told(head(7, 3), "refused 4 at 0: the head: n is 7; it must be 1 to 6")
@@ -112,7 +143,7 @@ class Words(unittest.TestCase):
         """Number and offset are those of the replies, and no sentence serves two numbers."""
         numbers = {}
         replies = (ROOT / "crates" / "readings" / "stdout").read_text().splitlines()
-        self.assertEqual(len(replies), 601)
+        self.assertEqual(len(replies), 686)
         for name, reply in (line.split(": ") for line in replies):
             data = (ROOT / "crates" / "readings" / "data" / name).read_bytes()
             said = refusal.message("f", data)
