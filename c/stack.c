@@ -261,9 +261,9 @@ static void put_set(struct model *m, int first_kind, int set)
     }
 }
 
-/* The largest model: 6 coordinates, 256 steps, 16 directions, 16 guards. An input set of NO_INPUT has no records. */
 #define NO_INPUT 3
 
+/* The largest model: 6 coordinates, 256 steps, 16 directions, 16 guards. An input set of NO_INPUT has no records. */
 static struct model largest(int32_t entry, int initial, int input)
 {
     struct model m;

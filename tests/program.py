@@ -33,7 +33,7 @@ import exact  # noqa: E402
 import readerfiles  # noqa: E402
 from layout import (  # noqa: E402
     BOX, MAX_DIRECTIONS, MAX_GUARDS, MAX_N, MAX_REACH, MAX_STEPS, VERTICES, ZONOTOPE, Model, Set, encode,
-    no_input,
+    zero_box,
 )
 
 
@@ -128,7 +128,7 @@ class Text(unittest.TestCase):
             (131_072, 0, 11, "dir 0 growth 11/"),
         ):
             initial = Set(BOX, ((0,), (largest_,)))
-            model = Model(1, steps, ((entry,),), initial, no_input(1), ((1,),), ())
+            model = Model(1, steps, ((entry,),), initial, zero_box(1), ((1,),), ())
             text = f"model 1 {steps}/{rows}".replace("/", "\n")
             for stated in (False, True):
                 self.assertEqual(reply(encode(model, input_stated=stated)).decode(), text)

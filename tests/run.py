@@ -278,7 +278,7 @@ class Words(Clone):
             self.assertEqual((done.returncode, done.stderr), (0, b""))
             for part in (b"usage: ./run [--quiet] MODEL", b"--version", b"tools/pack.py", b"  0  ", b"  1  ", b"  2  "):
                 self.assertIn(part, done.stdout)
-            self.assertRegex(done.stdout, rb"rounded \(~\), and that it has no input set, .*--quiet")
+            self.assertRegex(done.stdout, rb"rounded \(~\) .* no input set, where it has none;[^.]*--quiet")
 
     def test_the_examples_of_help_work(self) -> None:
         (self.clone / "examples").symlink_to(EXAMPLES)

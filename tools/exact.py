@@ -29,7 +29,7 @@ from layout import (
     BODY_LENGTHS, BOX, CENTRE, DEFAULT_STEPS, DIRECTION, DIRECTION_UNIT, END, GROWTH_LIMIT, GUARD,
     HEAD, INITIAL, INPUT, LOWER, MATRIX_UNIT, MAX_DIRECTION_ENTRY, MAX_DIRECTIONS, MAX_ENTRY,
     MAX_GUARDS, MAX_N, MAX_POINTS, MAX_REACH, MAX_SPARE, MAX_STEPS, MIN_POINTS, POINT_KINDS,
-    READ_LIMIT, ROW, VERTEX, ZONOTOPE, Model, Set, Vector, no_input,
+    READ_LIMIT, ROW, VERTEX, ZONOTOPE, Model, Set, Vector, zero_box,
 )
 from listings import CLEAR, GROWTH, HIT, UNKNOWN, Growth, Listing, Refusal, Sweep, Verdict
 
@@ -138,7 +138,7 @@ def _read(file: _File) -> Model:
     later = {INPUT + LOWER, INPUT + CENTRE, INPUT + VERTEX, DIRECTION}
     initial = _read_set(file, INITIAL, n, later)
     if file.kind(later) == DIRECTION:
-        input_ = no_input(n)
+        input_ = zero_box(n)
     else:
         input_ = _read_set(file, INPUT, n, later={DIRECTION})
 

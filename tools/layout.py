@@ -62,8 +62,8 @@ class Set:
     points: tuple[Vector, ...]
 
 
-def no_input(n: int) -> Set:
-    """The input set of a file that has none: the box from zero to zero (File 10)."""
+def zero_box(n: int) -> Set:
+    """The box from zero to zero: the input set of a file that has none (File 10)."""
     return Set(BOX, ((0,) * n,) * 2)
 
 
@@ -119,7 +119,7 @@ def records(
     """The records of a model.
 
     `stated_steps` is what the head says where that is not K. An input set that is not stated has
-    no records, and the file is read with that of `no_input`, whatever the model has.
+    no records, and the file is read with that of `zero_box`, whatever the model has.
     """
     return [
         head(model.n, model.steps if stated_steps is None else stated_steps),

@@ -22,7 +22,7 @@ from layout import (
     BODY_LENGTHS, BOX, DIRECTION, END, GUARD, HEAD, INITIAL, INPUT, LONGEST_FILE, MATRIX_UNIT,
     MAX_DIRECTION_ENTRY, MAX_DIRECTIONS, MAX_ENTRY, MAX_GUARDS, MAX_LEVEL, MAX_N, MAX_POINTS,
     MAX_REACH, MAX_STEPS, MIN_LEVEL, READ_LIMIT, ROW, VERTICES, ZONOTOPE, Model, Set, Vector, guard,
-    head, no_input, point, records,
+    head, zero_box, point, records,
 )
 from listings import Growth
 
@@ -183,7 +183,7 @@ def random_model(rng: random.Random) -> Model:
     elif choice < 0.032:
         model = _largest(rng)
     if rng.random() < 0.08:
-        model = replace(model, input=no_input(model.n))
+        model = replace(model, input=zero_box(model.n))
     return replace(model, guards=_guards(rng, model))
 
 
@@ -200,7 +200,7 @@ def _guards(rng: random.Random, model: Model) -> tuple[tuple[int, int], ...]:
 
 def _records(rng: random.Random, model: Model, stated_steps: int | None = None) -> list[bytes]:
     """The records of a model, most of the time without those of an input set that is zero."""
-    left_out = model.input == no_input(model.n) and rng.random() < 0.8
+    left_out = model.input == zero_box(model.n) and rng.random() < 0.8
     return records(model, stated_steps, input_stated=not left_out)
 
 
@@ -304,9 +304,10 @@ def _of_part(parts: list[bytes], part: int) -> list[int]:
 
 
 def _with_wrong_sets(rng: random.Random, model: Model) -> list[bytes]:
-    """The records of a model with the input set left out, short, or behind the directions.
+    """The records of a model with an input set that is short, behind the directions, or left out.
 
-    Or both sets are wrong: there is no input set, and of the initial one the first point alone.
+    The last is right. Or both sets are wrong: there is no input set, and of the initial one the
+    first point alone.
     """
     parts = _records(rng, model)
     initial, input_ = _of_part(parts, INITIAL), _of_part(parts, INPUT)

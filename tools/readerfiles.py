@@ -22,7 +22,7 @@ from layout import (
     BODY_LENGTHS, BOX, CENTRE, DEFAULT_STEPS, DIRECTION, END, GENERATOR, GUARD, HEAD, INITIAL,
     INPUT, LOWER, MAX_DIRECTION_ENTRY, MAX_DIRECTIONS, MAX_ENTRY, MAX_GUARDS, MAX_LEVEL, MAX_N,
     MAX_POINTS, MAX_REACH, MAX_STEPS, MIN_POINTS, MIN_LEVEL, POINT_KINDS, READ_LIMIT, ROW, UPPER,
-    VERTEX, VERTICES, ZONOTOPE, Model, Set, direction, encode, guard, head, no_input, offsets,
+    VERTEX, VERTICES, ZONOTOPE, Model, Set, direction, encode, guard, head, zero_box, offsets,
     point, records, row, set_records,
 )
 from listings import Refusal
@@ -65,7 +65,7 @@ SAMPLE = Model(  # Listing 8
 # The file that is cut and changed everywhere.
 SMALL = replace(made_model(VERTICES), guards=((0, 2),))
 WIDE = replace(made_model(BOX, n=2), guards=((0, 5),))
-# The rows of a file with n 2, and a direction.
+# The head and the rows of a file with n 2, and a direction.
 ROWS = head(2, 3) + row(0, [32_768, 1]) + row(1, [0, 16_384])
 ASKED = direction([1, -1])
 # For the entries beyond n, where n is 1.
@@ -88,7 +88,7 @@ def places() -> dict[int, bytes]:
 
 
 def with_zero_corners(data: bytes) -> tuple[int, bytes] | None:
-    """Where a direction stands straight after the initial set, and the file with corners before it.
+    """Where a direction is straight after a complete initial set, and the file with corners there.
 
     The corners are the two records of zeros that stand for what is left out (File 10).
     """
@@ -294,7 +294,7 @@ def no_input_files() -> Iterator[File]:
     whole |= {f"n {n}": made_model(form, n) for n, form in zip(range(2, MAX_N), FORMS * 2)}
     for what, model in whole.items():
         yield f"no input set: {what}", encode(model, input_stated=False)
-        zero = replace(model, input=no_input(model.n))
+        zero = replace(model, input=zero_box(model.n))
         yield f"input set from zero to zero: {what}", encode(zero)
     yield "no input set: the head says 0 steps", encode(SAMPLE, stated_steps=0, input_stated=False)
     start = head(1, 3) + row(0, [32_768, *RUBBISH]) + point(INITIAL + VERTEX, [5, *RUBBISH])

@@ -17,7 +17,7 @@ import files
 from layout import (
     BOX, DEFAULT_STEPS, MATRIX_UNIT, MAX_DIRECTION_ENTRY, MAX_DIRECTIONS, MAX_ENTRY,
     MAX_GENERATORS, MAX_GUARDS, MAX_LEVEL, MAX_N, MAX_POINTS, MAX_REACH, MAX_STEPS, MAX_VERTICES,
-    MIN_LEVEL, MIN_POINTS, VERTICES, ZONOTOPE, Model, Set, encode, no_input,
+    MIN_LEVEL, MIN_POINTS, VERTICES, ZONOTOPE, Model, Set, encode, zero_box,
 )
 from spelling import DECIMAL, ENDLESS, WHOLE, plain, quoted, suggestion, two_readings
 
@@ -58,7 +58,7 @@ class Source:
 
     model: Model
     stated_steps: int
-    input_stated: bool  # or there is no input set, and the model's is that of `no_input`
+    input_stated: bool  # or there is no input set, and the model's is that of `zero_box`
     coordinates: tuple[str, ...]
     directions: tuple[str, ...]
     units: tuple[tuple[str, int] | None, ...]  # of each direction: the unit, and counts in one
@@ -453,7 +453,8 @@ class _Parser:
             self.sets[which] = self.open
         if words and words[0] != form:
             hint = f"; did you mean {form!r}?" if form else ";"
-            self.tell(f"unknown form {quoted(words[0])}{hint} {takes}")
+            left_out = ", and is left out where there is no input" if which == "input" else ""
+            self.tell(f"unknown form {quoted(words[0])}{hint} {takes}{left_out}")
         elif len(words) != 1:
             self.tell(f"{takes}; its points stand in rows below it")
 
@@ -568,7 +569,7 @@ class _Parser:
             self.steps or DEFAULT_STEPS,
             tuple(map(tuple, self.matrix)),
             sets["initial"],
-            sets.get("input", no_input(n)),
+            sets.get("input", zero_box(n)),
             tuple(map(tuple, self.directions.values())),
             tuple((names.index(name), level) for name, level in self.guards),
         )

@@ -8,7 +8,7 @@ import helpers  # noqa: F401
 
 import exact
 import models
-from layout import BOX, READ_LIMIT, VERTICES, ZONOTOPE, no_input, states_input
+from layout import BOX, READ_LIMIT, VERTICES, ZONOTOPE, zero_box, states_input
 from listings import Refusal
 
 SEED, COUNT = 1, 1_500
@@ -60,8 +60,8 @@ EDITS = (
     *((f"input_set_needed_after_{form}", "allowed |= later",
        f"allowed |= later - ({{DIRECTION}} if (part, form) == (INITIAL, {form!r}) else set())")
       for form in (BOX, ZONOTOPE, VERTICES)),
-    ("input_left_blank", "input_ = no_input(n)", "input_ = Set(BOX, ())"),
-    ("initial_set_as_input", "input_ = no_input(n)", "input_ = initial"),
+    ("input_left_blank", "input_ = zero_box(n)", "input_ = Set(BOX, ())"),
+    ("initial_set_as_input", "input_ = zero_box(n)", "input_ = initial"),
     *((f"direction_after_{kind:02X}_alone", "            allowed |= later\n",
        f"            allowed |= later\n"
        f"        elif file.data[file.start] == {kind}:\n"
@@ -149,7 +149,7 @@ class Stream(unittest.TestCase):
         files = list(models.stream(SEED, 2_000))
         replies = [(states_input(data), exact.read_model(data)) for data in files]
         accepted = [(stated, model) for stated, model in replies if not isinstance(model, Refusal)]
-        zero = [stated for stated, model in accepted if model.input == no_input(model.n)]
+        zero = [stated for stated, model in accepted if model.input == zero_box(model.n)]
         without = [model for stated, model in accepted if not stated]
         self.assertTrue(0.07 < len(zero) / len(accepted) < 0.14, (len(zero), len(accepted)))
         self.assertTrue(0.7 < len(without) / len(zero) < 0.9, (len(without), len(zero)))

@@ -318,6 +318,10 @@ class Messages(unittest.TestCase):
         )
         self.refused("input vertices", "input vertex", 9,
                      "did you mean 'vertices'? input takes one of box, zonotope, vertices")
+        for form in ("none", "zero", "0"):
+            self.refused(INPUT, f"input {form}\n", 9,
+                         f"unknown form {form!r}; input takes one of box, zonotope, vertices, and"
+                         " is left out where there is no input")
         self.refused("steps 7", "blob 7", 3, "unknown word 'blob'; allowed here: steps, time, row")
         self.refused("row hot 0.5", "0.5", 4, "did you mean 'row 0.5 ..'?")
 
@@ -526,6 +530,12 @@ class Command(helpers.FolderTest):
         self.assertEqual(run_tool("pack.py", "pack", "--quiet", "-", stdin=text), (out, "", 0))
         both = run_tool("pack.py", "pack", "-", stdin=text.replace(b"0.5", b"~0.97"))[1]
         self.assertRegex(both, rf"^standard input: 1 entry .*\nstandard input: {NO_INPUT_NOTE}\n$")
+        # Without its first row the input set joins the initial one, and the note is the only sign.
+        zonotope = "zonotope\n  centre 1 2\n  generator 3 -4\ninput vertices\n"
+        joined = GOOD.replace(zonotope, "vertices\n")
+        out, said, status = run_tool("pack.py", "pack", "-", stdin=joined.encode())
+        self.assertEqual((said, status), (f"standard input: {NO_INPUT_NOTE}\n", 0))
+        self.assertEqual(exact.read_model(out).initial, Set(VERTICES, ((0, 0), (5, -6))))
         # A wrong text has its mistakes alone.
         wrong = run_tool("pack.py", "pack", "-", stdin=text.replace(b"steps 7", b"steps 0"))[1]
         self.assertEqual(wrong.count("\n"), 1)

@@ -136,7 +136,7 @@ getD-filled f i xs j d h =
 
 -- ---- a list of one value, which is also what it has beyond its end
 
-pub getD-all : {A : Type 0} (n i : ℕ) (a : A) → getD (replicate n a) i a ≡ a
-getD-all zero i a = refl
-getD-all (suc n) zero a = refl
-getD-all (suc n) (suc i) a = getD-all n i a
+pub getD-replicate-default : {A : Type 0} (n i : ℕ) (a : A) → getD (replicate n a) i a ≡ a
+getD-replicate-default zero i a = refl
+getD-replicate-default (suc n) zero a = refl
+getD-replicate-default (suc n) (suc i) a = getD-replicate-default n i a

@@ -11,14 +11,17 @@ use lib.Dec.{leb}
 use lib.ListN.{length, drop, length-append}
 use Rattle.reachability.specs.Limits.{accepted}
 use Rattle.reader.specs.Models.{usualSteps, start}
+use Rattle.records.specs.Records.{recordAt}
+use Rattle.records.proofs.RecordAt.{Reaches}
+use Rattle.reader.specs.Refusals.{refusal}
 use Rattle.reader.specs.Reading.{stopFor, readModel}
+use Rattle.reader.specs.NoInput.{NoInputAt, zeroCorners, putIn, movedStatus}
 use Rattle.reader.specs.declared.Reading.{Reading}
 use Rattle.reader.specs.declared.Status.{Status}
 use Rattle.reader.specs.declared.Status.the-variants.{Read}
 use Rattle.reader.proofs.ReadModels.{readModel-accepted}
-use Rattle.reader.proofs.ReadingRest.{movedStatus}
 use Rattle.reader.proofs.DefaultSteps.{readModel-default}
-use Rattle.reader.proofs.NoInput.{NoInputAt, zeroCorners, putIn, readModel-no-input}
+use Rattle.reader.proofs.NoInput.{readModel-no-input, readModel-refused-before}
 use Rattle.text.specs.Put.{Put}
 use Rattle.listing.specs.Listing.{statusText, replyText, replyRoom, ReplyLeaves}
 
@@ -69,11 +72,12 @@ pub replyText-default : (n : ℕ) (rest : List ℕ) → replyText (0x01 ∷ n �
 unfolding replyText
 replyText-default n rest = ap (λ (r : Reading). statusText (r .status) (r .model)) (readModel-default n rest)
 
--- File 10: a file in which a direction stands straight after the initial set, and that is read, gets the reply that it gets with two
--- records of zero corners before that direction.
-pub replyText-no-input : (file : List ℕ) (turns : ℕ) → NoInputAt file (stopFor turns file 0 start) → readModel file .status ≡ Read → replyText (putIn zeroCorners (stopFor turns file 0 start .at) file) ≡ replyText file
+-- File 10: a file in which a direction stands straight after a complete initial set gets, with two records of zero corners before that
+-- direction, the same listing, or the same number with the offset 50 higher; and the same reply where it is refused before.
+pub replyText-no-input : (file : List ℕ) (turns : ℕ) → NoInputAt file (stopFor turns file 0 start) → replyText (putIn zeroCorners (stopFor turns file 0 start .at) file) ≡ statusText (movedStatus 50 (readModel file .status)) (readModel file .model)
 unfolding replyText
-replyText-no-input file turns place e =
-    ap (λ (r : Reading). statusText (r .status) (r .model)) (readModel-no-input file turns place)
-    ∙ ap (λ (t : Status). statusText (movedStatus 50 t) (readModel file .model)) e
-    ∙ sym (ap (λ (t : Status). statusText t (readModel file .model)) e)
+replyText-no-input file turns place = ap (λ (r : Reading). statusText (r .status) (r .model)) (readModel-no-input file turns place)
+
+pub replyText-refused-before : (file more : List ℕ) (turns m : ℕ) → m ≤ length file → Reaches m file (stopFor turns file 0 start .at) → (refusal (stopFor turns file 0 start .state) (recordAt file (stopFor turns file 0 start .at)) ≡ 0 → ⊥) → replyText (putIn more m file) ≡ replyText file
+unfolding replyText
+replyText-refused-before file more turns m inside reach ne = ap (λ (r : Reading). statusText (r .status) (r .model)) (readModel-refused-before file more turns m inside reach ne)

@@ -6,7 +6,7 @@ use native.Mathlib.Omega.{arith}
 use lib.IntN.{ℤ, pos, _*ℤ_}
 use Rattle.integers.specs.Whole.{_⩽_}
 use Rattle.integers.proofs.SignedParts.{v, #, _⊗_, eq!, le?}
-use Rattle.integers.proofs.Machine.{getD-all}
+use Rattle.integers.proofs.Machine.{getD-replicate-default}
 use Rattle.reachability.specs.Sets.{InBox, points, zeroBox}
 use Rattle.reachability.specs.Runs.{InSet, Run}
 use Rattle.reachability.specs.declared.sets.Set.{Set}
@@ -16,8 +16,8 @@ pub inputs-zero : (m : Model) → m .input ≡ zeroBox → {q : ℕ} (run : Run 
 unfolding zeroBox
 inputs-zero m e {q} run j h i l =
     between (run .inputs j i)
-    (subst (λ (z : ℤ). pos q *ℤ z ⩽ run .inputs j i) (getD-all 96 (6 * 0 + i) (pos 0)) (inside .low i l))
-    (subst (λ (z : ℤ). run .inputs j i ⩽ pos q *ℤ z) (getD-all 96 (6 * 1 + i) (pos 0)) (inside .high i l))
+    (subst (λ (z : ℤ). pos q *ℤ z ⩽ run .inputs j i) (getD-replicate-default 96 (6 * 0 + i) (pos 0)) (inside .low i l))
+    (subst (λ (z : ℤ). run .inputs j i ⩽ pos q *ℤ z) (getD-replicate-default 96 (6 * 1 + i) (pos 0)) (inside .high i l))
   where
     inside : InBox (m .n) q (points (zeroBox .points)) (run .inputs j)
     inside = subst (λ (s : Set). InSet (m .n) s q (run .inputs j)) e (run .enters j h)

@@ -1,5 +1,5 @@
--- Sets 1 to 15: points, support and reach of a box, a zonotope and a vertex list, and which points lie in one; Limits 4 and 8; and
--- Routines 11, what the set routines answer. Definitions only. A set's points are p 0, p 1, ..; p k i is coordinate i of point k.
+-- Sets 1 to 15: points, support and reach of a box, a zonotope and a vertex list, and which points lie in one; the zero box of Runs 8
+-- and File 10; Limits 4 and 8; and Routines 11, what the set routines answer. Definitions only. A set's points are p 0, p 1, ..; p k i is coordinate i of point k.
 -- Assumes nothing.
 use mathlib.Core.Path.{_≡_}
 use mathlib.Core.Bool.{Bool, true, cond, _&&_}
@@ -71,7 +71,9 @@ Member n Box count p q x = InBox n q p x
 Member n Zonotope count p q x = InZonotope n q count p x
 Member n Vertices count p q x = InHull n q count p x
 
--- Runs 8, File 10: the box from zero to zero, as it is stored.
+-- ---- the box from zero to zero
+
+-- Runs 8, File 10: as it is stored.
 unfoldable pub zeroBox : Set
 zeroBox = record { shape = Box; count = 2; points = replicate 96 (pos 0) }
 

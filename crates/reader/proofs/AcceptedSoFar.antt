@@ -12,7 +12,7 @@ use lib.Signed.{leZ}
 use Rattle.integers.specs.Sums.{allBelow}
 use Rattle.integers.proofs.Booleans.{and-true}
 use Rattle.integers.proofs.Sums.{allBelow-intro}
-use Rattle.integers.proofs.Machine.{getD-all}
+use Rattle.integers.proofs.Machine.{getD-replicate-default}
 use Rattle.arrays.proofs.Tests.{zeroOutside-of}
 use Rattle.stepping.specs.Limits.{entryLimit}
 use Rattle.stepping.specs.Refusals.{dimensionOk}
@@ -87,7 +87,7 @@ blank-guards =
     record {
       watched-length = refl;
       few = omega arith;
-      guarded = record { on = λ g h. absurd (omega arith); none = λ g h. getD-all {A = ℕ} 16 g 0; level = λ g h. vector-zeros 16 g };
+      guarded = record { on = λ g h. absurd (omega arith); none = λ g h. getD-replicate-default {A = ℕ} 16 g 0; level = λ g h. vector-zeros 16 g };
     }
 
 pub acceptedSoFar-start : AcceptedSoFar start

@@ -1,6 +1,6 @@
--- File 10: files in which a direction stands straight after the initial set. In order: such a place of a file, and the two records of
--- zero corners; what these and the direction make of the state there; the input set behind the direction; the reading of the file
--- with the two records, the input set of its model, and that model's runs (Runs 8); files that are refused before. Assumes nothing.
+-- File 10: files in which a direction stands straight after a complete initial set. In order: what the two records of zero corners and
+-- the direction make of the state there; the input set behind the direction; the reading of the file with the two records, the input
+-- set of its model, and that model's runs (Runs 8); files that are refused before. Assumes nothing.
 use mathlib.Core.Path.{_≡_, refl, sym, ap, ap₂, subst, _∙_}
 use mathlib.Core.Bool.{Bool, true, false, cond, not, _&&_, _||_}
 use mathlib.Core.List.{List, _∷_, _++_, append-assoc}
@@ -9,12 +9,12 @@ use native.Mathlib.Decide.{decLt}
 use native.Mathlib.Omega.{arith}
 use borrow.Author.Tests.{ne-eqb, eqb-true, eqb-false, lt-ltb, le-ltb, ltb-true, le-leb, leb-true}
 use lib.Dec.{eqb, leb, ltb}
-use lib.ListN.{length, take, drop, replicate, take-append-drop}
+use lib.ListN.{length, take, drop, take-append-drop}
 use lib.Seq.{length-take-le}
 use lib.IntN.{ℤ, pos}
 use Rattle.integers.specs.Sums.{allBelow}
 use Rattle.integers.proofs.Booleans.{and-true, or-false}
-use Rattle.integers.proofs.Machine.{tabulate-cong, getD-all}
+use Rattle.integers.proofs.Machine.{tabulate-cong, getD-replicate-default}
 use Rattle.records.specs.Kinds.{bodyLength}
 use Rattle.records.specs.Numbers.{littleEndian, twosComplement, signedAt}
 use Rattle.records.specs.Order.{mayFollow, partOf}
@@ -34,46 +34,25 @@ use Rattle.reader.specs.Order.{shapeOf}
 use Rattle.reader.specs.Models.{zeros, blankSet, start, entryAt, sixAt, putRow, setSet, setDirections, stateOf, withPoint, withSetPoint, inputAt, withDirection, withGuard}
 use Rattle.reader.specs.Values.{pointOk, unless, valueNumber}
 use Rattle.reader.specs.Refusals.{oneTooMany, kindNumber, firstOf, refusal, storedIn, stored}
+use Rattle.reader.specs.NoInput.{completesInitial, NoInputAt, zeroBody, zeroCorners, putIn, moved}
 use Rattle.reader.proofs.OrderFacts.{order-at}
 use Rattle.reader.proofs.order.KindNumbers.{kindNumber-zero}
 use Rattle.reader.specs.declared.Status.the-variants.{Read}
 use Rattle.reader.specs.declared.Reading.{Reading}
-use Rattle.reader.specs.Reading.{Stop, behind, storedRecord, stopFor, readFrom, readModel, statusNumber}
+use Rattle.reader.specs.Reading.{behind, storedRecord, stopFor, readFrom, readModel, statusNumber}
 use Rattle.reader.proofs.ReadingOn.{goesOn-true, stopFor-ind, stopFor-inside, readFrom-next, readFrom-refused, readFrom-comes, readFrom-alike}
 use Rattle.reader.proofs.RecordInPlace.{readFrom-behind}
-use Rattle.reader.proofs.ReadingRest.{moved, readFrom-more-before, readFrom-same-start, readFrom-refused-before}
+use Rattle.reader.proofs.ReadingRest.{readFrom-more-before, readFrom-same-start, readFrom-refused-before}
 use Rattle.reader.proofs.PartsSoFar.{n-most}
 use Rattle.reader.proofs.AcceptedSoFar.{AcceptedSoFar, ordered-zeros}
 use Rattle.reader.proofs.ReadModels.{readFrom-model, reachable-stop}
-
--- ---- such a place, and the two records
-
--- The last record of a complete initial set is its upper corner, a generator or a vertex.
-abbrev pub completesInitial : ℕ → Bool
-completesInitial kind = eqb kind 0x11 || (eqb kind 0x13 || eqb kind 0x14)
-
--- A place that reading comes to: the initial set is complete, and the next record, whole or cut, is a direction.
-pub record NoInputAt (file : List ℕ) (p : Stop) : Type 0 where
-  pub complete : completesInitial (p .state .last) ≡ true
-  pub direction : recordKind (recordAt file (p .at)) ≡ 0x30
-
-abbrev zeroBody : List ℕ
-zeroBody = replicate 24 0
-
--- A lower and an upper corner of zeros of the input set, 50 bytes.
-abbrev pub zeroCorners : List ℕ
-zeroCorners = (0x20 ∷ zeroBody) ++ (0x21 ∷ zeroBody)
-
--- A file with bytes put in at an offset.
-abbrev pub putIn : List ℕ → ℕ → List ℕ → List ℕ
-putIn more at file = take at file ++ (more ++ drop at file)
 
 -- ---- six numbers of zeros
 
 littleEndian-zeros : (k at : ℕ) → littleEndian k zeroBody at ≡ 0
 unfolding littleEndian
 littleEndian-zeros zero at = refl
-littleEndian-zeros (suc k) at = omega (arith, getD-all {A = ℕ} 24 at 0, littleEndian-zeros k (suc at))
+littleEndian-zeros (suc k) at = omega (arith, getD-replicate-default {A = ℕ} 24 at 0, littleEndian-zeros k (suc at))
 
 sixAt-zeros : (n : ℕ) → sixAt n zeroBody 0 ≡ zeros 6
 unfolding sixAt zeros
@@ -93,8 +72,8 @@ abbrev zeroSet : ℕ → Set
 zeroSet count = record { shape = Box; count = count; points = zeros 96 }
 
 -- A state with the place of this kind and so many corners of zeros for its input set.
-abbrev corner : State → ℕ → ℕ → State
-corner s kind count = stateOf kind (s .rows) (setSet true (s .model) (zeroSet count))
+abbrev withCorners : State → ℕ → ℕ → State
+withCorners s kind count = stateOf kind (s .rows) (setSet true (s .model) (zeroSet count))
 
 module _ (s : State) (g : AcceptedSoFar s) (complete : completesInitial (s .last) ≡ true) where
   -- what holds at the three kinds holds at the place
@@ -141,61 +120,61 @@ module _ (s : State) (g : AcceptedSoFar s) (complete : completesInitial (s .last
   unfolding pointOk zeros allBelow
   lower-ok = ap (λ (x : Set). unless (pointOk (s .model .n) 0x20 x) 6) with-lower
 
-  upper-allowed : kindNumber (corner s 0x20 1) 0x21 ≡ 0
+  upper-allowed : kindNumber (withCorners s 0x20 1) 0x21 ≡ 0
   unfolding kindNumber mayFollow partOf
   upper-allowed = refl
 
-  upper-ok : valueNumber Input (corner s 0x20 1) 0x21 zeroBody ≡ 0
+  upper-ok : valueNumber Input (withCorners s 0x20 1) 0x21 zeroBody ≡ 0
   unfolding pointOk zeros allBelow
   upper-ok =
       ap (λ (x : Set). unless (pointOk (s .model .n) 0x21 x) 6) with-upper
       ∙ ap (λ (b : Bool). unless b 6) (ap₂ _&&_ (le-leb (s .model .n) 6 dimension) (ordered-zeros (s .model .n)))
 
-  lower-stored : stored s 0x20 zeroBody ≡ corner s 0x20 1
+  lower-stored : stored s 0x20 zeroBody ≡ withCorners s 0x20 1
   unfolding stored partOf withSetPoint
   lower-stored = ap (λ (x : Set). stateOf 0x20 (s .rows) (setSet true (s .model) x)) with-lower
 
-  upper-stored : stored (corner s 0x20 1) 0x21 zeroBody ≡ corner s 0x21 2
+  upper-stored : stored (withCorners s 0x20 1) 0x21 zeroBody ≡ withCorners s 0x21 2
   unfolding stored partOf withSetPoint
   upper-stored = ap (λ (x : Set). stateOf 0x21 (s .rows) (setSet true (s .model) x)) with-upper
 
   -- The two records are read wherever they stand.
-  read-corners : (before rest : List ℕ) → readFrom (before ++ (zeroCorners ++ rest)) (length before) s ≡ readFrom ((before ++ zeroCorners) ++ rest) (length (before ++ zeroCorners)) (corner s 0x21 2)
+  read-corners : (before rest : List ℕ) → readFrom (before ++ (zeroCorners ++ rest)) (length before) s ≡ readFrom ((before ++ zeroCorners) ++ rest) (length (before ++ zeroCorners)) (withCorners s 0x21 2)
   unfolding bodyLength partOf
   read-corners before rest =
       readFrom-behind before 0x20 zeroBody ((0x21 ∷ zeroBody) ++ rest) s refl lower-allowed lower-ok (λ e. omega arith)
       ∙ ap (readFrom ((before ++ (0x20 ∷ zeroBody)) ++ ((0x21 ∷ zeroBody) ++ rest)) (length (before ++ (0x20 ∷ zeroBody)))) lower-stored
-      ∙ readFrom-behind (before ++ (0x20 ∷ zeroBody)) 0x21 zeroBody rest (corner s 0x20 1) refl upper-allowed upper-ok (λ e. omega arith)
+      ∙ readFrom-behind (before ++ (0x20 ∷ zeroBody)) 0x21 zeroBody rest (withCorners s 0x20 1) refl upper-allowed upper-ok (λ e. omega arith)
       ∙ ap₂ (λ (x : List ℕ) (t : State). readFrom (x ++ rest) (length x) t) (append-assoc before (0x20 ∷ zeroBody) (0x21 ∷ zeroBody)) upper-stored
 
   -- A direction is let in, tested and stored behind them as without them.
-  direction-allowed : kindNumber s 0x30 ≡ kindNumber (corner s 0x21 2) 0x30
+  direction-allowed : kindNumber s 0x30 ≡ kindNumber (withCorners s 0x21 2) 0x30
   unfolding kindNumber mayFollow partOf
   direction-allowed = ap (λ (a : Bool). cond a (cond (oneTooMany s 0x30) 9 0) 3) (at-place (λ k. mayFollow k 0x30) refl refl refl)
 
-  direction-number : (r : Record) → recordKind r ≡ 0x30 → refusal s r ≡ refusal (corner s 0x21 2) r
+  direction-number : (r : Record) → recordKind r ≡ 0x30 → refusal s r ≡ refusal (withCorners s 0x21 2) r
   unfolding refusal partOf
   direction-number nothing e = refl
   direction-number (unknown kind) e = refl
-  direction-number (short kind) e = subst (λ (k : ℕ). firstOf (kindNumber s k) 1 ≡ firstOf (kindNumber (corner s 0x21 2) k) 1) (sym e) (ap (λ (k : ℕ). firstOf k 1) direction-allowed)
+  direction-number (short kind) e = subst (λ (k : ℕ). firstOf (kindNumber s k) 1 ≡ firstOf (kindNumber (withCorners s 0x21 2) k) 1) (sym e) (ap (λ (k : ℕ). firstOf k 1) direction-allowed)
   direction-number (whole kind body) e =
-      subst (λ (k : ℕ). firstOf (kindNumber s k) (valueNumber (partOf k) s k body) ≡ firstOf (kindNumber (corner s 0x21 2) k) (valueNumber (partOf k) (corner s 0x21 2) k body)) (sym e)
+      subst (λ (k : ℕ). firstOf (kindNumber s k) (valueNumber (partOf k) s k body) ≡ firstOf (kindNumber (withCorners s 0x21 2) k) (valueNumber (partOf k) (withCorners s 0x21 2) k body)) (sym e)
       (ap (λ (k : ℕ). firstOf k (valueNumber Direction s 0x30 body)) direction-allowed)
 
   zero-input : inputAt (s .last) (s .model) ≡ zeroSet 2
   unfolding zeroBox zeros
   zero-input = ap (λ (b : Bool). cond b zeroBox (s .model .input)) (lt-ltb (s .last) 0x20 early)
 
-  direction-stored : (body : List ℕ) → stored s 0x30 body ≡ stored (corner s 0x21 2) 0x30 body
+  direction-stored : (body : List ℕ) → stored s 0x30 body ≡ stored (withCorners s 0x21 2) 0x30 body
   unfolding stored partOf withDirection
   direction-stored body =
       ap (λ (x : Set). stateOf 0x30 (s .rows) (setDirections (setSet true (s .model) x) (s .model .directions + 1) (putRow (s .model .entries) (s .model .directions) (sixAt (s .model .n) body 0)))) zero-input
 
   -- So the file is read on from there as behind them.
-  read-direction : (file : List ℕ) (at : ℕ) → recordKind (recordAt file at) ≡ 0x30 → readFrom file at (corner s 0x21 2) ≡ readFrom file at s
+  read-direction : (file : List ℕ) (at : ℕ) → recordKind (recordAt file at) ≡ 0x30 → readFrom file at (withCorners s 0x21 2) ≡ readFrom file at s
   read-direction file at e =
-      sym (readFrom-alike file at s (corner s 0x21 2) (inside-file file at e) (λ f. omega arith) (direction-number (recordAt file at) e)
-      (subst (λ (k : ℕ). stored s k (recordBody (recordAt file at)) ≡ stored (corner s 0x21 2) k (recordBody (recordAt file at))) (sym e) (direction-stored (recordBody (recordAt file at)))))
+      sym (readFrom-alike file at s (withCorners s 0x21 2) (inside-file file at e) (λ f. omega arith) (direction-number (recordAt file at) e)
+      (subst (λ (k : ℕ). stored s k (recordBody (recordAt file at)) ≡ stored (withCorners s 0x21 2) k (recordBody (recordAt file at))) (sym e) (direction-stored (recordBody (recordAt file at)))))
 
 -- ---- the input set behind a direction
 
@@ -236,7 +215,7 @@ zero-first : (s : State) (body : List ℕ) → s .last < 0x20 → ZeroInput (sto
 unfolding stored partOf withDirection
 zero-first s body early = record { late = omega arith; zero = ap (λ (b : Bool). cond b zeroBox (s .model .input)) (lt-ltb (s .last) 0x20 early) }
 
--- ---- files in which a direction stands straight after the initial set
+-- ---- files in which a direction stands straight after a complete initial set
 
 -- A place of such a file: where reading comes to after so many records, the initial set is complete, and a direction is next.
 module _ (file : List ℕ) (turns : ℕ) (place : NoInputAt file (stopFor turns file 0 start)) where
@@ -277,9 +256,9 @@ module _ (file : List ℕ) (turns : ℕ) (place : NoInputAt file (stopFor turns 
       readFrom-same-start file (zeroCorners ++ rest) at inside turns 0 start (omega arith)
       ∙ ap (λ (k : ℕ). readFrom (before ++ (zeroCorners ++ rest)) k s) (sym size)
       ∙ read-corners s so-far (place .complete) before rest
-      ∙ readFrom-more-before before zeroCorners rest (corner s 0x21 2)
+      ∙ readFrom-more-before before zeroCorners rest (withCorners s 0x21 2)
       ∙ ap (moved 50)
-      (ap₂ (λ (f : List ℕ) (k : ℕ). readFrom f k (corner s 0x21 2)) joined size
+      (ap₂ (λ (f : List ℕ) (k : ℕ). readFrom f k (withCorners s 0x21 2)) joined size
       ∙ read-direction s so-far (place .complete) file at (place .direction)
       ∙ sym comes)
 

@@ -1,6 +1,6 @@
--- What is read from an offset on is settled by the state there, the bytes from there on, and how many stand before them; how a place
--- is come to, by the bytes before it. In order: one byte more before an offset; bytes before it; two files with the same bytes up to
--- a place. Assumes nothing.
+-- What is read from an offset on is settled by the state there, the bytes from there on, and how many stand before them; how reading
+-- comes to a place, by the bytes before it. In order: one byte more before an offset; bytes before it; two files with the same bytes
+-- up to a place. Assumes nothing.
 use mathlib.Core.Path.{_≡_, refl, sym, ap, ap₂, _∙_}
 use mathlib.Core.Bool.{Bool, true, false, cond}
 use mathlib.Core.List.{List, _∷_, _++_, []}
@@ -19,17 +19,10 @@ use Rattle.reader.specs.declared.Reading.{Reading}
 use Rattle.reader.specs.declared.state.State.{State}
 use Rattle.reader.specs.Refusals.{firstOf, refusal}
 use Rattle.reader.specs.Reading.{Stop, stopHere, goesOn, behind, storedRecord, stopFor, numberAt, offsetAt, refused, readAs, readingAt, readFrom}
+use Rattle.reader.specs.NoInput.{movedStatus, moved}
 use Rattle.reader.proofs.ReadingOn.{goesOn-true, stopFor-forward, readFrom-next, readFrom-refused, readFrom-comes}
 
--- ---- one byte more before them
-
--- A reading with the offset of a refusal higher by so many bytes.
-abbrev pub movedStatus : ℕ → Status → Status
-movedStatus k Read = Read
-movedStatus k (Refused number offset) = Refused number (k + offset)
-
-abbrev pub moved : ℕ → Reading → Reading
-moved k r = record { status = movedStatus k (r .status); model = r .model }
+-- ---- one byte more before an offset
 
 abbrev movedStop : Stop → Stop
 movedStop p = stopHere (suc (p .at)) (p .state)

@@ -14,7 +14,7 @@ use lib.Seq.{getD-set-same, getD-set-other}
 use lib.IntN.{ℤ, pos, negℤ, natAbs}
 use Rattle.integers.specs.Sums.{vector, matrix}
 use Rattle.integers.proofs.Sums.{allBelow-intro, allBelow-cong}
-use Rattle.integers.proofs.Machine.{getD-all}
+use Rattle.integers.proofs.Machine.{getD-replicate-default}
 use Rattle.arrays.specs.Tests.{allBetween}
 use Rattle.arrays.proofs.Tests.{allBetween-at, Zeros, Small}
 use Rattle.limits.specs.Limits.{allZero, someNonzero, guardOk, guardsOk}
@@ -25,7 +25,7 @@ use Rattle.reader.proofs.store.PutRow.{putRow-other, putRow-same}
 
 pub vector-zeros : (n k : ℕ) → vector (zeros n) k ≡ pos 0
 unfolding zeros
-vector-zeros n k = getD-all n k (pos 0)
+vector-zeros n k = getD-replicate-default n k (pos 0)
 
 -- ---- a row stored
 

@@ -3,4 +3,5 @@ pub mod Models
 pub mod Values
 pub mod Refusals
 pub mod Reading
+pub mod NoInput
 pub mod Inner

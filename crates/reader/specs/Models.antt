@@ -146,7 +146,7 @@ withSetPoint input s kind body =
 abbrev pub inputAt : ℕ → Model → Set
 inputAt place m = cond (ltb place 0x20) zeroBox (m .input)
 
--- File 3, kind 30.
+-- File 3, kind 30. The first one settles the input set (File 10).
 unfoldable pub withDirection : State → ℕ → List ℕ → State
 withDirection s kind body =
     stateOf kind (s .rows)

@@ -1,4 +1,4 @@
-// The numbers of a body, and where they are stored.
+// The numbers of a body, where they are stored, and the sets of a model.
 use crate::order::shape_of;
 use reachability::model::Model;
 use reachability::sets::Set;
@@ -105,12 +105,12 @@ pub(crate) fn input_at(place: u8, model: Model) -> Set
     ensures { λ r. ⌜ r ≡ inputAt place model ⌝ }
 {
     let input = model.input;
-    let zero = Set {
-        shape: Shape::Box,
-        count: 2,
-        points: [0i32; 96],
-    };
     if place < 0x20 {
+        let zero = Set {
+            shape: Shape::Box,
+            count: 2,
+            points: [0i32; 96],
+        };
         return zero;
     }
     input

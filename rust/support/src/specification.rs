@@ -30,8 +30,8 @@ impl Set {
         Set { form: Form::Box, points: Vec::new() }
     }
 
-    /// The input set of a file that has no input record (File 10).
-    pub fn zero() -> Set {
+    /// The box from zero to zero: the input set of a file that has none (File 10).
+    fn zero_box() -> Set {
         Set { form: Form::Box, points: vec![[0; 6]; 2] }
     }
 
@@ -94,7 +94,7 @@ fn may_come(SoFar { model, rows }: &SoFar, kind: u8) -> bool {
         0x02 => head && !rows,
         0x10..=0x14 => point(&model.initial, rows && model.input.points.is_empty()),
         0x20..=0x24 => point(&model.input, model.initial.is_complete() && model.directions.is_empty()),
-        // Without input records straight after the initial set (File 10).
+        // Without input records it stands straight after a complete initial set (File 10).
         0x30 => {
             let last = if model.input.points.is_empty() { &model.initial } else { &model.input };
             last.is_complete() && model.guards.is_empty()
@@ -177,7 +177,7 @@ fn take(SoFar { model, rows }: &mut SoFar, kind: u8, body: &[u8]) -> u8 {
                 return 7;
             }
             if model.input.points.is_empty() {
-                model.input = Set::zero();
+                model.input = Set::zero_box();
             }
             model.directions.push(direction);
         }

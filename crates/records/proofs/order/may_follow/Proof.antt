@@ -7,7 +7,7 @@ use mathlib.Core.Logic.{⊎-elim}
 use borrow.Author.Tests.{eq-eqb, ne-eqb}
 use lib.Dec.{eqb}
 use Rattle.integers.proofs.Booleans.{and-skip, and-stop}
-use Rattle.records.specs.Order.{listed, mayFollow}
+use Rattle.records.specs.Order.{order, listed, mayFollow}
 use Rattle.records.specs.declared.order.Pair.{Pair}
 use Rattle.records.proofs.Search.{lookup, Sought, sought-found, sought-next, sought-none}
 use Rattle.records.proofs.order.may_follow.Statement.{statement}
@@ -37,9 +37,12 @@ Inv-loop place kind table i₀ i = Sought (isPair place kind) (λ p. true) false
 abbrev μ-loop : tie.MeasureT-loop
 μ-loop place kind table i₀ i = 33 - i
 
-loop-holds : tie.Need-loop-holds Inv-loop μ-loop
+from-start : (place kind : ℕ) (table : List Pair) → pairs table ≡ order → Sought (isPair place kind) (λ p. true) false (mayFollow place kind) table 0
 unfolding mayFollow
-loop-holds c = record { within = omega arith; rest = lookup-listed (c .args .place) (c .args .kind) _ }
+from-start place kind table same = record { within = omega arith; rest = lookup-listed place kind table ∙ ap (listed place kind) same }
+
+loop-holds : tie.Need-loop-holds Inv-loop μ-loop
+loop-holds c = from-start (c .args .place) (c .args .kind) _ refl
 
 returns : tie.Need-returns Inv-loop μ-loop
 returns c =
