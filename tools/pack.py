@@ -23,10 +23,10 @@ A text has one statement in a row, and `#` starts a comment:
 
 An ENTRY of a `row` is a decimal from -2 to 2. It must be a multiple of 1/65,536, as 0.5 is;
 `~0.97` stands for the nearest multiple (of two equally near the even one), so that all rounding
-shows in the text. `pack` says on standard error how much was rounded, and that there is no input set
-where there is none, unless it is to be quiet. Points and levels are whole counts. What the reader
-would refuse is refused here: all mistakes, up to twenty, are told with the text's name, or NAME,
-and the row.
+shows in the text. `pack` says on standard error how much was rounded, and that there is no input
+set where there is none, unless it is to be quiet. Points and levels are whole counts. What the
+reader would refuse is refused here: all mistakes, up to twenty, are told with the text's name, or
+NAME, and the row.
 
 A file has no names, units or time. Unpacked, its coordinates are x0, x1, .. and its directions d0,
 d1, .., or all of these are those of the text that `--names` gives.
