@@ -1,5 +1,6 @@
 -- Sets 1 to 15: points, support and reach of a box, a zonotope and a vertex list, and which points lie in one; the zero box of Runs 8
--- and File 10; Limits 4 and 8; and Routines 11, what the set routines answer. Definitions only. A set's points are p 0, p 1, ..; p k i is coordinate i of point k.
+-- and File 10; Limits 4 and 8; and Routines 11, what the set routines answer. Definitions only. A set's points are p 0, p 1, ..;
+-- p k i is coordinate i of point k.
 -- Assumes nothing.
 use mathlib.Core.Path.{_≡_}
 use mathlib.Core.Bool.{Bool, true, cond, _&&_}

@@ -21,6 +21,7 @@ pub record NoInputAt (file : List ℕ) (p : Stop) : Type 0 where
   pub complete : completesInitial (p .state .last) ≡ true
   pub direction : recordKind (recordAt file (p .at)) ≡ 0x30
 
+-- Six numbers of zero.
 abbrev pub zeroBody : List ℕ
 zeroBody = replicate 24 0
 
