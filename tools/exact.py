@@ -202,7 +202,7 @@ def up(numerator: int, denominator: int) -> int:
 
 
 def working(model: Model, direction: Vector) -> Iterator[tuple[list[int], list[int]]]:
-    """The working direction r(j) and its error e(j), for j = 0, 1, .. without end."""
+    """The working direction r(j) and its errors e(j), in half units, for j = 0, 1, .. without end."""
     r = [DIRECTION_UNIT * entry for entry in direction]
     e = [0] * model.n
     columns = list(zip(*model.matrix))
@@ -214,7 +214,13 @@ def working(model: Model, direction: Vector) -> Iterator[tuple[list[int], list[i
             up(dot(magnitude, e), MATRIX_UNIT) + (1 if total % MATRIX_UNIT else 0)
             for magnitude, total in zip(magnitudes, sums)
         ]
-        r = [total // MATRIX_UNIT for total in sums]  # // rounds toward minus infinity
+        # To the nearest unit: // rounds toward minus infinity, so a half goes up.
+        r = [(total + MATRIX_UNIT // 2) // MATRIX_UNIT for total in sums]
+
+
+def growth_sum(r: Sequence[int], e: Sequence[int]) -> int:
+    """The largest |r| plus half of e, rounded up, of one step."""
+    return max(abs(x) + up(y, 2) for x, y in zip(r, e))
 
 
 def sweep(model: Model, direction: Vector) -> Sweep | Growth:
@@ -222,7 +228,7 @@ def sweep(model: Model, direction: Vector) -> Sweep | Growth:
     steps = []
     largest = 0
     for j, (r, e) in enumerate(itertools.islice(working(model, direction), model.steps + 1)):
-        largest = max(largest, *(abs(x) + y for x, y in zip(r, e)))
+        largest = max(largest, growth_sum(r, e))
         if largest > GROWTH_LIMIT:
             return Growth(j)
         steps.append((r, e))
@@ -230,15 +236,15 @@ def sweep(model: Model, direction: Vector) -> Sweep | Growth:
 
     initial_reach, input_reach = reach(model.initial, model.n), reach(model.input, model.n)
     bounds, slacks = [], []
-    inputs = input_error = 0  # the sums over all j below k
+    inputs = input_errors = 0  # the sums over all j below k
     for r, e in steps:
-        error = dot(e, initial_reach) + input_error
-        raw_bound = support(model.initial, r) + inputs + error
-        raw_slack = 2 * error
+        half = up(dot(e, initial_reach) + input_errors, 2)
+        raw_bound = support(model.initial, r) + inputs + half
+        raw_slack = 2 * half
         bounds.append(up(raw_bound, DIRECTION_UNIT))
         slacks.append(up(raw_slack, DIRECTION_UNIT) + (1 if raw_bound % DIRECTION_UNIT else 0))
         inputs += support(model.input, r)
-        input_error += dot(e, input_reach)
+        input_errors += dot(e, input_reach)
     return Sweep(spare, tuple(bounds), tuple(slacks))
 
 

@@ -106,7 +106,7 @@ fn step(laid: &Laid, r: &mut [i64; 6], e: &mut [u64; 6]) {
         }
     }
     for i in 0..6 {
-        r[i] = sums[i] >> 16;
+        r[i] = (sums[i] + 32_768) >> 16;
         e[i] = ((errors[i] + 65_535) >> 16) + u64::from(sums[i] & 65_535 != 0);
     }
 }
@@ -130,19 +130,18 @@ pub fn sweep(laid: &Laid, direction: usize, bounds: &mut [i64], slacks: &mut [i6
     for (k, (bound, slack)) in bound_row.iter_mut().zip(slack_row.iter_mut()).enumerate().take(size) {
         let mut sum = 0;
         for i in 0..6 {
-            sum = sum.max(r[i].unsigned_abs() + e[i]);
+            sum = sum.max(r[i].unsigned_abs() + ((e[i] + 1) >> 1));
         }
         if sum > GROWTH_LIMIT {
             return Err(Refusal::Growth(k));
         }
         largest = largest.max(sum);
-        let here = errors(&e, &laid.initial.reach);
-        let raw = support(&laid.initial, &r) + here as i64 + before;
+        let half = (errors(&e, &laid.initial.reach) + errors_before + 1) >> 1;
+        let raw = support(&laid.initial, &r) + half as i64 + before;
         *bound = (raw + 1_048_575) >> 20;
-        *slack = ((2 * (here + errors_before) + 1_048_575) >> 20) as i64 + i64::from(raw & 1_048_575 != 0);
-        let entering = errors(&e, &laid.input.reach);
-        before += support(&laid.input, &r) + entering as i64;
-        errors_before += entering;
+        *slack = ((2 * half + 1_048_575) >> 20) as i64 + i64::from(raw & 1_048_575 != 0);
+        before += support(&laid.input, &r);
+        errors_before += errors(&e, &laid.input.reach);
         step(laid, &mut r, &mut e);
     }
     bounds.copy_from_slice(&bound_row[..size]);

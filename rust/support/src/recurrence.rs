@@ -109,7 +109,7 @@ fn errors<T: Whole>(n: usize, e: &[T; 6], reach: &[T; 6]) -> T {
     sum
 }
 
-/// r(j) and e(j), the working direction and its errors.
+/// r(j) and e(j), the working direction and its errors, which are counted in half units.
 #[derive(Clone, PartialEq, Eq, Debug)]
 pub struct Working<T> {
     pub r: [T; 6],
@@ -131,7 +131,7 @@ fn next<T: Whole>(n: usize, matrix: &[Six; 6], working: &Working<T>) -> Working<
             sum += entry * working.r[p];
             errors += entry.abs() * working.e[p];
         }
-        next.r[i] = sum.div_euclid(T::from(MATRIX_UNIT));
+        next.r[i] = (sum + T::from(MATRIX_UNIT / 2)).div_euclid(T::from(MATRIX_UNIT));
         next.e[i] = rounded_up(errors, MATRIX_UNIT) + one_if_fraction(sum, MATRIX_UNIT);
     }
     next
@@ -139,7 +139,7 @@ fn next<T: Whole>(n: usize, matrix: &[Six; 6], working: &Working<T>) -> Working<
 
 /// The growth sum (Recurrence 6).
 fn growth_sum<T: Whole>(n: usize, working: &Working<T>) -> T {
-    (0..n).map(|i| working.r[i].abs() + working.e[i]).max().unwrap_or(zero())
+    (0..n).map(|i| working.r[i].abs() + rounded_up(working.e[i], 2)).max().unwrap_or(zero())
 }
 
 /// Whether this growth sum is growth (Recurrence 7).
@@ -174,9 +174,9 @@ pub fn sweep<T: Whole>(model: &Model, direction: &Six) -> Result<Envelope<T>, us
             return Err(k);
         }
         largest = largest.max(sum);
-        let initial_errors = errors(n, &working.e, &initial_reach);
-        let raw_bound = support(n, &model.initial, &working.r) + initial_errors + inputs + input_errors;
-        let raw_slack = T::from(2i32) * (initial_errors + input_errors);
+        let half = rounded_up(errors(n, &working.e, &initial_reach) + input_errors, 2);
+        let raw_bound = support(n, &model.initial, &working.r) + inputs + half;
+        let raw_slack = T::from(2i32) * half;
         envelope.bounds.push(rounded_up(raw_bound, DIRECTION_UNIT));
         envelope.slacks.push(rounded_up(raw_slack, DIRECTION_UNIT) + one_if_fraction(raw_bound, DIRECTION_UNIT));
         inputs += support(n, &model.input, &working.r);
