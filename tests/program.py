@@ -48,6 +48,13 @@ def largest() -> bytes:
     return encode(Model(MAX_N, MAX_STEPS, matrix, Set(BOX, ends), Set(BOX, ends), directions, guards))
 
 
+def single(entry: int, initial: tuple[int, int], direction: int, steps: int) -> bytes:
+    """A model of one coordinate without an input set, and with a box as initial set."""
+    box = Set(BOX, tuple((end,) for end in initial))
+    model = Model(1, steps, ((entry,),), box, zero_box(1), ((direction,),), ())
+    return encode(model, input_stated=False)
+
+
 def reply(data: bytes) -> bytes:
     """What the program writes for a file."""
     done = subprocess.run([PROGRAM], input=data, capture_output=True, timeout=TIME_LIMIT)
@@ -132,6 +139,58 @@ class Text(unittest.TestCase):
             text = f"model 1 {steps}/{rows}".replace("/", "\n")
             for stated in (False, True):
                 self.assertEqual(reply(encode(model, input_stated=stated)).decode(), text)
+
+    def test_bounds_and_slacks_are_those_worked_by_hand(self) -> None:
+        # Figures 6; two odd T and an even one; halves above and below 0, which go up; a raw slack
+        # of 1,200,000.
+        for entry, initial, direction, rows in (
+            (1, (0, 100), -1, "spare 10/0 0 0/1 0 0/2 1 2/"),
+            (1, (0, 1), 1, "spare 10/0 1 0/1 1 1/2 1 2/"),
+            (32, (1, 3), -3, "spare 8/0 -3 0/1 0 1/2 1 2/"),
+            (32, (1, 2), -3, "spare 8/0 -3 0/1 0 1/2 0 1/"),
+            (32, (0, MAX_REACH), 2, "spare 9/0 2097152 0/1 1024 0/2 2 2/"),
+            (32, (-MAX_REACH, 0), -2, "spare 9/0 2097152 0/1 1024 0/2 1 2/"),
+            (100, (0, 600_000), 1, "spare 10/0 600000 0/1 916 1/2 2 2/3 1 3/"),
+        ):
+            steps = rows.count("/") - 2
+            text = f"model 1 {steps}/dir 0 {rows}".replace("/", "\n")
+            self.assertEqual(reply(single(entry, initial, direction, steps)).decode(), text)
+
+    def test_t_is_halved_once(self) -> None:
+        # T is 2 at the last step, of two terms that are 1: of two coordinates, of both sets, of two
+        # inputs. The supports there are -1.
+        zero, first, second = (0, 0), (1, 0), (0, 1)
+        for matrix, lower, upper, input_, direction, rows in (
+            (((32, 0), (0, 32)), first, (1, 1), zero, (-3, -3), "spare 8/0 -3 0/1 0 1/2 0 1/"),
+            (((32, 65_536), zero), second, second, first, (-3, 0),
+             "spare 8/0 0 0/1 -3 0/2 0 1/3 0 1/"),
+            (((3, 0), (0, 2_048)), second, second, first, (-1, -1),
+             "spare 10/0 -1 0/1 0 1/2 0 1/3 0 2/4 0 1/"),
+        ):
+            steps = rows.count("/") - 2
+            sets = Set(BOX, (lower, upper)), Set(BOX, (zero, input_))
+            text = f"model 2 {steps}/dir 0 {rows}".replace("/", "\n")
+            data = encode(Model(2, steps, matrix, *sets, (direction,), ()))
+            self.assertEqual(reply(data).decode(), text)
+
+    def test_growth_and_spare_figure_count_half_of_e_rounded_up(self) -> None:
+        # Half of e passes the limit, or the limit halved some times, meets it, or stays below it.
+        for entry, direction, steps, said in (
+            (99_334, 2, 15, "growth 15"),
+            (99_334, 2, 14, "spare 0"),
+            (99_334, 16, 10, "spare 0"),
+            (99_334, 2, 5, "spare 5"),
+            (99_334, 16, 5, "spare 3"),
+            (118_715, 1, 7, "spare 4"),
+            (66_993, 58, 36, "spare 2"),
+        ):
+            told = reply(single(entry, (0, 0), direction, steps)).decode().split("\n")
+            self.assertEqual(told[1], f"dir 0 {said}")
+        # |r| is at the limit at step 2, and e is 1, or 0.
+        for entry, said in ((-131_071, "growth 2"), (-131_072, "spare 0")):
+            matrix = (131_072, 0), (1, entry)
+            data = encode(Model(2, 2, matrix, zero_box(2), zero_box(2), ((256, 1),), ()))
+            self.assertEqual(reply(data).decode().split("\n")[1], f"dir 0 {said}")
 
     def test_only_a_direction_stands_straight_after_the_initial_set(self) -> None:
         # The sample's records: lower and upper corner of both sets at 30, 55, 80 and 105, a direction

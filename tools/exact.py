@@ -202,7 +202,7 @@ def up(numerator: int, denominator: int) -> int:
 
 
 def working(model: Model, direction: Vector) -> Iterator[tuple[list[int], list[int]]]:
-    """The working direction r(j) and its errors e(j), in half units, for j = 0, 1, .. without end."""
+    """The working direction r(j) and its errors e(j), in half units; j = 0, 1, .. without end."""
     r = [DIRECTION_UNIT * entry for entry in direction]
     e = [0] * model.n
     columns = list(zip(*model.matrix))

@@ -28,18 +28,24 @@ from listings import Growth
 
 I32_EXTREMES = (-(2**31), 2**31 - 1)
 
-# Matrix entry, direction entry and step at which |r| and |r| + e lie on two sides of the growth
-# limit (the first three) or of that limit halved several times, where the spare figure changes.
+# Matrix entry, direction entry and step at which two sums lie on two sides of the growth limit, or
+# of that limit halved several times, where the spare figure changes.
 EDGES = (
-    (75_922, 763, 2),
-    (82_784, 99, 10),
+    # |r|, and |r| + half of e: growth, then the spare figure.
     (99_334, 2, 15),
+    (66_153, 849, 20),
+    (72_845, 2, 59),
     (81_325, 87, 5),
-    (99_334, 16, 5),
-    (107_523, 1, 7),
-    (84_567, 5, 10),
-    (66_721, 107, 10),
+    (99_334, 4, 10),
     (66_725, 12, 16),
+    # |r| + half of e, and |r| + e: growth, then the spare figure.
+    (99_334, 16, 10),
+    (80_132, 75, 13),
+    (99_334, 16, 5),  # half of e takes |r| to 2^27, and no further
+    (118_715, 1, 7),
+    # |r| + half of e rounded down, and rounded up: the spare figure.
+    (66_993, 58, 36),
+    (65_867, 50, 49),
 )
 
 
@@ -52,6 +58,7 @@ TEMPERS = (
     "shuffled",  # each coordinate goes to another one unchanged: the largest sums that are swept
     "cancelling",  # r stays small while e grows
     "tiny",
+    "halving",  # powers of two: what is rounded is now and then a half
     "sparse",
     "wide",
     "extreme",
@@ -66,6 +73,7 @@ def _matrix(rng: random.Random, n: int, temper: str | None = None) -> tuple[Vect
     cos, sin = round(MATRIX_UNIT * math.cos(angle)), round(MATRIX_UNIT * math.sin(angle))
     order = rng.sample(range(n), n)
     scales = [rng.randint(60_000, MAX_ENTRY) for _ in range(n)]
+    power = rng.choice((32, 512, 8_192))
 
     def entry(i: int, j: int) -> int:
         if temper == "calm":
@@ -79,6 +87,8 @@ def _matrix(rng: random.Random, n: int, temper: str | None = None) -> tuple[Vect
             return (-1) ** i * scales[j]
         if temper == "tiny":
             return rng.randint(-3, 3)
+        if temper == "halving":
+            return rng.choice((power, -power, 0))
         if temper == "sparse":
             return rng.choice((0, 0, rng.randint(-90_000, 90_000)))
         if temper == "wide":

@@ -24,6 +24,17 @@ def single(entry, initial, input_, direction, steps, guards=()):
     return Model(1, steps, ((entry,),), box(initial), box(input_), ((direction,),), levels)
 
 
+# Two error terms that are 1 at the last step: of two coordinates, of both sets, of two inputs.
+HALVED_ONCE = (
+    Model(2, 2, ((32, 0), (0, 32)), box((1, 1), (0, 1)), box((0, 0), (0, 0)), ((-3, -3),), ()),
+    Model(2, 3, ((32, 65_536), (0, 0)), box((0, 0), (1, 1)), box((0, 1), (0, 0)), ((-3, 0),), ()),
+    Model(2, 4, ((3, 0), (0, 2_048)), box((0, 0), (1, 1)), box((0, 1), (0, 0)), ((-1, -1),), ()),
+)
+# At step 2 |r| is at the growth limit, and e is 1, half of which is counted as 1.
+BEYOND_BY_HALF = Model(2, 2, ((131_072, 0), (1, -131_071)), box((0, 0), (0, 0)),
+                       box((0, 0), (0, 0)), ((256, 1),), ())
+
+
 class FolderTest(unittest.TestCase):
     """Tests in a folder of their own."""
 

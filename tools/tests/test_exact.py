@@ -4,10 +4,11 @@ import itertools
 import random
 import tempfile
 import unittest
+from dataclasses import replace
 from fractions import Fraction
 from pathlib import Path
 
-from helpers import box, run_tool, single
+from helpers import BEYOND_BY_HALF, HALVED_ONCE, box, run_tool, single
 
 import exact
 import listings
@@ -19,7 +20,7 @@ from layout import (
 )
 from listings import Growth, Listing, Refusal, Sweep, Verdict
 
-# The sample of Listing 8, byte by byte: n 1, steps 3; row 0; four corners; a direction; three guards.
+# The sample of Listing 8, byte by byte: n 1, steps 3; row 0; four corners; a direction; 3 guards.
 REST = "00" * 20  # entries 1 to 5
 SAMPLE = bytes.fromhex(
     "01 01 0300"
@@ -47,6 +48,12 @@ def swept(model):
     return exact.sweep(model, model.directions[0])
 
 
+def last(model):
+    """r(K) and e(K)."""
+    *_, found = itertools.islice(exact.working(model, model.directions[0]), model.steps + 1)
+    return found
+
+
 class Figures(unittest.TestCase):
     """Figures 1 to 14, the sample, and further figures worked by hand."""
 
@@ -70,10 +77,10 @@ class Figures(unittest.TestCase):
         self.assertEqual((swept(model).bounds, swept(model).slacks), ((100, 1, 1), (0, 1, 2)))
 
     def test_case_6(self):
+        """N is -16, nearer to 0 than to -65,536. T is 100, and half of it is counted."""
         model = single(1, (0, 100), (0, 0), -1, 2)
-        *_, last = itertools.islice(exact.working(model, (-1,)), 3)
-        self.assertEqual(last, ([-1], [1]))
-        self.assertEqual(swept(model).bounds, (0, 0, 1))
+        self.assertEqual(last(model), ([0], [1]))
+        self.assertEqual((swept(model).bounds, swept(model).slacks), ((0, 0, 1), (0, 0, 2)))
 
     def test_cases_7_and_8(self):
         self.assertEqual(swept(single(131_072, (0, 0), (0, 0), 1, 10)).spare, 0)
@@ -112,23 +119,9 @@ class Figures(unittest.TestCase):
         self.assertEqual(len(SAMPLE), 186)
         self.assertEqual(exact.listing(SAMPLE), SAMPLE_LISTING)
 
-    def test_growth_counts_e(self):
-        model = single(75_922, (0, 0), (0, 0), 763, 2)
-        *_, last = itertools.islice(exact.working(model, (763,)), 3)
-        self.assertEqual(last, ([2**30], [1]))
-        self.assertEqual(swept(model), Growth(2))
-        self.assertEqual(swept(single(75_922, (0, 0), (0, 0), 763, 1)).spare, 0)
-
-    def test_spare_counts_e(self):
-        self.assertEqual(swept(single(81_325, (0, 0), (0, 0), 87, 5)).spare, 1)
-
     def test_e_is_rounded_up(self):
         told = swept(single(3, (0, 1), (0, 0), 1, 3))
         self.assertEqual((told.bounds, told.slacks), ((1, 1, 1, 1), (0, 1, 2, 2)))
-
-    def test_slack_is_doubled(self):
-        told = swept(single(3, (0, 600_000), (0, 0), 1, 2))
-        self.assertEqual((told.bounds, told.slacks), ((600_000, 28, 1), (0, 1, 3)))
 
     def test_growth_listing(self):
         """Direction 2,000 / 2 doubles past 2^30 at once: 1,000 is the most, and 2,000 > 1,024."""
@@ -143,6 +136,86 @@ class Figures(unittest.TestCase):
             text = exact.listing(encode(model, stated_steps=stated))
             self.assertTrue(text.startswith(f"model 1 {steps}\n"), stated)
             self.assertTrue(text.endswith(f"\n{steps} 0 0\n"), stated)
+
+
+class Rounding(unittest.TestCase):
+    """Units that are rounded to the nearest and errors in half units: figures worked by hand."""
+
+    def told(self, model, bounds, slacks):
+        self.assertEqual((swept(model).bounds, swept(model).slacks), (bounds, slacks))
+
+    def test_nearest(self):
+        """By the entry 32, r(1) is 512 d and N is 16,384 d, so that r(2) is d / 4, rounded."""
+        for entry, r in ((1, 0), (2, 1), (3, 1), (4, 1), (5, 1), (6, 2), (7, 2), (998, 250),
+                         (-1, 0), (-2, 0), (-3, -1), (-4, -1), (-5, -1), (-6, -1), (-7, -2),
+                         (-998, -249)):
+            model = single(32, (0, 0), (0, 0), entry, 2)
+            self.assertEqual(last(model), ([r], [1 if entry % 4 else 0]), entry)
+
+    def test_halves_go_up(self):
+        """Half of e(2) x 1,048,576 is half a count, and r(2) is 1 count or none."""
+        limit = 1_048_576
+        self.told(single(32, (0, limit), (0, 0), 2, 2), (2_097_152, 1_024, 2), (0, 0, 2))
+        self.told(single(32, (-limit, 0), (0, 0), -2, 2), (2_097_152, 1_024, 1), (0, 0, 2))
+
+    def test_half_of_t_is_rounded_up(self):
+        """In the first r(2) is 0 and T is 1. In the others r(2) is -1, and T is 3 and 2."""
+        self.told(single(1, (0, 1), (0, 0), 1, 2), (1, 1, 1), (0, 1, 2))
+        self.told(single(32, (1, 3), (0, 0), -3, 2), (-3, 0, 1), (0, 1, 2))
+        self.told(single(32, (1, 2), (0, 0), -3, 2), (-3, 0, 0), (0, 1, 1))
+
+    def test_t_is_halved_once(self):
+        """T is 2, of two terms that are 1, and the supports are -1: the last raw bound is 0."""
+        coordinates, sets, steps = HALVED_ONCE
+        self.told(coordinates, (-3, 0, 0), (0, 1, 1))
+        self.told(sets, (0, -3, 0, 0), (0, 0, 1, 1))
+        self.told(steps, (-1, 0, 0, 0, 0), (0, 1, 1, 2, 1))
+
+    def test_slack_is_two_halves(self):
+        """T is 600,000 at step 2 of both, and 1,200,000 at step 3 of the second."""
+        self.told(single(3, (0, 600_000), (0, 0), 1, 2), (600_000, 28, 1), (0, 1, 2))
+        self.told(single(100, (0, 600_000), (0, 0), 1, 3), (600_000, 916, 2, 1), (0, 1, 2, 3))
+
+    def test_no_slack_shows_whether_t_or_two_halves_were_rounded(self):
+        """They differ where T is odd, and no odd T is a multiple of 1,048,576."""
+        for count in range(4):
+            for t in range(max(count * 1_048_576 - 9, 0), count * 1_048_576 + 9):
+                halves = 2 * ((t + 1) // 2)
+                self.assertEqual(exact.up(t, 1_048_576), exact.up(halves, 1_048_576))
+
+    def test_growth_counts_half_of_e(self):
+        """r(15) is 191 below the limit, and half of e(15) is 442."""
+        model = single(99_334, (0, 0), (0, 0), 2, 15)
+        self.assertEqual(last(model), ([1_073_741_633], [884]))
+        self.assertEqual(swept(model), Growth(15))
+        self.assertEqual(swept(single(99_334, (0, 0), (0, 0), 2, 14)).spare, 0)
+
+    def test_growth_does_not_count_the_whole_of_e(self):
+        """r(10) is 97 below the limit, and half of e(10) is 54."""
+        model = single(99_334, (0, 0), (0, 0), 16, 10)
+        self.assertEqual(last(model), ([1_073_741_727], [108]))
+        self.assertEqual(swept(model).spare, 0)
+
+    def test_growth_counts_half_of_e_rounded_up(self):
+        """N[0] is 2^46 + 16 at step 2, and with the entry -131,072 it is 2^46."""
+        self.assertEqual([part[0] for part in last(BEYOND_BY_HALF)], [2**30, 1])
+        self.assertEqual(swept(BEYOND_BY_HALF), Growth(2))
+        exactly = replace(BEYOND_BY_HALF, matrix=((131_072, 0), (1, -131_072)))
+        self.assertEqual([part[0] for part in last(exactly)], [2**30, 0])
+        self.assertEqual(swept(exactly).spare, 0)
+
+    def test_spare_counts_half_of_e_rounded_up(self):
+        """Half of e passes a power of two, or meets it, or does not come to it; or it is 40.5."""
+        for entry, d, steps, r, e, spare in (
+            (81_325, 87, 5, 2**28 - 3, 8, 1),
+            (99_334, 2, 5, 2**24 - 1, 11, 5),
+            (99_334, 2, 10, 2**27 - 18, 108, 2),
+            (99_334, 16, 5, 2**27 - 6, 11, 3),
+            (118_715, 1, 7, 2**26 - 44, 50, 4),
+            (66_993, 58, 36, 2**27 - 40, 81, 2),
+        ):
+            model = single(entry, (0, 0), (0, 0), d, steps)
+            self.assertEqual((last(model), swept(model).spare), (([r], [e]), spare))
 
 
 class Reader(unittest.TestCase):
@@ -316,7 +389,7 @@ class NoInput(unittest.TestCase):
     def damaged(self):
         """Files that have no input set, and each of them damaged in many ways."""
         rnd = random.Random(2)
-        for data in models.stream(12, 900):
+        for data in models.stream(15, 900):
             if states_input(data):
                 continue
             yield data

@@ -1,32 +1,58 @@
 """The random files: always the same, of every sort, and able to tell a wrong program."""
 
+import collections
 import itertools
 import types
 import unittest
 
-import helpers  # noqa: F401
+from helpers import BEYOND_BY_HALF, HALVED_ONCE, single
 
 import exact
 import models
-from layout import BOX, READ_LIMIT, VERTICES, ZONOTOPE, zero_box, states_input
-from listings import Refusal
+from layout import (
+    BOX, GROWTH_LIMIT, READ_LIMIT, VERTICES, ZONOTOPE, encode, zero_box, states_input,
+)
+from listings import Growth, Refusal
 
 SEED, COUNT = 1, 1_500
+
+NEAREST = "(total + MATRIX_UNIT // 2) // MATRIX_UNIT"
+HALF_OF_T = "up(dot(e, initial_reach) + input_errors, 2)"
 
 # A wrong answer's name, the text of `exact` that is changed, and what it becomes.
 EDITS = (
     ("matrix_not_transposed", "list(zip(*model.matrix))", "list(model.matrix)"),
-    ("rounded_toward_zero", "total // MATRIX_UNIT", "int(Fraction(total, MATRIX_UNIT))"),
+    ("rounded_toward_zero", NEAREST, "int(Fraction(total, MATRIX_UNIT))"),
+    ("rounded_down", NEAREST, "total // MATRIX_UNIT"),
+    ("half_added_and_rounded_toward_zero", NEAREST,
+     "int(Fraction(total + MATRIX_UNIT // 2, MATRIX_UNIT))"),
+    ("half_goes_down", NEAREST, "-((MATRIX_UNIT // 2 - total) // MATRIX_UNIT)"),
+    ("half_goes_to_even", NEAREST, "round(Fraction(total, MATRIX_UNIT))"),
+    ("half_goes_away_from_zero", NEAREST,
+     "(total + MATRIX_UNIT // 2 - (total < 0)) // MATRIX_UNIT"),
     ("fraction_left_out", " + (1 if raw_bound % DIRECTION_UNIT else 0)", ""),
     ("remainder_left_out", " + (1 if total % MATRIX_UNIT else 0)", ""),
+    ("remainder_in_whole_units", "1 if total % MATRIX_UNIT", "2 if total % MATRIX_UNIT"),
     ("growth_without_e", "if largest > GROWTH_LIMIT", "if max(map(abs, r)) > GROWTH_LIMIT"),
+    ("growth_with_whole_e", "if largest > GROWTH_LIMIT",
+     "if max(abs(x) + y for x, y in zip(r, e)) > GROWTH_LIMIT"),
     ("growth_at_limit", "largest > GROWTH_LIMIT", "largest >= GROWTH_LIMIT"),
     ("spare_without_e", "2**h * largest", "2**h * max(abs(x) for r, _ in steps for x in r)"),
+    ("spare_with_whole_e", "2**h * largest",
+     "2**h * max(abs(x) + y for r, e in steps for x, y in zip(r, e))"),
+    ("spare_with_half_of_e_rounded_down", "2**h * largest",
+     "2**h * max(abs(x) + y // 2 for r, e in steps for x, y in zip(r, e))"),
     ("spare_below_limit", "largest <= GROWTH_LIMIT", "largest < GROWTH_LIMIT"),
+    ("sum_without_e", "abs(x) + up(y, 2)", "abs(x)"),
+    ("sum_with_whole_e", "abs(x) + up(y, 2)", "abs(x) + y"),
+    ("sum_with_half_of_e_rounded_down", "abs(x) + up(y, 2)", "abs(x) + y // 2"),
     ("e_rounded_down", "up(dot(magnitude, e), MATRIX_UNIT)", "dot(magnitude, e) // MATRIX_UNIT"),
-    ("slack_not_doubled", "2 * error", "error"),
+    ("half_of_t_rounded_down", HALF_OF_T, "(dot(e, initial_reach) + input_errors) // 2"),
+    ("whole_t_in_bound", "inputs + half", "inputs + dot(e, initial_reach) + input_errors"),
+    ("slack_not_doubled", "2 * half", "half"),
+    ("slack_of_twice_t", "2 * half", "4 * half"),
     ("bound_rounded_down", "up(raw_bound, DIRECTION_UNIT)", "raw_bound // DIRECTION_UNIT"),
-    ("input_error_lost", "input_error += dot(e, input_reach)", "pass"),
+    ("input_error_lost", "input_errors += dot(e, input_reach)", "pass"),
     ("lower_corner_taken", "high if x > 0 else low", "low if x > 0 else high"),
     ("generator_signed", "abs(dot(generator, r))", "dot(generator, r)"),
     ("least_vertex", "return max(dot(vertex", "return min(dot(vertex"),
@@ -70,6 +96,11 @@ EDITS = (
 )
 # The same with several changes.
 LARGER_EDITS = (
+    ("old_recurrence", (
+        (NEAREST, "total // MATRIX_UNIT"),
+        ("abs(x) + up(y, 2)", "abs(x) + y"),
+        (HALF_OF_T, "dot(e, initial_reach) + input_errors"),
+    )),
     ("guard_or_end_behind_the_initial_set", (
         ("INPUT + VERTEX, DIRECTION}", "INPUT + VERTEX, DIRECTION, GUARD, END}"),
         ("if file.kind(later) == DIRECTION:", "if file.kind(later) in (DIRECTION, GUARD, END):"),
@@ -82,6 +113,17 @@ LARGER_EDITS = (
          "        input_ = _read_set(file, INPUT, n, {GUARD, END})\n"
          "    guards: list[tuple[int, int]] = []\n"),
     )),
+)
+# The same with a model that shows it, where a random file seldom or never does.
+SHOWN = (
+    ("coordinates_halved_apart", HALF_OF_T,
+     "sum(up(x * y, 2) for x, y in zip(e, initial_reach)) + up(input_errors, 2)", HALVED_ONCE[0]),
+    ("sets_halved_apart", HALF_OF_T, "up(dot(e, initial_reach), 2) + up(input_errors, 2)",
+     HALVED_ONCE[1]),
+    ("steps_halved_apart", "input_errors += dot(e, input_reach)",
+     "input_errors += 2 * up(dot(e, input_reach), 2)", HALVED_ONCE[2]),
+    ("growth_with_half_of_e_rounded_down", "if largest > GROWTH_LIMIT",
+     "if max(abs(x) + y // 2 for x, y in zip(r, e)) > GROWTH_LIMIT", BEYOND_BY_HALF),
 )
 
 
@@ -97,6 +139,13 @@ def edited(*changes):
     return module
 
 
+def differs(program, data, listing):
+    try:
+        return program.listing(data) != listing
+    except Exception:  # an edited program may break down; that is seen as well
+        return True
+
+
 class Strength(unittest.TestCase):
     """Each wrong program gives another listing for one of the files."""
 
@@ -106,10 +155,7 @@ class Strength(unittest.TestCase):
         cls.listings = [exact.listing(data) for data in cls.files]
 
     def differs(self, program, index):
-        try:
-            return program.listing(self.files[index]) != self.listings[index]
-        except Exception:  # an edited program may break down; that is seen as well
-            return True
+        return differs(program, self.files[index], self.listings[index])
 
     def test_edits(self):
         edits = [(name, [(old, new)]) for name, old, new in EDITS]
@@ -118,6 +164,12 @@ class Strength(unittest.TestCase):
                 program = edited(*changes)
                 found = any(self.differs(program, index) for index in range(COUNT))
                 self.assertTrue(found, f"no file of {COUNT} shows {name}")
+
+    def test_edits_with_a_model(self):
+        for name, old, new, model in SHOWN:
+            with self.subTest(name):
+                data = encode(model)
+                self.assertTrue(differs(edited((old, new)), data, exact.listing(data)))
 
     def test_no_edit(self):
         program = edited(("slow, plain", "plain, slow"))
@@ -159,6 +211,63 @@ class Stream(unittest.TestCase):
             reply.number for stated, reply in replies if isinstance(reply, Refusal) and not stated
         }
         self.assertEqual(refused, set(range(1, 11)))
+
+    def test_halves(self):
+        """Some of a hundred models round a half, of both signs; in many a T is odd."""
+        seen = collections.Counter()
+        accepted = 0
+        for data in models.stream(SEED, 1_000):
+            model = exact.read_model(data)
+            if isinstance(model, Refusal):
+                continue
+            accepted += 1
+            seen.update(halves_of(model))
+        for what, share in (("above 0", 0.02), ("below 0", 0.02), ("odd T", 0.3)):
+            self.assertGreater(seen[what] / accepted, share, seen)
+
+
+def halves_of(model):
+    """Whether the sweeps of a model round halves above and below 0, and halve an odd T."""
+    found = set()
+    columns = list(zip(*model.matrix))
+    initial, input_ = (exact.reach(set_, model.n) for set_ in (model.initial, model.input))
+    for direction in model.directions:
+        if isinstance(exact.sweep(model, direction), Growth):
+            continue
+        errors = 0  # those of the inputs
+        for r, e in itertools.islice(exact.working(model, direction), model.steps):
+            totals = [exact.dot(column, r) for column in columns]
+            halves = [total for total in totals if total % 65_536 == 32_768]
+            found |= {"above 0" if total > 0 else "below 0" for total in halves}
+            found |= {"odd T"} if (exact.dot(e, initial) + errors) % 2 else set()
+            errors += exact.dot(e, input_)
+    return found
+
+
+def room(growth_sum):
+    """One more than the spare figure of this sum, and 0 where it is growth."""
+    return sum(2**h * growth_sum <= GROWTH_LIMIT for h in range(11))
+
+
+class Edges(unittest.TestCase):
+    def test_edges(self):
+        """Each tells the growth sum from another, by growth at its step or by the spare figure."""
+        seen = set()
+        for edge in models.EDGES:
+            entry, d, step = edge
+            model = single(entry, (0, 0), (0, 0), d, step)
+            *_, ((r,), (e,)) = itertools.islice(exact.working(model, (d,)), step + 1)
+            right = room(r + (e + 1) // 2)
+            told = exact.sweep(model, (d,))
+            self.assertEqual(told if right == 0 else told.spare + 1, right or Growth(step), edge)
+            others = {"no e": room(r), "whole e": room(r + e), "rounded down": room(r + e // 2)}
+            differing = {what: other for what, other in others.items() if other != right}
+            self.assertTrue(differing, edge)
+            seen |= {(what, min(other, right) == 0) for what, other in differing.items()}
+        self.assertEqual(seen, {
+            ("no e", True), ("no e", False), ("whole e", True), ("whole e", False),
+            ("rounded down", False),  # of one coordinate, none tells it by growth
+        })
 
 
 if __name__ == "__main__":

@@ -1,16 +1,16 @@
 -- Laws of ℤ that later proofs cite by name: the ring, the order, tests of order, magnitude, distance.
 -- Each is a line by `le!` and `eq!` of `SignedParts`. Assumes nothing.
-use mathlib.Core.Path.{_≡_, refl, sym, subst}
+use mathlib.Core.Path.{_≡_, refl, sym, ap, subst}
 use mathlib.Core.Bool.{Bool, true, false, not}
 use Prim.Native.Nat.{ℕ, zero, suc, _+_, _*_, _≤_}
-use native.Mathlib.Nat.{mul-le-mul, mul-le-mul-left, le-trans}
+use native.Mathlib.Nat.{le-refl, mul-le-mul, mul-le-mul-left, le-trans}
 use native.Mathlib.Omega.{arith}
 use borrow.Author.Tests.{ltb-true, ltb-false, lt-leb, le-leb, leb-false}
 use lib.Dec.{T}
 use lib.IntN.{ℤ, pos, negsuc, negℤ, natAbs, _+ℤ_, _-ℤ_, _*ℤ_}
 use lib.Signed.{leZ, ltZ, ltZ-no}
-use Rattle.integers.specs.Whole.{_⩽_, Near}
-use Rattle.integers.proofs.SignedParts.{v, #, _⊕_, _⊖_, _⊗_, le!, eq!, le?, eq?, abs!, near!, near?, natAbs-parts}
+use Rattle.integers.specs.Whole.{_⩽_, Near, NearHalves}
+use Rattle.integers.proofs.SignedParts.{v, #, _⊕_, _⊖_, _⊗_, le!, eq!, le?, eq?, abs!, halves!, halves?, natAbs-parts, near! }
 
 -- ---- the ring
 
@@ -124,16 +124,27 @@ near-of-eq {a} {b} e = near! (v a) (v b) 0 (omega (arith, eq? (v a) (v b) e)) (o
 pub near-mono : {a b : ℤ} {d e : ℕ} → d ≤ e → Near a b d → Near a b e
 near-mono h k = record { within = le-trans (k .within) h }
 
-pub near-trans : {a b c : ℤ} {d e : ℕ} → Near a b d → Near b c e → Near a c (d + e)
-near-trans {a} {b} {c} {d} {e} h k = near! (v a) (v c) (d + e) (omega (arith, near? (v a) (v b) d h, near? (v b) (v c) e k)) (omega (arith, near? (v a) (v b) d h, near? (v b) (v c) e k))
+-- ---- distance in half units
 
-pub near-add : {a b a′ b′ : ℤ} {d e : ℕ} → Near a b d → Near a′ b′ e → Near (a +ℤ a′) (b +ℤ b′) (d + e)
-near-add {a} {b} {a′} {b′} {d} {e} h k = near! (v a ⊕ v a′) (v b ⊕ v b′) (d + e) (omega (arith, near? (v a) (v b) d h, near? (v a′) (v b′) e k)) (omega (arith, near? (v a) (v b) d h, near? (v a′) (v b′) e k))
+pub near-of-halves : {a b : ℤ} {e h : ℕ} → NearHalves a b e → e ≤ 2 * h → Near a b h
+near-of-halves {a} {b} {e} {h} k l = record { within = omega (arith, k .within) }
 
-pub near-scale : (k : ℕ) {a b : ℤ} {e : ℕ} → Near a b e → Near (pos k *ℤ a) (pos k *ℤ b) (k * e)
-near-scale k {a} {b} {e} h = near! (# k ⊗ v a) (# k ⊗ v b) (k * e) (omega (arith, mul-le-mul-left k (near? (v a) (v b) e h .0))) (omega (arith, mul-le-mul-left k (near? (v a) (v b) e h .1)))
+pub halves-of-eq : {a b : ℤ} → a ≡ b → NearHalves a b 0
+halves-of-eq {a} {b} e = halves! (v a) (v b) 0 (omega (arith, eq? (v a) (v b) e)) (omega (arith, eq? (v a) (v b) e))
+
+pub halves-mono : {a b : ℤ} {d e : ℕ} → d ≤ e → NearHalves a b d → NearHalves a b e
+halves-mono h k = record { within = le-trans (k .within) h }
+
+pub halves-trans : {a b c : ℤ} {d e : ℕ} → NearHalves a b d → NearHalves b c e → NearHalves a c (d + e)
+halves-trans {a} {b} {c} {d} {e} h k = halves! (v a) (v c) (d + e) (omega (arith, halves? (v a) (v b) d h, halves? (v b) (v c) e k)) (omega (arith, halves? (v a) (v b) d h, halves? (v b) (v c) e k))
+
+pub halves-add : {a b a′ b′ : ℤ} {d e : ℕ} → NearHalves a b d → NearHalves a′ b′ e → NearHalves (a +ℤ a′) (b +ℤ b′) (d + e)
+halves-add {a} {b} {a′} {b′} {d} {e} h k = halves! (v a ⊕ v a′) (v b ⊕ v b′) (d + e) (omega (arith, halves? (v a) (v b) d h, halves? (v a′) (v b′) e k)) (omega (arith, halves? (v a) (v b) d h, halves? (v a′) (v b′) e k))
 
 -- a distance times a number of at most a given magnitude
-pub near-times : (m : ℤ) {a b : ℤ} {d e : ℕ} → natAbs m ≤ d → Near a b e → Near (m *ℤ a) (m *ℤ b) (d * e)
-near-times m {a} {b} {d} {e} h k =
-    record { within = subst (λ (z : ℤ). natAbs z ≤ d * e) (eq! (v m ⊗ (v a ⊖ v b)) (v m ⊗ v a ⊖ v m ⊗ v b) (omega arith)) (subst (λ (x : ℕ). x ≤ d * e) (sym (natAbs-mul m (a -ℤ b))) (mul-le-mul h (k .within))) }
+pub halves-times : (m : ℤ) {a b : ℤ} {d e : ℕ} → natAbs m ≤ d → NearHalves a b e → NearHalves (m *ℤ a) (m *ℤ b) (d * e)
+halves-times m {a} {b} {d} {e} h k =
+    record { within = omega (arith, mul-le-mul h (k .within), natAbs-mul m (a -ℤ b), ap natAbs (eq! (v m ⊗ (v a ⊖ v b)) (v m ⊗ v a ⊖ v m ⊗ v b) (omega arith))) }
+
+pub halves-scale : (k : ℕ) {a b : ℤ} {e : ℕ} → NearHalves a b e → NearHalves (pos k *ℤ a) (pos k *ℤ b) (k * e)
+halves-scale k h = halves-times (pos k) (le-refl k) h

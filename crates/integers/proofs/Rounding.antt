@@ -1,5 +1,5 @@
--- Laws of the two roundings of `Whole`: what a rounded quotient times its divisor is, and by how much it misses.
--- In order: `floorDiv`; `ceilDiv`; `ceilDivℕ`. Each holds for every divisor above 0. Assumes nothing.
+-- Laws of the roundings of `Whole`: what a rounded quotient times its divisor is, and by how much it misses.
+-- In order: `floorDiv`; `nearestDiv`; `ceilDiv`; `ceilDivℕ`. Each holds for every divisor above 0. Assumes nothing.
 use mathlib.Core.Path.{_≡_, refl, sym, ap, _∙_}
 use mathlib.Core.Bool.{Bool, true, false, cond}
 use Prim.Native.Nat.{ℕ, suc, _+_, _*_, _-_, _/_, _%_, _≤_, _<_}
@@ -7,10 +7,10 @@ use native.Mathlib.Nat.{div-add-mod', mod-lt, lt-of-mul-lt-mul-left}
 use native.Mathlib.Omega.{arith}
 use borrow.Author.Tests.{eqb-true}
 use lib.Dec.{eqb}
-use lib.IntN.{ℤ, pos, negsuc, negℤ, _+ℤ_, _*ℤ_}
-use Rattle.integers.specs.Whole.{_⩽_, Near, floorDiv, ceilDiv, ceilDivℕ, isMultiple, fraction}
-use Rattle.integers.proofs.SignedParts.{v, #, neg, _⊕_, _⊗_, le!, eq!, le?, near!, near?}
-use Rattle.integers.proofs.Order.{natAbs-neg, near-of-eq, near-mono}
+use lib.IntN.{ℤ, pos, negsuc, negℤ, natAbs, _+ℤ_, _-ℤ_, _*ℤ_}
+use Rattle.integers.specs.Whole.{_⩽_, Near, NearHalves, floorDiv, nearestDiv, ceilDiv, ceilDivℕ, isMultiple, fraction}
+use Rattle.integers.proofs.SignedParts.{v, #, neg, _⊕_, _⊖_, _⊗_, le!, eq!, le?, eq?, abs!, near!, near?, halves! }
+use Rattle.integers.proofs.Order.{natAbs-neg, natAbs-mul, near-of-eq, near-mono, halves-of-eq, halves-mono}
 
 -- the quotient and the remainder of a natural number
 divides : (a m : ℕ) → a ≡ a / m * m + a % m
@@ -49,6 +49,42 @@ near-floorDiv a m h = cases (isMultiple a m) refl
         near! (v a) (# m ⊗ v (floorDiv a m)) (m * 1)
         (omega (arith, le? (v a ⊕ # 1) (# m ⊗ v (floorDiv a m) ⊕ # m) (floorDiv-lt a m h)))
         (omega (arith, le? (# m ⊗ v (floorDiv a m)) (v a) (floorDiv-le a m h)))
+
+-- ---- rounded to the nearest
+
+-- It is at most half a divisor above, and less than half a divisor below: the nearest, and a half goes up.
+pub nearestDiv-le : (a : ℤ) (m : ℕ) → 0 < m → pos 2 *ℤ (pos m *ℤ nearestDiv a m) ⩽ pos 2 *ℤ a +ℤ pos m
+nearestDiv-le a m h =
+    let q = nearestDiv a m in
+    le! (# 2 ⊗ (# m ⊗ v q)) (# 2 ⊗ v a ⊕ # m) (omega (arith, le? (# m ⊗ v q) (v a ⊕ # (m / 2)) (floorDiv-le (a +ℤ pos (m / 2)) m h)))
+
+pub nearestDiv-lt : (a : ℤ) (m : ℕ) → 0 < m → pos 2 *ℤ a +ℤ pos 1 ⩽ pos 2 *ℤ (pos m *ℤ nearestDiv a m) +ℤ pos m
+nearestDiv-lt a m h =
+    let q = nearestDiv a m in
+    le! (# 2 ⊗ v a ⊕ # 1) (# 2 ⊗ (# m ⊗ v q) ⊕ # m) (omega (arith, le? (v a ⊕ # (m / 2) ⊕ # 1) (# m ⊗ v q ⊕ # m) (floorDiv-lt (a +ℤ pos (m / 2)) m h)))
+
+-- a multiple is less than a divisor away from what its quotient is rounded to, so that is the quotient
+nearestDiv-of-multiple : (a : ℤ) (m : ℕ) → 0 < m → isMultiple a m ≡ true → a ≡ pos m *ℤ nearestDiv a m
+nearestDiv-of-multiple a m h e =
+    let p = floorDiv a m in
+    let q = nearestDiv a m in
+    let whole = eq? (v a) (# m ⊗ v p) (floorDiv-of-multiple a m h e) in
+    let above = le? (# 2 ⊗ (# m ⊗ v q)) (# 2 ⊗ v a ⊕ # m) (nearestDiv-le a m h) in
+    let below = le? (# 2 ⊗ v a ⊕ # 1) (# 2 ⊗ (# m ⊗ v q) ⊕ # m) (nearestDiv-lt a m h) in
+    let small : natAbs (pos m *ℤ (p -ℤ q)) ≤ m - 1 = abs! (# m ⊗ (v p ⊖ v q)) (m - 1) (omega arith) (omega arith) in
+    let same : natAbs (p -ℤ q) < 1 = lt-of-mul-lt-mul-left m (omega (arith, small, natAbs-mul (pos m) (p -ℤ q))) in
+    floorDiv-of-multiple a m h e ∙ ap (λ (z : ℤ). pos m *ℤ z) (eq! (v p) (v q) (omega (arith, near? (v p) (v q) 0 (record { within = omega (arith, same) }))))
+
+-- Rounding to the nearest misses by at most half the divisor, and by nothing at a multiple.
+pub halves-nearestDiv : (a : ℤ) (m : ℕ) → 0 < m → NearHalves a (pos m *ℤ nearestDiv a m) (m * fraction a m)
+halves-nearestDiv a m h = cases (isMultiple a m) refl
+  where
+    cases : (b : Bool) → isMultiple a m ≡ b → NearHalves a (pos m *ℤ nearestDiv a m) (m * cond b 0 1)
+    cases true e = halves-mono (omega arith) (halves-of-eq (nearestDiv-of-multiple a m h e))
+    cases false e =
+        halves! (v a) (# m ⊗ v (nearestDiv a m)) (m * 1)
+        (omega (arith, le? (# 2 ⊗ v a ⊕ # 1) (# 2 ⊗ (# m ⊗ v (nearestDiv a m)) ⊕ # m) (nearestDiv-lt a m h)))
+        (omega (arith, le? (# 2 ⊗ (# m ⊗ v (nearestDiv a m))) (# 2 ⊗ v a ⊕ # m) (nearestDiv-le a m h)))
 
 -- ---- rounded up
 

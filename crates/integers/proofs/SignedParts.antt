@@ -1,7 +1,7 @@
 -- A whole number as a difference of two naturals, and with it the one way by which goals over ℤ are closed here.
 -- In order: the two parts and their laws; quoted expressions; `le!` and `eq!`, which prove an order or an equation of two
 -- expressions from one of naturals, for `omega`; `le?` and `eq?`, which hand a fact over ℤ to `omega`; `abs!`, `abs?`,
--- `near!` and `near?`, the same for a magnitude and a distance.
+-- `near!`, `near?`, `halves!` and `halves?`, the same for a magnitude and a distance.
 -- Assumes nothing.
 use mathlib.Core.Path.{_≡_, refl, ap}
 use mathlib.Core.Logic.{_⊎_, inl, inr, ⊎-elim}
@@ -10,7 +10,7 @@ use Prim.Native.Nat.{ℕ, zero, suc, _+_, _*_, _-_, _≤_, _<_}
 use native.Mathlib.Omega.{arith}
 use lib.Dec.{T, ltb, ltb→lt, nltb→le, leb→le, le→leb}
 use lib.IntN.{ℤ, pos, negsuc, negℤ, subℕ, natAbs, _+ℤ_, _-ℤ_, _*ℤ_}
-use Rattle.integers.specs.Whole.{_⩽_, Near}
+use Rattle.integers.specs.Whole.{_⩽_, Near, NearHalves}
 
 -- ---- the positive and the negative part
 
@@ -168,3 +168,13 @@ near! a b e h k = record { within = abs! (a ⊖ b) e (omega arith) (omega arith)
 
 pub near? : (a b : Expr) (e : ℕ) → Near (val a) (val b) e → (up a + dn b ≤ up b + dn a + e) × (up b + dn a ≤ up a + dn b + e)
 near? a b e h = omega (arith, abs? (a ⊖ b) e (h .within))
+
+-- the same in half units
+pub halves! : (a b : Expr) (e : ℕ) → 2 * (up a + dn b) ≤ 2 * (up b + dn a) + e → 2 * (up b + dn a) ≤ 2 * (up a + dn b) + e → NearHalves (val a) (val b) e
+halves! a b e h k =
+    let p = parts (a ⊖ b) in
+    let m = natAbs-parts (val (a ⊖ b)) in
+    record { within = ⊎-elim (λ z. omega arith) (λ z. omega arith) (parts-apart (val (a ⊖ b))) }
+
+pub halves? : (a b : Expr) (e : ℕ) → NearHalves (val a) (val b) e → (2 * (up a + dn b) ≤ 2 * (up b + dn a) + e) × (2 * (up b + dn a) ≤ 2 * (up a + dn b) + e)
+halves? a b e h = omega (arith, parts (a ⊖ b), natAbs-parts (val (a ⊖ b)), h .within)

@@ -10,11 +10,11 @@ use native.Mathlib.Numerals.{add-one}
 use native.Mathlib.Decide.{decLt, ℕ-discrete}
 use native.Mathlib.Omega.{arith}
 use lib.IntN.{ℤ, pos, natAbs, _+ℤ_, _*ℤ_, +ℤ-idl, +ℤ-idr, *ℤ-zero, zero-*ℤ}
-use Rattle.integers.specs.Whole.{_⩽_, Near}
+use Rattle.integers.specs.Whole.{_⩽_, NearHalves}
 use Rattle.integers.specs.Sums.{sum, sumℕ, maxℕ, allBelow, dot, times, transposed}
 use Rattle.integers.proofs.Booleans.{and-true, and-false, and-stop}
 use Rattle.integers.proofs.SignedParts.{v, #, _⊕_, _⊗_, eq! }
-use Rattle.integers.proofs.Order.{⩽-refl, ⩽-add, near-add, near-of-eq, near-times, addℤ-swap, mulℤ-add, mulℤ-left-comm}
+use Rattle.integers.proofs.Order.{⩽-refl, ⩽-add, halves-add, halves-of-eq, halves-times, addℤ-swap, mulℤ-add, mulℤ-left-comm}
 
 wider : {i n : ℕ} → i < n → i < suc n
 wider h = omega arith
@@ -71,10 +71,10 @@ unfolding sum
 sum-⩽ zero h = ⩽-refl (pos 0)
 sum-⩽ (suc n) h = ⩽-add (sum-⩽ n (λ i l. h i (wider l))) (h n (here n))
 
-pub near-sum : (n : ℕ) {f g : ℕ → ℤ} {e : ℕ → ℕ} → ((i : ℕ) → i < n → Near (f i) (g i) (e i)) → Near (sum n f) (sum n g) (sumℕ n e)
+pub halves-sum : (n : ℕ) {f g : ℕ → ℤ} {e : ℕ → ℕ} → ((i : ℕ) → i < n → NearHalves (f i) (g i) (e i)) → NearHalves (sum n f) (sum n g) (sumℕ n e)
 unfolding sum sumℕ
-near-sum zero h = near-of-eq refl
-near-sum (suc n) h = near-add (near-sum n (λ i l. h i (wider l))) (h n (here n))
+halves-sum zero h = halves-of-eq refl
+halves-sum (suc n) h = halves-add (halves-sum n (λ i l. h i (wider l))) (h n (here n))
 
 -- ---- sums in ℕ
 
@@ -270,11 +270,11 @@ pub dot-add : (n : ℕ) (a x y : ℕ → ℤ) → dot n a (λ i. x i +ℤ y i) �
 dot-add n a x y = sum-cong n (λ i h. mulℤ-add (a i) (x i) (y i)) ∙ sum-add n (λ i. a i *ℤ x i) (λ i. a i *ℤ y i)
 
 -- Directions near each other meet a point of bounded coordinates in values near each other.
-pub near-dot : (n : ℕ) (a b x : ℕ → ℤ) (e w : ℕ → ℕ) → ((i : ℕ) → i < n → Near (a i) (b i) (e i)) → ((i : ℕ) → i < n → natAbs (x i) ≤ w i) → Near (dot n a x) (dot n b x) (sumℕ n (λ i. w i * e i))
-near-dot n a b x e w h k = near-sum n (λ i l. turned i (near-times (x i) (k i l) (h i l)))
+pub halves-dot : (n : ℕ) (a b x : ℕ → ℤ) (e w : ℕ → ℕ) → ((i : ℕ) → i < n → NearHalves (a i) (b i) (e i)) → ((i : ℕ) → i < n → natAbs (x i) ≤ w i) → NearHalves (dot n a x) (dot n b x) (sumℕ n (λ i. w i * e i))
+halves-dot n a b x e w h k = halves-sum n (λ i l. turned i (halves-times (x i) (k i l) (h i l)))
   where
-    turned : (i : ℕ) → Near (x i *ℤ a i) (x i *ℤ b i) (w i * e i) → Near (a i *ℤ x i) (b i *ℤ x i) (w i * e i)
-    turned i = subst (λ (z : ℤ). Near (x i *ℤ a i) (x i *ℤ b i) (w i * e i) → Near z (b i *ℤ x i) (w i * e i)) (lib.IntN.*ℤ-comm (x i) (a i)) (subst (λ (z : ℤ). Near (x i *ℤ a i) (x i *ℤ b i) (w i * e i) → Near (x i *ℤ a i) z (w i * e i)) (lib.IntN.*ℤ-comm (x i) (b i)) (λ t. t))
+    turned : (i : ℕ) → NearHalves (x i *ℤ a i) (x i *ℤ b i) (w i * e i) → NearHalves (a i *ℤ x i) (b i *ℤ x i) (w i * e i)
+    turned i t = subst (λ (z : ℤ). NearHalves z (b i *ℤ x i) (w i * e i)) (lib.IntN.*ℤ-comm (x i) (a i)) (subst (λ (z : ℤ). NearHalves (x i *ℤ a i) z (w i * e i)) (lib.IntN.*ℤ-comm (x i) (b i)) t)
 
 -- A direction meets a combination of points as the same combination of what it meets them in.
 pub dot-combination : (n m : ℕ) (f : ℕ → ℤ) (g : ℕ → ℕ → ℤ) (r : ℕ → ℤ) → dot n r (λ i. sum m (λ k. f k *ℤ g k i)) ≡ sum m (λ k. f k *ℤ dot n r (g k))

@@ -1,11 +1,11 @@
--- Whole numbers: an order, the two roundings of a quotient, divisibility, and distance. They serve "Recurrence" and "Accuracy" of
+-- Whole numbers: an order, the three roundings of a quotient, divisibility, and distance. They serve "Recurrence" and "Accuracy" of
 -- docs/SPECIFICATION.md. Definitions only.
 -- The numbers are the library's ℤ (`lib.IntN`); sums, products and `natAbs`, the magnitude, are the library's too.
 -- Assumes nothing.
-use Prim.Native.Nat.{ℕ, _+_, _-_, _/_, _%_, _≤_}
+use Prim.Native.Nat.{ℕ, _+_, _*_, _-_, _/_, _%_, _≤_}
 use mathlib.Core.Bool.{Bool, cond}
 use lib.Dec.{eqb}
-use lib.IntN.{ℤ, negℤ, natAbs, _-ℤ_}
+use lib.IntN.{ℤ, pos, negℤ, natAbs, _+ℤ_, _-ℤ_}
 use lib.Signed.{_≤ℤ_, shrZ}
 
 -- The library's order `_≤ℤ_`, which binds tighter than a sum, at the usual precedence.
@@ -13,15 +13,19 @@ infix 4 _⩽_
 abbrev pub _⩽_ : ℤ → ℤ → Type 0
 a ⩽ b = a ≤ℤ b
 
--- a / m rounded down, whatever the sign of a (Recurrence 4).
+-- a / m rounded down, whatever the sign of a.
 abbrev pub floorDiv : ℤ → ℕ → ℤ
 floorDiv a m = shrZ a m
+
+-- a / m rounded to the nearest whole number, a half going up, whatever the sign of a (Recurrence 4).
+abbrev pub nearestDiv : ℤ → ℕ → ℤ
+nearestDiv a m = floorDiv (a +ℤ pos (m / 2)) m
 
 -- a / m rounded up (Recurrence 13).
 abbrev pub ceilDiv : ℤ → ℕ → ℤ
 ceilDiv a m = negℤ (floorDiv (negℤ a) m)
 
--- The same of a natural number (Recurrence 5, Recurrence 14).
+-- The same of a natural number (Recurrence 5, 6, 11 and 14).
 abbrev pub ceilDivℕ : ℕ → ℕ → ℕ
 ceilDivℕ a m = (a + (m - 1)) / m
 
@@ -36,3 +40,7 @@ fraction a m = cond (isMultiple a m) 0 1
 -- a and b are at most e apart (Accuracy 6).
 pub record Near (a b : ℤ) (e : ℕ) : Type 0 where
   pub within : natAbs (a -ℤ b) ≤ e
+
+-- a and b are at most e half units apart (Recurrence 1).
+pub record NearHalves (a b : ℤ) (e : ℕ) : Type 0 where
+  pub within : 2 * natAbs (a -ℤ b) ≤ e

@@ -1,4 +1,4 @@
--- Figures 1 to 12, the marked cases (`specs.Cases`), hold, each by computation. Assumes nothing.
+-- Figures 1 to 12 and 16 to 20, the marked cases (`specs.Cases`), hold, each by computation. Assumes nothing.
 use mathlib.Core.Path.{refl}
 use mathlib.Core.List.{[], _∷_}
 use lib.IntN.{pos}
@@ -28,4 +28,9 @@ marked =
     and (refl and none)
     and (refl and none)
     and (refl and refl and none)
+    and (refl and refl and refl and refl and refl and none)
+    and (refl and refl and refl and refl and refl and refl and none)
+    and (refl and refl and refl and refl and none)
+    and (refl and refl and refl and refl and none)
+    and (refl and refl and refl and refl and none)
     and none

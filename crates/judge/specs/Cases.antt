@@ -1,4 +1,4 @@
--- Figures 1 to 12, the marked cases, as one list, and what it means that they hold. Definitions only. A case is the list of what
+-- Figures 1 to 12 and 16 to 20, the marked cases, as one list, and what it means that they hold. Definitions only. A case is the list of what
 -- the specification says in it; a saying sets a figure beside what the contracts of `support`, `reach`, `sweep` and `judge` say is
 -- answered or left. Sweeps are of direction 0 and judges of guard 0, with K + 1 elements in both lists. Where the specification
 -- names no K, it is the last step that has a figure.
@@ -10,7 +10,7 @@ use lib.ListN.{length, replicate}
 use lib.IntN.{ℤ, pos, negℤ}
 use Rattle.integers.specs.Sums.{vector}
 use Rattle.reachability.specs.Sets.{supportAnswer, ReachAnswer}
-use Rattle.reachability.specs.Recurrence.{working}
+use Rattle.reachability.specs.Recurrence.{working, errorTotal, rawSlack}
 use Rattle.reachability.specs.Answers.{sweepAnswer, sweptNumber, boundsOf, slacksOf}
 use Rattle.reachability.specs.declared.sets.Shape.{Shape}
 use Rattle.reachability.specs.declared.sets.Shape.the-variants.{Box, Zonotope, Vertices}
@@ -81,9 +81,11 @@ pub data Saying : Type 0 where
   bounds : Model → List ℤ → Saying
   slacks : Model → List ℤ → Saying
   boundAt : Model → ℕ → ℤ → Saying
-  -- r(k) and e(k), of one coordinate.
+  -- r(k) and e(k), of one coordinate; T(k) and the raw slack of step k.
   rAt : Model → ℕ → ℤ → Saying
   eAt : Model → ℕ → ℕ → Saying
+  errorTotalAt : Model → ℕ → ℕ → Saying
+  rawSlackAt : Model → ℕ → ℕ → Saying
   -- A judge's answer.
   judges : Model → Judged → Saying
   -- Of n coordinates: a set's support at r, and its reach.
@@ -98,6 +100,8 @@ Holds (slacks m ss) = slacksOf m 0 ≡ ss
 Holds (boundAt m k b) = vector (boundsOf m 0) k ≡ b
 Holds (rAt m k r) = working m 0 k k .r 0 ≡ r
 Holds (eAt m k e) = working m 0 k k .e 0 ≡ e
+Holds (errorTotalAt m k t) = errorTotal m 0 k ≡ t
+Holds (rawSlackAt m k s) = rawSlack m 0 k ≡ s
 Holds (judges m a) = judged m ≡ a
 Holds (supports n s r v) = supportAnswer n s (padded 6 r) ≡ Value v
 Holds (reaches n s xs) = ReachAnswer n s 0 (padded 6 xs)
@@ -129,9 +133,9 @@ kept = single 2 (pos 65536) (interval (pos 2) (pos 5)) (interval (negℤ (pos 1)
 abbrev pub halved : Model
 halved = single 3 (pos 32768) (interval (pos 0) (pos 100)) zeroBox (pos 1) []
 
--- Figures 5 and 6: entry 1, and the direction.
-abbrev pub faded : ℤ → Model
-faded direction = single 2 (pos 1) (interval (pos 0) (pos 100)) zeroBox direction []
+-- Figures 5, 6 and 16: entry 1, the upper end of the initial box, and the direction.
+abbrev pub faded : ℤ → ℤ → Model
+faded high direction = single 2 (pos 1) (interval (pos 0) high) zeroBox direction []
 
 -- Figures 7 and 8: entry 131,072, and K.
 abbrev pub doubled : ℕ → Model
@@ -160,6 +164,14 @@ moved =
     zeroBox
     (pos 1 ∷ pos 0 ∷ [])
     []
+
+-- Figures 17: entry 32.
+abbrev pub halfway : Model
+halfway = single 2 (pos 32) (interval (negℤ (pos 1048576)) (pos 0)) zeroBox (negℤ (pos 2)) []
+
+-- Figures 18, 19 and 20: entry 99,334, K, and the direction.
+abbrev pub widened : ℕ → ℤ → Model
+widened steps direction = single steps (pos 99334) zeroBox zeroBox direction []
 
 -- ---- the cases
 
@@ -190,22 +202,22 @@ case4 =
 -- Figures 5.
 abbrev pub case5 : Case
 case5 =
-    numbered (faded (pos 1)) 0
-    ∷ rAt (faded (pos 1)) 0 (pos 1048576)
-    ∷ rAt (faded (pos 1)) 1 (pos 16)
-    ∷ rAt (faded (pos 1)) 2 (pos 0)
-    ∷ eAt (faded (pos 1)) 2 1
-    ∷ bounds (faded (pos 1)) (pos 100 ∷ pos 1 ∷ pos 1 ∷ [])
-    ∷ slacks (faded (pos 1)) (pos 0 ∷ pos 1 ∷ pos 2 ∷ [])
+    numbered (faded (pos 100) (pos 1)) 0
+    ∷ rAt (faded (pos 100) (pos 1)) 0 (pos 1048576)
+    ∷ rAt (faded (pos 100) (pos 1)) 1 (pos 16)
+    ∷ rAt (faded (pos 100) (pos 1)) 2 (pos 0)
+    ∷ eAt (faded (pos 100) (pos 1)) 2 1
+    ∷ bounds (faded (pos 100) (pos 1)) (pos 100 ∷ pos 1 ∷ pos 1 ∷ [])
+    ∷ slacks (faded (pos 100) (pos 1)) (pos 0 ∷ pos 1 ∷ pos 2 ∷ [])
     ∷ []
 
 -- Figures 6.
 abbrev pub case6 : Case
 case6 =
-    numbered (faded (negℤ (pos 1))) 0
-    ∷ rAt (faded (negℤ (pos 1))) 2 (negℤ (pos 1))
-    ∷ eAt (faded (negℤ (pos 1))) 2 1
-    ∷ bounds (faded (negℤ (pos 1))) (pos 0 ∷ pos 0 ∷ pos 1 ∷ [])
+    numbered (faded (pos 100) (negℤ (pos 1))) 0
+    ∷ rAt (faded (pos 100) (negℤ (pos 1))) 2 (pos 0)
+    ∷ eAt (faded (pos 100) (negℤ (pos 1))) 2 1
+    ∷ bounds (faded (pos 100) (negℤ (pos 1))) (pos 0 ∷ pos 0 ∷ pos 1 ∷ [])
     ∷ []
 
 -- Figures 7.
@@ -232,6 +244,72 @@ case11 = supports 2 box (negℤ (pos 1) ∷ pos 1 ∷ []) (pos 6) ∷ []
 abbrev pub case12 : Case
 case12 = numbered moved 0 ∷ boundAt moved 1 (pos 9) ∷ []
 
--- Figures 1 to 12, in one list.
+-- Figures 16.
+abbrev pub case16 : Case
+case16 =
+    numbered (faded (pos 1) (pos 1)) 0
+    ∷ errorTotalAt (faded (pos 1) (pos 1)) 2 1
+    ∷ rawSlackAt (faded (pos 1) (pos 1)) 2 2
+    ∷ bounds (faded (pos 1) (pos 1)) (pos 1 ∷ pos 1 ∷ pos 1 ∷ [])
+    ∷ slacks (faded (pos 1) (pos 1)) (pos 0 ∷ pos 1 ∷ pos 2 ∷ [])
+    ∷ []
+
+-- Figures 17.
+abbrev pub case17 : Case
+case17 =
+    numbered halfway 0
+    ∷ rAt halfway 1 (negℤ (pos 1024))
+    ∷ rAt halfway 2 (pos 0)
+    ∷ eAt halfway 2 1
+    ∷ bounds halfway (pos 2097152 ∷ pos 1024 ∷ pos 1 ∷ [])
+    ∷ slacks halfway (pos 0 ∷ pos 0 ∷ pos 2 ∷ [])
+    ∷ []
+
+-- Figures 18.
+abbrev pub case18 : Case
+case18 =
+    rAt (widened 15 (pos 2)) 15 (pos 1073741633)
+    ∷ eAt (widened 15 (pos 2)) 15 884
+    ∷ numbered (widened 15 (pos 2)) 14
+    ∷ sweeps (widened 15 (pos 2)) (Growth 15)
+    ∷ []
+
+-- Figures 19.
+abbrev pub case19 : Case
+case19 =
+    rAt (widened 10 (pos 2)) 10 (pos 134217710)
+    ∷ eAt (widened 10 (pos 2)) 10 108
+    ∷ numbered (widened 10 (pos 2)) 0
+    ∷ sweeps (widened 10 (pos 2)) (Spare 2)
+    ∷ []
+
+-- Figures 20.
+abbrev pub case20 : Case
+case20 =
+    rAt (widened 10 (pos 16)) 10 (pos 1073741727)
+    ∷ eAt (widened 10 (pos 16)) 10 108
+    ∷ numbered (widened 10 (pos 16)) 0
+    ∷ sweeps (widened 10 (pos 16)) (Spare 0)
+    ∷ []
+
+-- Figures 1 to 12 and 16 to 20, in one list.
 abbrev pub cases : List Case
-cases = case1 ∷ case2 ∷ case3 ∷ case4 ∷ case5 ∷ case6 ∷ case7 ∷ case8 ∷ case9 ∷ case10 ∷ case11 ∷ case12 ∷ []
+cases =
+    case1
+    ∷ case2
+    ∷ case3
+    ∷ case4
+    ∷ case5
+    ∷ case6
+    ∷ case7
+    ∷ case8
+    ∷ case9
+    ∷ case10
+    ∷ case11
+    ∷ case12
+    ∷ case16
+    ∷ case17
+    ∷ case18
+    ∷ case19
+    ∷ case20
+    ∷ []

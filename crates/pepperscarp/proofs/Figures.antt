@@ -11,7 +11,7 @@ use lib.Dec.{leb, ltb}
 use lib.ListN.{length, take, length-take}
 use lib.IntN.{ℤ}
 use Rattle.integers.specs.Sums.{vector, magnitudes}
-use Rattle.stepping.specs.Limits.{growthLimit, errorLimit}
+use Rattle.stepping.specs.Limits.{growthLimit}
 use Rattle.stepping.specs.Recurrence.{greatest, growthSum}
 use Rattle.stepping.specs.Refusals.{stepOk, steppedR, steppedE}
 use Rattle.stepping.specs.declared.Stepped.the-variants as P
@@ -90,6 +90,6 @@ stepped-small n m r e = split (stepOk n m r e) refl
     split : (t : Bool) → stepOk n m r e ≡ t → steppedFigure (cond t (P.Sum (growthSum n (vector (steppedR n m r)) (magnitudes (steppedE n m r e)))) P.Refused) < figureLimit
     split true ok = below (growthSum-stepped-small n m r e ok)
       where
-        below : {k : ℕ} → k ≤ 12 * growthLimit + 1 + (12 * errorLimit + 2) → k < figureLimit
+        below : {k : ℕ} → k ≤ 24 * growthLimit + 1 → k < figureLimit
         below h = omega arith
     split false ok = omega arith

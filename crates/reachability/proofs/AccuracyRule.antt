@@ -11,19 +11,19 @@ use borrow.Author.Tests.{ltb-true, ltb-false}
 use lib.Dec.{ltb, lit<}
 use lib.IntN.{ℤ, pos, _+ℤ_, _-ℤ_, _*ℤ_}
 use Rattle.integers.specs.Whole.{_⩽_, Near, ceilDiv, ceilDivℕ, fraction}
-use Rattle.integers.specs.Sums.{vector, sum, sumℕ, dot}
+use Rattle.integers.specs.Sums.{vector, dot}
 use Rattle.integers.proofs.SignedParts.{v, #, _⊕_, _⊖_, _⊗_, le!, eq!, le?, eq?, near!, near?}
-use Rattle.integers.proofs.Order.{mulℤ-left-comm, ⩽-of-eq, ⩽-trans, ⩽-scale, ⩽-unscale}
-use Rattle.integers.proofs.Sums.{sum-cong, sum-scale, sum-add, pos-sumℕ}
+use Rattle.integers.proofs.Order.{mulℤ-left-comm, ⩽-of-eq, ⩽-trans, ⩽-scale, ⩽-unscale, near-of-halves}
+use Rattle.integers.proofs.Sums.{sum-cong, sum-scale}
 use Rattle.integers.proofs.Rounding.{ceilDiv-le, ceilDiv-near, ceilDivℕ-le}
 use Rattle.integers.proofs.Machine.{getD-tabulate}
 use Rattle.stepping.specs.Limits.{matrixUnit, directionUnit}
-use Rattle.stepping.specs.Recurrence.{firstR}
+use Rattle.stepping.specs.Recurrence.{firstR, halfUp}
 use Rattle.stepping.proofs.Stands.{stands-first}
 use Rattle.reachability.specs.Sets.{points, supportOf, reachOf, Member}
 use Rattle.reachability.specs.Limits.{accepted}
 use Rattle.reachability.specs.Runs.{moves, direction, Run, state, denominator, Largest}
-use Rattle.reachability.specs.Recurrence.{first, working, supportAt, errorAt, rawBound, bound, slack, firstPlace}
+use Rattle.reachability.specs.Recurrence.{first, errorTotal, supportTotal, rawBound, bound, slack, firstPlace}
 use Rattle.reachability.specs.Verdicts.{hitAt, unknownAt, verdict}
 use Rattle.reachability.specs.Accuracy.{NoRunPasses, SomeRunWithin, ReachedBy, WithinSlackOf, VerdictHolds, Accurate, AccuracyRule}
 use Rattle.reachability.specs.Answers.{boundsOf, slacksOf}
@@ -36,8 +36,8 @@ use Rattle.reachability.proofs.FirstPlace.{firstPlace-passes, firstPlac
 use Rattle.reachability.proofs.VerdictLaws.{reaches-le, reaches-false-le, reaches-mono, reaches-scale, reaches-unscale}
 use Rattle.reachability.proofs.Walks.{one-times, top, value-le-top, attains, near-sums}
 
--- ---- facts of numbers: x is the exact largest value and f that value in 1 / 1,048,576, p is 65,536 ^ k, s the sum of supports, e of
--- errors
+-- ---- facts of numbers: x is the exact largest value and f that value in 1 / 1,048,576, p is 65,536 ^ k, s the sum of supports, e
+-- half of the errors
 
 below-bound : (p : ℕ) (x f s b : ℤ) (e : ℕ) → pos directionUnit *ℤ x ⩽ f → Near f (pos p *ℤ s) (p * e) → s +ℤ pos e ⩽ pos directionUnit *ℤ b → x ⩽ pos p *ℤ b
 below-bound p x f s b e h near raw =
@@ -60,9 +60,6 @@ rounded raw s e h = within (ceilDiv raw directionUnit) (ceilDivℕ (2 * e) direc
     within : (b : ℤ) (c f : ℕ) → pos directionUnit *ℤ b ⩽ raw +ℤ pos (directionUnit * f) → 2 * e ≤ directionUnit * c → pos directionUnit *ℤ (b -ℤ pos (c + f)) ⩽ s -ℤ pos e
     within b c f p q =
         le! (# directionUnit ⊗ (v b ⊖ # (c + f))) (v s ⊖ # e) (omega (arith, le? (# directionUnit ⊗ v b) (v raw ⊕ # (directionUnit * f)) p, eq? (v raw) (v s ⊕ # e) h))
-
-regrouped : (a b : ℤ) (e f : ℕ) → (a +ℤ pos e) +ℤ (b +ℤ pos f) ≡ (a +ℤ b) +ℤ pos (e + f)
-regrouped a b e f = eq! ((v a ⊕ # e) ⊕ (v b ⊕ # f)) ((v a ⊕ v b) ⊕ # (e + f)) (omega arith)
 
 -- a level between bound - slack and bound is as near to x, which lies there too
 between : (p : ℕ) (level x b : ℤ) (s : ℕ) → x ⩽ pos p *ℤ b → pos p *ℤ (b -ℤ pos s) ⩽ x → b -ℤ pos s ⩽ level → level ⩽ b → Near x (pos p *ℤ level) (p * s)
@@ -105,22 +102,16 @@ module _ (m : Model) (facts : ModelFacts m) where
     abbrev x : ℕ → ℤ
     x = direction m d
 
-    -- the sum of supports and the sum of errors of step k
-    supportsAt : ℕ → ℤ
-    supportsAt k = supportAt (m .n) (m .initial) (working m d k k) +ℤ sum k (λ j. supportAt (m .n) (m .input) (working m d k j))
+    -- half of all errors, rounded up, is as far as the exact value can be from the supports
+    halfAt : ℕ → ℕ
+    halfAt k = halfUp (errorTotal m d k)
 
-    errorsAt : ℕ → ℕ
-    errorsAt k = errorAt (m .n) (m .initial) (working m d k k) + sumℕ k (λ j. errorAt (m .n) (m .input) (working m d k j))
-
-    raw-is : (k : ℕ) → rawBound m d k ≡ supportsAt k +ℤ pos (errorsAt k)
-    unfolding supportsAt errorsAt
-    raw-is k =
-        ap (λ (z : ℤ). (supportAt (m .n) (m .initial) (working m d k k) +ℤ pos (errorAt (m .n) (m .initial) (working m d k k))) +ℤ z) (sum-add k (λ j. supportAt (m .n) (m .input) (working m d k j)) (λ j. pos (errorAt (m .n) (m .input) (working m d k j))) ∙ ap (λ (z : ℤ). sum k (λ j. supportAt (m .n) (m .input) (working m d k j)) +ℤ z) (sym (pos-sumℕ k (λ j. errorAt (m .n) (m .input) (working m d k j)))))
-        ∙ regrouped (supportAt (m .n) (m .initial) (working m d k k)) (sum k (λ j. supportAt (m .n) (m .input) (working m d k j))) (errorAt (m .n) (m .initial) (working m d k k)) (sumℕ k (λ j. errorAt (m .n) (m .input) (working m d k j)))
-
-    near-exact : (k : ℕ) → Near (exactAt (firstR x) k) (pos (matrixUnit ^ k) *ℤ supportsAt k) (matrixUnit ^ k * errorsAt k)
-    unfolding exactAt supportsAt errorsAt
-    near-exact k = near-sums (m .n) (moves m) lawsI lawsU k (first x) (stands-first (m .n) x)
+    near-exact : (k : ℕ) → Near (exactAt (firstR x) k) (pos (matrixUnit ^ k) *ℤ supportTotal m d k) (matrixUnit ^ k * halfAt k)
+    unfolding exactAt halfAt
+    near-exact k = near-of-halves (near-sums (m .n) (moves m) lawsI lawsU k (first x) (stands-first (m .n) x)) (doubled (matrixUnit ^ k) (errorTotal m d k))
+      where
+        doubled : (p t : ℕ) → p * t ≤ 2 * (p * halfUp t)
+        doubled p t = omega (arith, mul-le-mul-left p (ceilDivℕ-le t 2 (lit< tt)))
 
     -- the first working direction is 1,048,576 times the direction, and its exact largest value too
     unit-times : (y : ℕ → ℤ) → dot (m .n) (firstR x) y ≡ pos directionUnit *ℤ dot (m .n) x y
@@ -138,13 +129,14 @@ module _ (m : Model) (facts : ModelFacts m) where
         ⩽-trans (⩽-of-eq (sym (a .1) ∙ unit-times (state m (a .0) k))) (⩽-scale directionUnit (⩽-trans (value-le x k h 1 (a .0)) (⩽-of-eq (one-times (exactAt x k)))))
 
     exact-le-bound : (k : ℕ) → k ≤ m .steps → exactAt x k ⩽ pos (matrixUnit ^ k) *ℤ bound m d k
+    unfolding halfAt
     exact-le-bound k h =
-        below-bound (matrixUnit ^ k) (exactAt x k) (exactAt (firstR x) k) (supportsAt k) (bound m d k) (errorsAt k) (exact-le-first k h) (near-exact k) (⩽-trans (⩽-of-eq (sym (raw-is k))) (ceilDiv-le (rawBound m d k) directionUnit (lit< tt)))
+        below-bound (matrixUnit ^ k) (exactAt x k) (exactAt (firstR x) k) (supportTotal m d k) (bound m d k) (halfAt k) (exact-le-first k h) (near-exact k) (ceilDiv-le (rawBound m d k) directionUnit (lit< tt))
 
     bound-le-exact : (k : ℕ) → k ≤ m .steps → pos (matrixUnit ^ k) *ℤ (bound m d k -ℤ pos (slack m d k)) ⩽ exactAt x k
-    unfolding errorsAt
+    unfolding halfAt
     bound-le-exact k h =
-        above-slack (matrixUnit ^ k) (exactAt x k) (exactAt (firstR x) k) (supportsAt k) (bound m d k -ℤ pos (slack m d k)) (errorsAt k) (first-le-exact k h) (near-exact k) (rounded (rawBound m d k) (supportsAt k) (errorsAt k) (raw-is k))
+        above-slack (matrixUnit ^ k) (exactAt x k) (exactAt (firstR x) k) (supportTotal m d k) (bound m d k -ℤ pos (slack m d k)) (halfAt k) (first-le-exact k h) (near-exact k) (rounded (rawBound m d k) (supportTotal m d k) (halfAt k) refl)
 
     no-run-passes : (k : ℕ) → k ≤ m .steps → NoRunPasses m d k (bound m d k)
     no-run-passes k h q run =

@@ -10,11 +10,11 @@ use native.Mathlib.Omega.{arith}
 use borrow.Author.Tests.{lt-ltb, le-ltb}
 use lib.Dec.{ltb}
 use lib.IntN.{ℤ, pos, natAbs, _+ℤ_, _*ℤ_}
-use Rattle.integers.specs.Whole.{_⩽_, Near}
+use Rattle.integers.specs.Whole.{_⩽_, NearHalves}
 use Rattle.integers.specs.Sums.{sum, sumℕ, dot, dotℕ, times, transposed}
-use Rattle.integers.proofs.SignedParts.{v, #, _⊕_, _⊗_, eq!, le?, eq?, near!, near?}
-use Rattle.integers.proofs.Order.{⩽-of-eq, ⩽-trans, ⩽-add, ⩽-scale, near-add, near-scale, near-mono}
-use Rattle.integers.proofs.Sums.{sum-cong, sum-zero, sum-first, sumℕ-zero, sumℕ-first, sumℕ-cong, sumℕ-scale, dot-times, dot-add, dot-scale, dot-cong, near-dot}
+use Rattle.integers.proofs.SignedParts.{v, #, _⊕_, _⊗_, eq!, le?, eq?, halves!, halves?}
+use Rattle.integers.proofs.Order.{⩽-of-eq, ⩽-trans, ⩽-add, ⩽-scale, halves-add, halves-scale, halves-mono}
+use Rattle.integers.proofs.Sums.{sum-cong, sum-zero, sum-first, sumℕ-zero, sumℕ-first, sumℕ-cong, sumℕ-scale, dot-times, dot-add, dot-scale, dot-cong, halves-dot}
 use Rattle.stepping.specs.Limits.{matrixUnit}
 use Rattle.stepping.proofs.Stands.{Stands, stands-step}
 use Rattle.reachability.specs.Runs.{stateOf}
@@ -116,10 +116,10 @@ module _ (n : ℕ) (moves : ℕ → ℕ → ℕ → ℤ) {memberI memberU : ℕ 
 
   module _ {member : ℕ → (ℕ → ℤ) → Type 0} {support : (ℕ → ℤ) → ℤ} {reach : ℕ → ℕ} (laws : SetLaws n member support reach) where
     -- r · x, scaled, beside the exact direction's
-    near-at : (s : ℕ) (x r : ℕ → ℤ) (e : ℕ → ℕ) → Stands n s x r e → (p : ℕ → ℤ) → member 1 p → Near (dot n x p) (pos s *ℤ dot n r p) (s * dotℕ n e reach)
+    near-at : (s : ℕ) (x r : ℕ → ℤ) (e : ℕ → ℕ) → Stands n s x r e → (p : ℕ → ℤ) → member 1 p → NearHalves (dot n x p) (pos s *ℤ dot n r p) (s * dotℕ n e reach)
     near-at s x r e stands p m =
-        subst (λ (z : ℤ). Near (dot n x p) z (s * dotℕ n e reach)) scaled
-        (near-mono (native.Mathlib.Nat.le-of-eq errors) (near-dot n x (λ i. pos s *ℤ r i) p (λ i. s * e i) reach (stands .near) small))
+        subst (λ (z : ℤ). NearHalves (dot n x p) z (s * dotℕ n e reach)) scaled
+        (halves-mono (native.Mathlib.Nat.le-of-eq errors) (halves-dot n x (λ i. pos s *ℤ r i) p (λ i. s * e i) reach (stands .near) small))
       where
         scaled : dot n (λ i. pos s *ℤ r i) p ≡ pos s *ℤ dot n r p
         scaled = sum-cong n (λ i h. eq! ((# s ⊗ v (r i)) ⊗ v (p i)) (# s ⊗ (v (r i) ⊗ v (p i))) (omega arith)) ∙ Rattle.integers.proofs.Sums.sum-scale n (pos s) (λ i. r i *ℤ p i)
@@ -136,7 +136,7 @@ module _ (n : ℕ) (moves : ℕ → ℕ → ℕ → ℤ) {memberI memberU : ℕ 
             within : (i : ℕ) → natAbs (p i) ≤ 1 * reach i → natAbs (p i) ≤ reach i
             within i l = omega arith
 
-    pub near-support : (s : ℕ) (x r : ℕ → ℤ) (e : ℕ → ℕ) → Stands n s x r e → Near (support x) (pos s *ℤ support r) (s * dotℕ n e reach)
+    pub near-support : (s : ℕ) (x r : ℕ → ℤ) (e : ℕ → ℕ) → Stands n s x r e → NearHalves (support x) (pos s *ℤ support r) (s * dotℕ n e reach)
     near-support s x r e stands =
         let a = laws .attained x in
         let b = laws .attained r in
@@ -146,9 +146,9 @@ module _ (n : ℕ) (moves : ℕ → ℕ → ℕ → ℤ) {memberI memberU : ℕ 
         let r-attains = eq? (# s ⊗ v (dot n r (b .0))) (# s ⊗ v (support r)) (ap (λ (z : ℤ). pos s *ℤ z) (b .2)) in
         let r-above = le? (# s ⊗ v (dot n r (a .0))) (# s ⊗ v (support r)) (⩽-scale s (⩽-trans (laws .above 1 (a .0) (a .1) r) (⩽-of-eq (one-times (support r))))) in
         let x-above = le? (v (dot n x (b .0))) (v (support x)) (⩽-trans (laws .above 1 (b .0) (b .1) x) (⩽-of-eq (one-times (support x)))) in
-        let near-a = near? (v (dot n x (a .0))) (# s ⊗ v (dot n r (a .0))) (s * dotℕ n e reach) of-x in
-        let near-b = near? (v (dot n x (b .0))) (# s ⊗ v (dot n r (b .0))) (s * dotℕ n e reach) of-r in
-        near! (v (support x)) (# s ⊗ v (support r)) (s * dotℕ n e reach) (omega arith) (omega arith)
+        let near-a = halves? (v (dot n x (a .0))) (# s ⊗ v (dot n r (a .0))) (s * dotℕ n e reach) of-x in
+        let near-b = halves? (v (dot n x (b .0))) (# s ⊗ v (dot n r (b .0))) (s * dotℕ n e reach) of-r in
+        halves! (v (support x)) (# s ⊗ v (support r)) (s * dotℕ n e reach) (omega arith) (omega arith)
 
   -- ---- what the recurrence adds up, from the first working direction on
 
@@ -161,17 +161,17 @@ module _ (n : ℕ) (moves : ℕ → ℕ → ℕ → ℤ) {memberI memberU : ℕ 
   errors (suc k) w = errors k (next n (moves k) w) + dotℕ n (w .e) reachU
 
   -- The exact value is near them, at the scale 65,536 ^ k.
-  near-top : (k s : ℕ) (x : ℕ → ℤ) (w : Working) → Stands n s x (w .r) (w .e) → Near (top k x) (pos (matrixUnit ^ k * s) *ℤ supports k w) (matrixUnit ^ k * s * errors k w)
+  near-top : (k s : ℕ) (x : ℕ → ℤ) (w : Working) → Stands n s x (w .r) (w .e) → NearHalves (top k x) (pos (matrixUnit ^ k * s) *ℤ supports k w) (matrixUnit ^ k * s * errors k w)
   unfolding top supports errors
-  near-top zero s x w stands = subst (λ (t : ℕ). Near (supportI x) (pos t *ℤ supportI (w .r)) (t * dotℕ n (w .e) reachI)) (alone s) (near-support lawsI s x (w .r) (w .e) stands)
+  near-top zero s x w stands = subst (λ (t : ℕ). NearHalves (supportI x) (pos t *ℤ supportI (w .r)) (t * dotℕ n (w .e) reachI)) (alone s) (near-support lawsI s x (w .r) (w .e) stands)
     where
       alone : (s : ℕ) → s ≡ 1 * s
       alone s = omega arith
   near-top (suc k) s x w stands =
-      let before = subst (λ (t : ℕ). Near (top k (transposed n (moves k) x)) (pos t *ℤ supports k (next n (moves k) w)) (t * errors k (next n (moves k) w))) (scaled k) (near-top k (matrixUnit * s) (transposed n (moves k) x) (next n (moves k) w) (stands-step n s (moves k) x (w .r) (w .e) stands)) in
-      let here = near-scale (matrixUnit ^ suc k) (near-support lawsU s x (w .r) (w .e) stands) in
-      subst (λ (z : ℤ). Near (top k (transposed n (moves k) x) +ℤ pos (matrixUnit ^ suc k) *ℤ supportU x) z (matrixUnit ^ suc k * s * (errors k (next n (moves k) w) + dotℕ n (w .e) reachU))) (regrouped (matrixUnit ^ suc k) (supports k (next n (moves k) w)) (supportU (w .r)))
-      (subst (λ (t : ℕ). Near (top k (transposed n (moves k) x) +ℤ pos (matrixUnit ^ suc k) *ℤ supportU x) (pos (matrixUnit ^ suc k * s) *ℤ supports k (next n (moves k) w) +ℤ pos (matrixUnit ^ suc k) *ℤ (pos s *ℤ supportU (w .r))) t) (added (matrixUnit ^ suc k) (errors k (next n (moves k) w)) (dotℕ n (w .e) reachU)) (near-add before here))
+      let before = subst (λ (t : ℕ). NearHalves (top k (transposed n (moves k) x)) (pos t *ℤ supports k (next n (moves k) w)) (t * errors k (next n (moves k) w))) (scaled k) (near-top k (matrixUnit * s) (transposed n (moves k) x) (next n (moves k) w) (stands-step n s (moves k) x (w .r) (w .e) stands)) in
+      let here = halves-scale (matrixUnit ^ suc k) (near-support lawsU s x (w .r) (w .e) stands) in
+      subst (λ (z : ℤ). NearHalves (top k (transposed n (moves k) x) +ℤ pos (matrixUnit ^ suc k) *ℤ supportU x) z (matrixUnit ^ suc k * s * (errors k (next n (moves k) w) + dotℕ n (w .e) reachU))) (regrouped (matrixUnit ^ suc k) (supports k (next n (moves k) w)) (supportU (w .r)))
+      (subst (λ (t : ℕ). NearHalves (top k (transposed n (moves k) x) +ℤ pos (matrixUnit ^ suc k) *ℤ supportU x) (pos (matrixUnit ^ suc k * s) *ℤ supports k (next n (moves k) w) +ℤ pos (matrixUnit ^ suc k) *ℤ (pos s *ℤ supportU (w .r))) t) (added (matrixUnit ^ suc k) (errors k (next n (moves k) w)) (dotℕ n (w .e) reachU)) (halves-add before here))
     where
       scaled : (k : ℕ) → matrixUnit ^ k * (matrixUnit * s) ≡ matrixUnit ^ suc k * s
       scaled k = turned (matrixUnit ^ k) ∙ ap (λ (t : ℕ). t * s) (sym (pow-suc matrixUnit k))
@@ -223,8 +223,8 @@ module _ (n : ℕ) (moves : ℕ → ℕ → ℕ → ℤ) {memberI memberU : ℕ 
       turned a b c = omega arith
 
   -- The exact largest value of a direction that stands exactly, beside the sums of the recurrence.
-  pub near-sums : (k : ℕ) (w : Working) → Stands n 1 (w .r) (w .r) (w .e) → Near (top k (w .r)) (pos (matrixUnit ^ k) *ℤ (supportI (walk n moves k w k .r) +ℤ sum k (λ j. supportU (walk n moves k w j .r)))) (matrixUnit ^ k * (dotℕ n (walk n moves k w k .e) reachI + sumℕ k (λ j. dotℕ n (walk n moves k w j .e) reachU)))
+  pub near-sums : (k : ℕ) (w : Working) → Stands n 1 (w .r) (w .r) (w .e) → NearHalves (top k (w .r)) (pos (matrixUnit ^ k) *ℤ (supportI (walk n moves k w k .r) +ℤ sum k (λ j. supportU (walk n moves k w j .r)))) (matrixUnit ^ k * (dotℕ n (walk n moves k w k .e) reachI + sumℕ k (λ j. dotℕ n (walk n moves k w j .e) reachU)))
   near-sums k w stands =
-      subst (λ (z : ℤ). Near (top k (w .r)) (pos (matrixUnit ^ k) *ℤ z) (matrixUnit ^ k * (dotℕ n (walk n moves k w k .e) reachI + sumℕ k (λ j. dotℕ n (walk n moves k w j .e) reachU)))) (supports-walk k w)
-      (subst (λ (z : ℕ). Near (top k (w .r)) (pos (matrixUnit ^ k) *ℤ supports k w) (matrixUnit ^ k * z)) (errors-walk k w)
-      (subst (λ (t : ℕ). Near (top k (w .r)) (pos t *ℤ supports k w) (t * errors k w)) (native.Mathlib.Nat.mul-one (matrixUnit ^ k)) (near-top k 1 (w .r) w stands)))
+      subst (λ (z : ℤ). NearHalves (top k (w .r)) (pos (matrixUnit ^ k) *ℤ z) (matrixUnit ^ k * (dotℕ n (walk n moves k w k .e) reachI + sumℕ k (λ j. dotℕ n (walk n moves k w j .e) reachU)))) (supports-walk k w)
+      (subst (λ (z : ℕ). NearHalves (top k (w .r)) (pos (matrixUnit ^ k) *ℤ supports k w) (matrixUnit ^ k * z)) (errors-walk k w)
+      (subst (λ (t : ℕ). NearHalves (top k (w .r)) (pos t *ℤ supports k w) (t * errors k w)) (native.Mathlib.Nat.mul-one (matrixUnit ^ k)) (near-top k 1 (w .r) w stands)))

@@ -1,5 +1,4 @@
 -- Laws of the sweep.
-pub mod Terms
 pub mod StoredDirection
 pub mod SweepStep
 pub mod SweepLoop

@@ -7,13 +7,13 @@ use mathlib.Core.Bool.{Bool, cond}
 use Prim.Native.Nat.{ℕ, zero, suc, _+_, _*_, _-_}
 use lib.IntN.{ℤ, pos, _+ℤ_}
 use Rattle.integers.specs.Sums.{sum, sumℕ, maxℕ, dotℕ}
-use Rattle.stepping.specs.Recurrence.{firstR, firstE, nextR, nextE, growthSum, grows, spare, boundOf, slackOf}
+use Rattle.stepping.specs.Recurrence.{firstR, firstE, nextR, nextE, halfUp, growthSum, grows, spare, boundOf, slackOf}
 use Rattle.reachability.specs.Sets.{points, supportOf, reachOf}
 use Rattle.reachability.specs.Runs.{moves, direction}
 use Rattle.reachability.specs.declared.sets.Set.{Set}
 use Rattle.reachability.specs.declared.model.Model.{Model}
 
--- Recurrence 1: a working direction r with its errors e.
+-- Recurrence 1: a working direction r with its errors e, which count half units.
 pub record Working : Type 0 where
   pub r : ℕ → ℤ
   pub e : ℕ → ℕ
@@ -62,16 +62,23 @@ supportAt n s w = supportOf n (s .shape) (s .count) (points (s .points)) (w .r)
 abbrev pub errorAt : ℕ → Set → Working → ℕ
 errorAt n s w = dotℕ n (w .e) (reachOf (s .shape) (s .count) (points (s .points)))
 
--- Recurrence 11: the raw bound. The initial set counts at k, the input set at each j below k.
+-- Recurrence 10: T, the error terms of step k. The initial set counts at k, the input set at each j below k.
+abbrev pub errorTotal : Model → ℕ → ℕ → ℕ
+errorTotal m d k =
+    errorAt (m .n) (m .initial) (working m d k k) + sumℕ k (λ j. errorAt (m .n) (m .input) (working m d k j))
+
+-- Recurrence 11: the supports of step k, counted in the same way.
+abbrev pub supportTotal : Model → ℕ → ℕ → ℤ
+supportTotal m d k =
+    supportAt (m .n) (m .initial) (working m d k k) +ℤ sum k (λ j. supportAt (m .n) (m .input) (working m d k j))
+
+-- Recurrence 11: the raw bound.
 abbrev pub rawBound : Model → ℕ → ℕ → ℤ
-rawBound m d k =
-    (supportAt (m .n) (m .initial) (working m d k k) +ℤ pos (errorAt (m .n) (m .initial) (working m d k k)))
-    +ℤ sum k (λ j. supportAt (m .n) (m .input) (working m d k j) +ℤ pos (errorAt (m .n) (m .input) (working m d k j)))
+rawBound m d k = supportTotal m d k +ℤ pos (halfUp (errorTotal m d k))
 
 -- Recurrence 12: the raw slack.
 abbrev pub rawSlack : Model → ℕ → ℕ → ℕ
-rawSlack m d k =
-    2 * (errorAt (m .n) (m .initial) (working m d k k) + sumℕ k (λ j. errorAt (m .n) (m .input) (working m d k j)))
+rawSlack m d k = 2 * halfUp (errorTotal m d k)
 
 -- Recurrence 13 and 14: the bound and the slack of a step, rounded.
 abbrev pub bound : Model → ℕ → ℕ → ℤ

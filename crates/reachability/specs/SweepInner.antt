@@ -10,7 +10,7 @@ use lib.IntN.{ℤ, pos, natAbs, _+ℤ_}
 use lib.Signed.{nonNeg}
 use Rattle.integers.specs.Sums.{vector, magnitudes, maxℕ, dotℕ, tabulate}
 use Rattle.stepping.specs.Limits.{errorLimit}
-use Rattle.stepping.specs.Recurrence.{firstR, firstE, Rounds}
+use Rattle.stepping.specs.Recurrence.{firstR, firstE, halfUp, Rounds}
 use Rattle.reachability.specs.Sets.{points, supportOf, reachOf, reachLimit}
 use Rattle.reachability.specs.SetsInner.{Counted, Tested, termLimit}
 use Rattle.reachability.specs.Runs.{direction}
@@ -20,12 +20,9 @@ use Rattle.reachability.specs.Limits.{accepted}
 use Rattle.reachability.specs.Recurrence.{growthStep, sumAt, bound, slack}
 use Rattle.reachability.specs.declared.model.Model.{Model}
 
--- The most that e · reach, and all that a set adds to a step, can come to.
+-- The most that e · reach can come to. For a support it is `termLimit`.
 abbrev pub errorsLimit : ℕ
 errorsLimit = 6 * (errorLimit * reachLimit)
-
-abbrev pub addedLimit : ℕ
-addedLimit = termLimit + errorsLimit
 
 -- Errors and reaches within their limits, none below 0.
 pub record ErrorsWithReach (e reaches : List ℤ) : Type 0 where
@@ -42,26 +39,23 @@ termSupport shape count xs r = supportOf 6 shape count (points xs) (vector r)
 abbrev pub termErrors : List ℤ → List ℤ → ℕ
 termErrors e reaches = dotℕ 6 (magnitudes e) (magnitudes reaches)
 
-abbrev pub termOf : Shape → ℕ → List ℤ → List ℤ → List ℤ → List ℤ → ℤ
-termOf shape count xs reaches r e = termSupport shape count xs r +ℤ pos (termErrors e reaches)
-
 pub record TermsAsk (shape : Shape) (count : ℕ) (xs reaches r e : List ℤ) : Type 0 where
   pub counted : Counted count
   pub tested : Tested xs r
   pub errors : ErrorsWithReach e reaches
   pub support-small : natAbs (termSupport shape count xs r) ≤ termLimit
 
--- ---- one step: both sets' terms, after what at most 257 steps gave
+-- ---- one step: both sets' terms, after what at most 257 steps gave; supports and errors are summed apart
 
 pub record StepAsks (shapeI : Shape) (countI : ℕ) (pointsI reachesI : List ℤ) (shapeU : Shape) (countU : ℕ) (pointsU reachesU r e : List ℤ) (inputs : ℤ) (errors : ℕ) : Type 0 where
   pub initial : TermsAsk shapeI countI pointsI reachesI r e
   pub input : TermsAsk shapeU countU pointsU reachesU r e
-  pub inputs-small : natAbs inputs ≤ 257 * addedLimit
+  pub inputs-small : natAbs inputs ≤ 257 * termLimit
   pub errors-small : errors ≤ 257 * errorsLimit
 
 pub record StepGives (shapeI : Shape) (countI : ℕ) (pointsI reachesI : List ℤ) (shapeU : Shape) (countU : ℕ) (pointsU reachesU r e : List ℤ) (inputs : ℤ) (errors : ℕ) (b s inputs′ : ℤ) (errors′ : ℕ) : Type 0 where
-  pub rounds : Rounds (termOf shapeI countI pointsI reachesI r e +ℤ inputs) (2 * (termErrors e reachesI + errors)) b s
-  pub inputs-are : inputs′ ≡ inputs +ℤ termOf shapeU countU pointsU reachesU r e
+  pub rounds : Rounds ((termSupport shapeI countI pointsI r +ℤ inputs) +ℤ pos (halfUp (termErrors e reachesI + errors))) (2 * halfUp (termErrors e reachesI + errors)) b s
+  pub inputs-are : inputs′ ≡ inputs +ℤ termSupport shapeU countU pointsU r
   pub errors-are : errors′ ≡ errors + termErrors e reachesU
 
 -- ---- all steps

@@ -8,7 +8,7 @@ use Prim.Native.Nat.{ℕ, _+_, _*_, _-_, _≤_, _<_}
 use native.Mathlib.Omega.{arith}
 use lib.IntN.{ℤ, pos, negℤ, natAbs, _*ℤ_, zero-*ℤ}
 use lib.Signed.{nonNeg}
-use Rattle.integers.specs.Whole.{floorDiv, ceilDivℕ, fraction}
+use Rattle.integers.specs.Whole.{nearestDiv, ceilDivℕ, fraction}
 use Rattle.integers.specs.Sums.{vector, magnitudes, matrix, transposed, tabulate}
 use Rattle.integers.proofs.Sums.{allBelow-intro, sum-cong, sum-none, sum-beyond, sumℕ-cong, sumℕ-none, sumℕ-beyond, maxℕ-beyond}
 use Rattle.integers.proofs.Machine.{tabulate-cong, getD-tabulate}
@@ -16,7 +16,7 @@ use Rattle.arrays.specs.Tests.{allBetween, zeroOutside}
 use Rattle.integers.proofs.Booleans.{and-true}
 use Rattle.arrays.proofs.Tests.{zeroOutside-row, zeroOutside-column, zeroOutside-wider}
 use Rattle.stepping.specs.Limits.{matrixUnit, entryLimit, growthLimit, errorLimit}
-use Rattle.stepping.specs.Recurrence.{nextR, nextE, errorSum, growthSum}
+use Rattle.stepping.specs.Recurrence.{nextR, nextE, errorSum, halfUp, growthSum}
 use Rattle.stepping.specs.Refusals.{nonNegative, matrixOk, workingOk, stepOk, steppedR, steppedE, Steps}
 use Rattle.stepping.specs.declared.Stepped.{Stepped}
 use Rattle.stepping.specs.declared.Stepped.the-variants.{Sum, Refused}
@@ -37,7 +37,7 @@ module _ (n : ℕ) (n≤6 : n ≤ 6) where
   pub growthSum-six : (r : ℕ → ℤ) (e : ℕ → ℕ) → ((i : ℕ) → n ≤ i → i < 6 → natAbs (r i) ≡ 0) → ((i : ℕ) → n ≤ i → i < 6 → e i ≡ 0) → growthSum 6 r e ≡ growthSum n r e
   growthSum-six r e zr ze =
       ap (λ (k : ℕ). growthSum k r e) (sym (six n n≤6))
-      ∙ maxℕ-beyond n (6 - n) (λ i. natAbs (r i) + e i) (λ i l h. ap₂ _+_ (zr i l (below-six n i n≤6 h)) (ze i l (below-six n i n≤6 h)))
+      ∙ maxℕ-beyond n (6 - n) (λ i. natAbs (r i) + halfUp (e i)) (λ i l h. ap₂ (λ (a b : ℕ). a + halfUp b) (zr i l (below-six n i n≤6 h)) (ze i l (below-six n i n≤6 h)))
 
   module _ (m : List ℤ) (around : zeroOutside n n m ≡ true) where
     transposed-six : (r : ℕ → ℤ) (i : ℕ) → i < 6 → transposed 6 (matrix m) r i ≡ transposed n (matrix m) r i
@@ -51,7 +51,7 @@ module _ (n : ℕ) (n≤6 : n ≤ 6) where
         ∙ sumℕ-beyond n (6 - n) (λ p. natAbs (matrix m p i) * e p) (λ p l h. ap (λ (z : ℤ). natAbs z * e p) (zeroOutside-row n n m around p i hi l) ∙ zero-times (e p))
 
     pub steppedR-six : (r : List ℤ) → tabulate 6 (nextR 6 (matrix m) (vector r)) ≡ steppedR n m r
-    steppedR-six r = tabulate-cong 6 (λ i h. ap (λ (z : ℤ). floorDiv z matrixUnit) (transposed-six (vector r) i h))
+    steppedR-six r = tabulate-cong 6 (λ i h. ap (λ (z : ℤ). nearestDiv z matrixUnit) (transposed-six (vector r) i h))
 
     pub steppedE-six : (r e : List ℤ) → tabulate 6 (λ i. pos (nextE 6 (matrix m) (vector r) (magnitudes e) i)) ≡ steppedE n m r e
     steppedE-six r e = tabulate-cong 6 (λ i h. ap₂ (λ (s : ℕ) (z : ℤ). pos (ceilDivℕ s matrixUnit + fraction z matrixUnit)) (errorSum-six (magnitudes e) i h) (transposed-six (vector r) i h))
@@ -65,7 +65,7 @@ module _ (n : ℕ) (n≤6 : n ≤ 6) where
         sumℕ-cong n (λ p hp. ap (λ (z : ℤ). natAbs z * e p) (zeroOutside-column n n m around p i h l) ∙ zero-times (e p)) ∙ sumℕ-none n
 
     pub nextR-beyond : (r : ℕ → ℤ) (i : ℕ) → n ≤ i → i < 6 → nextR n (matrix m) r i ≡ pos 0
-    nextR-beyond r i l h = ap (λ (z : ℤ). floorDiv z matrixUnit) (transposed-beyond r i l h)
+    nextR-beyond r i l h = ap (λ (z : ℤ). nearestDiv z matrixUnit) (transposed-beyond r i l h)
 
     pub nextE-beyond : (r : ℕ → ℤ) (e : ℕ → ℕ) (i : ℕ) → n ≤ i → i < 6 → nextE n (matrix m) r e i ≡ 0
     nextE-beyond r e i l h = ap₂ (λ (s : ℕ) (z : ℤ). ceilDivℕ s matrixUnit + fraction z matrixUnit) (errorSum-beyond e i l h) (transposed-beyond r i l h)

@@ -33,7 +33,12 @@ rowZero p from m = allBelow 6 (λ i. ltb i from || eqb (natAbs (matrix m p i)) 0
 abbrev pub zeroAround : ℕ → List ℤ → Bool
 zeroAround n m = allBelow 6 (λ p. rowZero p (zerosFrom n p) m)
 
--- r and e one step on, all six coordinates.
+-- r and e one step on: coordinate i of six.
+pub record Advances (m r e : List ℤ) (i : ℕ) (r′ e′ : ℤ) : Type 0 where
+  pub direction : r′ ≡ nextR 6 (matrix m) (vector r) i
+  pub error : e′ ≡ pos (nextE 6 (matrix m) (vector r) (magnitudes e) i)
+
+-- All six.
 pub record Advanced (m r e r′ e′ : List ℤ) : Type 0 where
   pub direction : r′ ≡ tabulate 6 (nextR 6 (matrix m) (vector r))
   pub errors : e′ ≡ tabulate 6 (λ i. pos (nextE 6 (matrix m) (vector r) (magnitudes e) i))

@@ -1,11 +1,11 @@
 -- The specification's numbers for the stepping arithmetic, each named once. Definitions only. Assumes nothing.
-use Prim.Native.Nat.{ℕ}
+use Prim.Native.Nat.{ℕ, _*_}
 
 -- Model 3: what a stored matrix entry is counted in.
 abbrev pub matrixUnit : ℕ
 matrixUnit = 65536
 
--- Recurrence 1: what working directions are counted in.
+-- Recurrence 1: what working directions are counted in. Errors are counted in half of it.
 abbrev pub directionUnit : ℕ
 directionUnit = 1048576
 
@@ -17,6 +17,6 @@ growthLimit = 1073741824
 abbrev pub entryLimit : ℕ
 entryLimit = 131072
 
--- The most that an e can be where the growth sum is within its limit. An r is bounded by `growthLimit`, an e by this.
+-- The most half units that an e can be where the growth sum is within its limit. An r is bounded by `growthLimit`.
 abbrev pub errorLimit : ℕ
-errorLimit = growthLimit
+errorLimit = 2 * growthLimit

@@ -1,12 +1,13 @@
 -- Recurrence 1 to 8, of one step, and Recurrence 13 and 14: working directions with their errors, growth, the spare figure, and the
--- rounding of a step. Definitions only. r is a vector of whole numbers, e of natural numbers, n the number of coordinates.
+-- rounding of a step. Definitions only. r is a vector of whole numbers, e of natural numbers, which count half units, n the number of
+-- coordinates.
 -- Assumes nothing.
 use mathlib.Core.Path.{_≡_}
 use Prim.Native.Nat.{ℕ, zero, suc, _+_, _*_, _^_}
 use mathlib.Core.Bool.{Bool, cond}
 use lib.Dec.{leb, ltb}
 use lib.IntN.{ℤ, pos, natAbs, _*ℤ_}
-use Rattle.integers.specs.Whole.{floorDiv, ceilDiv, ceilDivℕ, fraction}
+use Rattle.integers.specs.Whole.{nearestDiv, ceilDiv, ceilDivℕ, fraction}
 use Rattle.integers.specs.Sums.{transposed, sumℕ, maxℕ}
 use Rattle.stepping.specs.Limits.{matrixUnit, directionUnit, growthLimit}
 
@@ -18,9 +19,9 @@ abbrev pub firstE : ℕ → ℕ
 firstE i = 0
 
 -- Recurrence 3: N is `transposed n m r`.
--- Recurrence 4: the next r, rounded down.
+-- Recurrence 4: the next r, the nearest; a half goes up.
 abbrev pub nextR : ℕ → (ℕ → ℕ → ℤ) → (ℕ → ℤ) → ℕ → ℤ
-nextR n m r i = floorDiv (transposed n m r i) matrixUnit
+nextR n m r i = nearestDiv (transposed n m r i) matrixUnit
 
 -- Recurrence 5: the errors by the magnitudes of a column, rounded up, and 1 more for an N that was rounded.
 abbrev pub errorSum : ℕ → (ℕ → ℕ → ℤ) → (ℕ → ℕ) → ℕ → ℕ
@@ -29,9 +30,13 @@ errorSum n m e i = sumℕ n (λ p. natAbs (m p i) * e p)
 abbrev pub nextE : ℕ → (ℕ → ℕ → ℤ) → (ℕ → ℤ) → (ℕ → ℕ) → ℕ → ℕ
 nextE n m r e i = ceilDivℕ (errorSum n m e i) matrixUnit + fraction (transposed n m r i) matrixUnit
 
+-- Recurrence 1: half units in units, rounded up.
+abbrev pub halfUp : ℕ → ℕ
+halfUp t = ceilDivℕ t 2
+
 -- Recurrence 6: the growth sum.
 abbrev pub growthSum : ℕ → (ℕ → ℤ) → (ℕ → ℕ) → ℕ
-growthSum n r e = maxℕ n (λ i. natAbs (r i) + e i)
+growthSum n r e = maxℕ n (λ i. natAbs (r i) + halfUp (e i))
 
 -- Recurrence 7: growth, of one r and e.
 abbrev pub grows : ℕ → (ℕ → ℤ) → (ℕ → ℕ) → Bool

@@ -1,12 +1,10 @@
 // One coordinate of a step, and all six.
 ghost use mathlib.Core.Path.{_≡_};
-ghost use Prim.Native.Nat.{_+_, _<_};
-ghost use lib.IntN.{pos};
-ghost use Rattle.integers.specs.Whole.{ceilDivℕ, fraction};
+ghost use Prim.Native.Nat.{_<_};
 ghost use Rattle.integers.specs.Sums.{vector, magnitudes, transposed, matrix as matrixOf};
-ghost use Rattle.stepping.specs.Limits.{matrixUnit, growthLimit};
+ghost use Rattle.stepping.specs.Limits.{growthLimit};
 ghost use Rattle.stepping.specs.Recurrence.{errorSum};
-ghost use Rattle.stepping.specs.Inner.{Bounded, BoundedErrors, Advanced};
+ghost use Rattle.stepping.specs.Inner.{Bounded, BoundedErrors, Advances, Advanced};
 
 // Recurrence 3. N of column i.
 pub(crate) fn product_sum(matrix: &[i32; 36], r: &[i64; 6], i: usize) -> i64
@@ -36,13 +34,27 @@ pub(crate) fn error_sum(matrix: &[i32; 36], e: &[i64; 6], i: usize) -> u64
     sum
 }
 
-// Recurrence 5. The next e of column i, whose N is `sum`.
-fn column_error(matrix: &[i32; 36], e: &[i64; 6], i: usize, sum: i64) -> i64
-    requires { ⌜ (i < 6) × BoundedErrors (now matrix) (now e) ⌝ }
-    ensures { λ x. ⌜ x ≡ pos (ceilDivℕ (errorSum 6 (matrixOf (now (matrix .entry))) (magnitudes (now (e .entry))) i) matrixUnit + fraction sum matrixUnit) ⌝ }
+// The next r and e of a column.
+struct Column {
+    r: i64,
+    e: i64,
+}
+
+// Recurrence 4 and 5. N over 65,536 to the nearest, a half going up; and the errors over 65,536, rounded up, with 1 more for an N
+// that was rounded.
+fn column_of(matrix: &[i32; 36], r: &[i64; 6], e: &[i64; 6], i: usize) -> Column
+    requires { ⌜ (i < 6) × Bounded growthLimit (now matrix) (now r) × BoundedErrors (now matrix) (now e) ⌝ }
+    ensures { λ c. ⌜ Advances (now (matrix .entry)) (now (r .entry)) (now (e .entry)) i (c .r) (c .e) ⌝ }
 {
+    let sum = product_sum(matrix, r, i);
     let errors = error_sum(matrix, e, i);
-    ((errors + 65535) / 65536 + arrays::fraction(sum, 65536)) as i64
+    let nearest = (sum + 32768) >> 16;
+    let up = (errors + 65535) / 65536 + arrays::fraction(sum, 65536);
+    let error = up as i64;
+    Column {
+        r: nearest,
+        e: error,
+    }
 }
 
 // r and e one step on, in place. The six columns stand in a straight line, so that r and e are stored once each and as a
@@ -51,18 +63,12 @@ pub(crate) fn advance(matrix: &[i32; 36], r: &mut [i64; 6], e: &mut [i64; 6])
     requires { ⌜ Bounded growthLimit (now matrix) (now r) × BoundedErrors (now matrix) (now e) ⌝ }
     ensures { λ _. ⌜ Advanced (now (matrix .entry)) (now (r .entry)) (now (e .entry)) (now (r .exit)) (now (e .exit)) ⌝ }
 {
-    let n0 = product_sum(matrix, r, 0);
-    let e0 = column_error(matrix, e, 0, n0);
-    let n1 = product_sum(matrix, r, 1);
-    let e1 = column_error(matrix, e, 1, n1);
-    let n2 = product_sum(matrix, r, 2);
-    let e2 = column_error(matrix, e, 2, n2);
-    let n3 = product_sum(matrix, r, 3);
-    let e3 = column_error(matrix, e, 3, n3);
-    let n4 = product_sum(matrix, r, 4);
-    let e4 = column_error(matrix, e, 4, n4);
-    let n5 = product_sum(matrix, r, 5);
-    let e5 = column_error(matrix, e, 5, n5);
-    *r = [n0 >> 16, n1 >> 16, n2 >> 16, n3 >> 16, n4 >> 16, n5 >> 16];
-    *e = [e0, e1, e2, e3, e4, e5];
+    let c0 = column_of(matrix, r, e, 0);
+    let c1 = column_of(matrix, r, e, 1);
+    let c2 = column_of(matrix, r, e, 2);
+    let c3 = column_of(matrix, r, e, 3);
+    let c4 = column_of(matrix, r, e, 4);
+    let c5 = column_of(matrix, r, e, 5);
+    *r = [c0.r, c1.r, c2.r, c3.r, c4.r, c5.r];
+    *e = [c0.e, c1.e, c2.e, c3.e, c4.e, c5.e];
 }

@@ -1,7 +1,7 @@
 // The stepping arithmetic, Recurrence 1 to 8: the first working direction of a direction, one step of it with its errors, the growth
 // sum, the spare figure and the rounding of a step; and the test of a matrix. It stands alone (Forms 6).
 //
-// No public function has a `requires`. A working direction is six numbers r in units of 1/1,048,576 with six errors e;
+// No public function has a `requires`. A working direction is six numbers r in units of 1/1,048,576 with six errors e in half units;
 // what lies beyond the n coordinates is zero. A refusal is number 11, and leaves r and e as they were.
 mod column;
 mod refusals;
@@ -36,8 +36,8 @@ pub fn first(direction: &[i32; 6], r: &mut [i64; 6], e: &mut [i64; 6])
     *e = [0i64; 6];
 }
 
-// Routines 9. The growth sum of r and e, the largest |r[i]| + e[i]. Refusals 11: n is not 1 to 6, a value beyond n is not zero, an e
-// is negative, or the sum passes 1,073,741,824.
+// Routines 9. The growth sum of r and e, the largest |r[i]| plus half of e[i], rounded up. Refusals 11: n is not 1 to 6, a value beyond
+// n is not zero, an e is negative, or the sum passes 1,073,741,824.
 pub fn growth(n: usize, r: &[i64; 6], e: &[i64; 6]) -> Stepped
     ensures { λ a. ⌜ Grows n (now (r .entry)) (now (e .entry)) a ⌝ }
 {

@@ -8,10 +8,10 @@ use native.Mathlib.Nat.{le-refl, le-trans, lt-of-lt-of-le, mul-le-mul}
 use native.Mathlib.Decide.{decLt}
 use native.Mathlib.Omega.{arith}
 use lib.Dec.{T}
-use lib.IntN.{ℤ, pos, natAbs, _+ℤ_, _*ℤ_}
+use lib.IntN.{ℤ, pos, natAbs, _*ℤ_}
 use lib.Signed.{nonNeg}
 use Rattle.integers.specs.Sums.{vector, magnitudes, matrix, dotℕ, tabulate}
-use Rattle.integers.proofs.Order.{natAbs-add, natAbs-mul-le}
+use Rattle.integers.proofs.Order.{natAbs-mul-le}
 use Rattle.integers.proofs.Sums.{sumℕ-cong, sumℕ-beyond, sumℕ-bound, natAbs-sum}
 use Rattle.integers.proofs.Machine.{getD-tabulate, tabulate-cong}
 use Rattle.arrays.specs.Tests.{zeroOutside}
@@ -25,7 +25,7 @@ use Rattle.stepping.proofs.Beyond.{nextR-beyond, nextE-beyond}
 use Rattle.reachability.specs.Sets.{points, reachOf, reachLimit}
 use Rattle.reachability.specs.Recurrence.{Working, next, supportAt, errorAt}
 use Rattle.reachability.specs.SetsInner.{productLimit, termLimit}
-use Rattle.reachability.specs.SweepInner.{errorsLimit, addedLimit, termSupport, termErrors, termOf, TermsAsk, reachesOf}
+use Rattle.reachability.specs.SweepInner.{errorsLimit, termSupport, termErrors, TermsAsk, reachesOf}
 use Rattle.reachability.specs.declared.sets.Set.{Set}
 use Rattle.reachability.proofs.sets.Bounds.{supportOf-six, supportOf-same}
 use Rattle.reachability.proofs.sets.Facts.{SetFacts}
@@ -35,10 +35,6 @@ pub record Stored (n : ℕ) (w : Working) (r e : List ℤ) : Type 0 where
   pub e-is : e ≡ tabulate 6 (λ i. pos (w .e i))
   pub r-zero : (i : ℕ) → n ≤ i → i < 6 → w .r i ≡ pos 0
   pub e-zero : (i : ℕ) → n ≤ i → i < 6 → w .e i ≡ 0
-
--- What a set adds to a step at a working direction.
-abbrev pub addedAt : ℕ → Set → Working → ℤ
-addedAt n s w = supportAt n s w +ℤ pos (errorAt n s w)
 
 module _ {n : ℕ} (n≤6 : n ≤ 6) {w : Working} {r e : List ℤ} (stored : Stored n w r e) where
   r-at : (i : ℕ) → i < 6 → vector r i ≡ w .r i
@@ -99,7 +95,7 @@ module _ {n : ℕ} (n≤6 : n ≤ 6) {w : Working} {r e : List ℤ} (stored : St
     reach-at : (i : ℕ) → i < 6 → vector (reachesOf s) i ≡ pos (reachAt i)
     reach-at i h = getD-tabulate 6 (λ j. pos (reachAt j)) i (pos 0) h
 
-    support-stored : termSupport (s .shape) (s .count) (s .points) r ≡ supportAt n s w
+    pub support-stored : termSupport (s .shape) (s .count) (s .points) r ≡ supportAt n s w
     support-stored = supportOf-six n n≤6 (s .count) (s .points) (facts .outside) (s .shape) (vector r) ∙ supportOf-same n (s .shape) (s .count) (points (s .points)) (λ i h. r-at i (inside h))
 
     pub errors-stored : termErrors e (reachesOf s) ≡ errorAt n s w
@@ -117,11 +113,8 @@ module _ {n : ℕ} (n≤6 : n ≤ 6) {w : Working} {r e : List ℤ} (stored : St
         zero-times : (k : ℕ) → 0 * k ≡ 0
         zero-times k = omega arith
 
-    pub added-stored : termOf (s .shape) (s .count) (s .points) (reachesOf s) r e ≡ addedAt n s w
-    added-stored = ap₂ (λ (z : ℤ) (k : ℕ). z +ℤ pos k) support-stored errors-stored
-
     -- a support is at most what the reaches allow: some point attains it
-    support-small : natAbs (supportAt n s w) ≤ termLimit
+    pub support-small : natAbs (supportAt n s w) ≤ termLimit
     support-small =
         let a = facts .laws .attained (w .r) in
         subst (λ (z : ℤ). natAbs z ≤ termLimit) (a .2)
@@ -137,9 +130,6 @@ module _ {n : ℕ} (n≤6 : n ≤ 6) {w : Working} {r e : List ℤ} (stored : St
     pub errors-small : errorAt n s w ≤ errorsLimit
     errors-small =
         le-trans (sumℕ-bound n (errorLimit * reachLimit) (λ i h. mul-le-mul (error-le-limit n (w .r) (w .e) calm i h) (facts .reach-small .small i (inside h)))) (mul-le-mul n≤6 (le-refl (errorLimit * reachLimit)))
-
-    pub added-small : natAbs (addedAt n s w) ≤ addedLimit
-    added-small = omega (arith, natAbs-add (supportAt n s w) (pos (errorAt n s w)), support-small, errors-small)
 
     pub terms-ask : TermsAsk (s .shape) (s .count) (s .points) (reachesOf s) r e
     terms-ask =

@@ -13,7 +13,7 @@ use Rattle.integers.specs.Sums.{vector, magnitudes, matrix, tabulate}
 use Rattle.integers.proofs.Sums.{sum-cong, sumℕ-cong, pos-sumℕ}
 use Rattle.integers.proofs.RunningSum.{RunningSum, running-start, running-more}
 use Rattle.stepping.specs.Limits.{directionUnit, growthLimit}
-use Rattle.stepping.specs.Recurrence.{firstR, firstE, growthSum, boundOf, slackOf}
+use Rattle.stepping.specs.Recurrence.{firstR, firstE, halfUp, growthSum, boundOf, slackOf}
 use Rattle.stepping.specs.Refusals.{stepOk, growthAnswer, Steps, sumOf}
 use Rattle.stepping.specs.declared.Stepped.{Stepped}
 use Rattle.stepping.specs.declared.Stepped.the-variants.{Sum, Refused}
@@ -21,11 +21,12 @@ use Rattle.stepping.proofs.Recurrence.{growthSum-first}
 use Rattle.stepping.proofs.Beyond.{steps-six}
 use Rattle.limits.specs.Limits.{directionLimit}
 use Rattle.reachability.specs.Runs.{moves, direction}
-use Rattle.reachability.specs.Recurrence.{Working, first, next, walk, working, sumAt, errorAt, rawBound, rawSlack, bound, slack}
-use Rattle.reachability.specs.SweepInner.{errorsLimit, addedLimit, termErrors, termOf, StepAsks, StepGives, reachesOf}
+use Rattle.reachability.specs.Recurrence.{Working, first, next, walk, working, sumAt, supportAt, errorAt, errorTotal, supportTotal, bound, slack}
+use Rattle.reachability.specs.SetsInner.{termLimit}
+use Rattle.reachability.specs.SweepInner.{errorsLimit, termSupport, termErrors, StepAsks, StepGives, reachesOf}
 use Rattle.reachability.specs.declared.model.Model.{Model}
 use Rattle.reachability.proofs.model.Facts.{ModelFacts}
-use Rattle.reachability.proofs.sweep.StoredDirection.{Stored, addedAt, sum-stored, working-passes, stored-next, errors-stored, added-stored, errors-small, added-small, terms-ask}
+use Rattle.reachability.proofs.sweep.StoredDirection.{Stored, sum-stored, working-passes, stored-next, support-stored, errors-stored, support-small, errors-small, terms-ask}
 
 -- ---- the walk with one matrix
 
@@ -44,19 +45,19 @@ walk-start n a w = refl
 
 -- ---- what stands before step k
 
--- the working direction of step k, what the input adds at it, and its errors alone
+-- the working direction of step k, the input's support at it, and its error term
 abbrev pub workingAt : Model → ℕ → ℕ → Working
 workingAt m d k = working m d k k
 
 abbrev pub inputAt : Model → ℕ → ℕ → ℤ
-inputAt m d j = addedAt (m .n) (m .input) (workingAt m d j)
+inputAt m d j = supportAt (m .n) (m .input) (workingAt m d j)
 
 abbrev pub inputErrorAt : Model → ℕ → ℕ → ℕ
 inputErrorAt m d j = errorAt (m .n) (m .input) (workingAt m d j)
 
 pub record BeforeStep (m : Model) (d : ℕ) (r e : List ℤ) (inputs : ℤ) (errors k : ℕ) : Type 0 where
   pub stored : Stored (m .n) (workingAt m d k) r e
-  pub inputs-run : RunningSum (suc (m .steps)) (inputAt m d) addedLimit k inputs
+  pub inputs-run : RunningSum (suc (m .steps)) (inputAt m d) termLimit k inputs
   pub errors-run : RunningSum (suc (m .steps)) (λ j. pos (inputErrorAt m d j)) errorsLimit k (pos errors)
 
 pub first-working : (m : Model) (d : ℕ) → workingAt m d 0 ≡ first (direction m d)
@@ -73,7 +74,7 @@ module _ (m : Model) (facts : ModelFacts m) (d : ℕ) where
   before-first r e p q =
       record {
         stored = subst (λ (w : Working). Stored (m .n) w r e) (sym (first-working m d)) (record { r-is = p; e-is = q; r-zero = λ i l h. ap (λ (z : ℤ). pos directionUnit *ℤ z) (facts .direction-beyond d i l h) ∙ *ℤ-zero (pos directionUnit); e-zero = λ i l h. refl });
-        inputs-run = running-start _ (inputAt m d) addedLimit;
+        inputs-run = running-start _ (inputAt m d) termLimit;
         errors-run = running-start _ (λ j. pos (inputErrorAt m d j)) errorsLimit;
       }
 
@@ -108,17 +109,17 @@ module _ (m : Model) (facts : ModelFacts m) (d : ℕ) where
       same : (j : ℕ) → working m d k j ≡ workingAt m d j
       same j = walk-same (m .n) (matrix (m .matrix)) (first (direction m d)) k j j
 
-      raw-is : termOf (m .initial .shape) (m .initial .count) (m .initial .points) (reachesOf (m .initial)) r e +ℤ inputs ≡ rawBound m d k
-      raw-is = ap₂ _+ℤ_ (added-stored (facts .n-most) (b .stored) calm (m .initial) (facts .initial)) (b .inputs-run .is ∙ sum-cong k (λ j h. sym (ap (addedAt (m .n) (m .input)) (same j))))
+      supports-are : termSupport (m .initial .shape) (m .initial .count) (m .initial .points) r +ℤ inputs ≡ supportTotal m d k
+      supports-are = ap₂ _+ℤ_ (support-stored (facts .n-most) (b .stored) calm (m .initial) (facts .initial)) (b .inputs-run .is ∙ sum-cong k (λ j h. sym (ap (supportAt (m .n) (m .input)) (same j))))
 
-      raw-slack-is : 2 * (termErrors e (reachesOf (m .initial)) + errors) ≡ rawSlack m d k
-      raw-slack-is = ap₂ (λ (x y : ℕ). 2 * (x + y)) (errors-stored (facts .n-most) (b .stored) calm (m .initial) (facts .initial)) (ap natAbs (b .errors-run .is ∙ sym (pos-sumℕ k (inputErrorAt m d))) ∙ sumℕ-cong k (λ j h. sym (ap (errorAt (m .n) (m .input)) (same j))))
+      errors-are : termErrors e (reachesOf (m .initial)) + errors ≡ errorTotal m d k
+      errors-are = ap₂ _+_ (errors-stored (facts .n-most) (b .stored) calm (m .initial) (facts .initial)) (ap natAbs (b .errors-run .is ∙ sym (pos-sumℕ k (inputErrorAt m d))) ∙ sumℕ-cong k (λ j h. sym (ap (errorAt (m .n) (m .input)) (same j))))
 
       pub bound-is : bv ≡ bound m d k
-      bound-is = gives .rounds .bound-is ∙ ap boundOf raw-is
+      bound-is = gives .rounds .bound-is ∙ ap₂ (λ (z : ℤ) (t : ℕ). boundOf (z +ℤ pos (halfUp t))) supports-are errors-are
 
       pub slack-is : sv ≡ pos (slack m d k)
-      slack-is = gives .rounds .slack-is ∙ ap₂ (λ (z : ℤ) (j : ℕ). pos (slackOf z j)) raw-is raw-slack-is
+      slack-is = gives .rounds .slack-is ∙ ap₂ (λ (z : ℤ) (t : ℕ). pos (slackOf (z +ℤ pos (halfUp t)) (2 * halfUp t))) supports-are errors-are
 
       module _ {a : Stepped} {r′ e′ : List ℤ} (six : Steps 6 (m .matrix) r e a r′ e′) where
         st : Steps (m .n) (m .matrix) r e a r′ e′
@@ -131,7 +132,7 @@ module _ (m : Model) (facts : ModelFacts m) (d : ℕ) where
         before-next =
             record {
               stored = subst (λ (j : ℕ). Stored (m .n) (workingAt m d j) r′ e′) (sym (add-one k)) stored-after;
-              inputs-run = running-more (b .inputs-run) (Prim.Native.Nat.suc-le-suc k-inside) (added-small (facts .n-most) (b .stored) calm (m .input) (facts .input)) (gives .inputs-are ∙ ap (λ (z : ℤ). inputs +ℤ z) (added-stored (facts .n-most) (b .stored) calm (m .input) (facts .input)));
+              inputs-run = running-more (b .inputs-run) (Prim.Native.Nat.suc-le-suc k-inside) (support-small (facts .n-most) (b .stored) calm (m .input) (facts .input)) (gives .inputs-are ∙ ap (λ (z : ℤ). inputs +ℤ z) (support-stored (facts .n-most) (b .stored) calm (m .input) (facts .input)));
               errors-run = running-more (b .errors-run) (Prim.Native.Nat.suc-le-suc k-inside) (errors-small (facts .n-most) (b .stored) calm (m .input) (facts .input)) (ap pos (gives .errors-are ∙ ap (λ (j : ℕ). errors + j) (errors-stored (facts .n-most) (b .stored) calm (m .input) (facts .input))));
             }
 

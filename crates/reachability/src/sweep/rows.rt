@@ -12,7 +12,7 @@ ghost use lib.ListN.{length};
 ghost use Rattle.integers.specs.Sums.{vector, tabulate};
 ghost use Rattle.stepping.specs.Limits.{growthLimit};
 ghost use Rattle.stepping.specs.Recurrence.{spare};
-ghost use Rattle.reachability.specs.SweepInner.{ErrorsWithReach, termErrors, TermsAsk, termOf, StepAsks, StepGives, FillAsks, Prepared, Fills};
+ghost use Rattle.reachability.specs.SweepInner.{ErrorsWithReach, termErrors, StepAsks, StepGives, FillAsks, Prepared, Fills};
 
 // 257 zeros. The contract gives the length alone.
 pub(crate) fn blank() -> [i64; 257]
@@ -35,29 +35,6 @@ fn errors_of(e: &[i64; 6], reaches: &[i64; 6]) -> u64
     sum
 }
 
-// What a set adds to a step: its support at r plus e · reach, and e · reach alone.
-struct Terms {
-    total: i64,
-    errors: u64,
-}
-
-fn terms_of(
-    shape: Shape,
-    count: usize,
-    points: &[i32; 96],
-    reaches: &[i64; 6],
-    r: &[i64; 6],
-    e: &[i64; 6],
-) -> Terms
-    requires { ⌜ TermsAsk shape count (now points) (now reaches) (now r) (now e) ⌝ }
-    ensures { λ t. ⌜ (t .total ≡ termOf shape count (now (points .entry)) (now (reaches .entry)) (now (r .entry)) (now (e .entry))) × (t .errors ≡ termErrors (now (e .entry)) (now (reaches .entry))) ⌝ }
-{
-    let support = support_of(shape, count, points, r);
-    let errors = errors_of(e, reaches);
-    let total = support + (errors as i64);
-    Terms { total, errors }
-}
-
 // The spare figure of a largest sum from 1 to 1,073,741,824.
 pub(crate) fn spare_of(sum: u64) -> u32
     requires { ⌜ (1 ≤ sum) × (sum ≤ growthLimit) ⌝ }
@@ -69,7 +46,7 @@ pub(crate) fn spare_of(sum: u64) -> u32
     }
 }
 
-// What one step gives: its bound and slack, and what the inputs and errors of all steps so far come to.
+// What one step gives: its bound and slack, and what the inputs' supports and errors of all steps so far come to.
 struct StepValues {
     bound: i64,
     slack: i64,
@@ -95,19 +72,13 @@ fn values_of(
     requires { ⌜ StepAsks «initial_shape» «initial_count» (now «initial_points») (now «initial_reaches») «input_shape» «input_count» (now «input_points») (now «input_reaches») (now r) (now e) inputs errors ⌝ }
     ensures { λ v. ⌜ StepGives «initial_shape» «initial_count» (now («initial_points» .entry)) (now («initial_reaches» .entry)) «input_shape» «input_count» (now («input_points» .entry)) (now («input_reaches» .entry)) (now (r .entry)) (now (e .entry)) inputs errors (v .bound) (v .slack) (v .inputs) (v .errors) ⌝ }
 {
-    let here = terms_of(
-        initial_shape,
-        initial_count,
-        initial_points,
-        initial_reaches,
-        r,
-        e,
-    );
-    let entering = terms_of(input_shape, input_count, input_points, input_reaches, r, e);
-    let entered = inputs + entering.total;
-    let erred = errors + entering.errors;
-    let raw = here.total + inputs;
-    let rounded = bound_and_slack(raw, 2 * (here.errors + errors));
+    let here = support_of(initial_shape, initial_count, initial_points, r);
+    let entered = inputs + support_of(input_shape, input_count, input_points, r);
+    let total = errors_of(e, initial_reaches) + errors;
+    let erred = errors + errors_of(e, input_reaches);
+    let half = (total + 1) / 2;
+    let raw = here + inputs + (half as i64);
+    let rounded = bound_and_slack(raw, 2 * half);
     StepValues {
         bound: rounded.bound,
         slack: rounded.slack,

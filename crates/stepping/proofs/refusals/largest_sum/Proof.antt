@@ -9,6 +9,7 @@ use Rattle.integers.specs.Sums.{vector, magnitudes, allBelow, maxℕ}
 use Rattle.integers.proofs.Sums.{allBelow-more, allBelow-fails, maxℕ-suc}
 use Rattle.integers.proofs.Order.{negative-is, natural-is}
 use Rattle.integers.proofs.Machine.{read-given}
+use Rattle.stepping.specs.Recurrence.{halfUp}
 use Rattle.stepping.specs.declared.Stepped.the-variants.{Sum, Refused}
 use Rattle.stepping.proofs.refusals.largest_sum.Statement.{statement}
 use Rattle.stepping.proofs.refusals.largest_sum.Tie as tie
@@ -17,7 +18,7 @@ abbrev naturalAt : List ℤ → ℕ → Bool
 naturalAt e i = nonNeg (vector e i)
 
 abbrev sumAt : List ℤ → List ℤ → ℕ → ℕ
-sumAt r e i = natAbs (vector r i) + magnitudes e i
+sumAt r e i = natAbs (vector r i) + halfUp (magnitudes e i)
 
 record LargestSoFar (r e : List ℤ) (most i : ℕ) : Type 0 where
   inside : i ≤ 6
@@ -49,7 +50,7 @@ returns c =
     let form = negative-is (vector e i) (simp (read-given w64 (vector e i) (c .before .y .given)) at (c .if1 .taken)) in
     sym (ap (λ (t : Bool). cond t (Sum (maxℕ 6 (sumAt (at-loop .before .args .r .now) e))) Refused) (allBelow-fails 6 (naturalAt e) i (omega arith) (ap nonNeg (form .1))))
 
--- the two magnitudes of a turn, and that their sum fits: e is at most 2^63 - 1
+-- the two magnitudes of a turn; e is at most 2^63 - 1
 module _ (c : tie.After-magnitude2 Inv-loop μ-loop) where
   abbrev r : List ℤ
   r = c .before .before .before .before .before .before .before .args .r .now
@@ -79,7 +80,10 @@ module _ (c : tie.After-magnitude2 Inv-loop μ-loop) where
   small-e = subst (λ (z : ℤ). natAbs z < 9223372036854775808) (sym (form-e .1)) (rw (form-e .1) at (fit-e .sfits))
 
 add-sum : tie.Need-add-sum Inv-loop μ-loop
-add-sum c = omega (arith, of-r c, of-e c, small-e c, natAbs-le (vector (r c) (i c)) (fit-r c .sfits))
+add-sum c = omega (arith, of-e c, small-e c)
+
+add-sum-2 : tie.Need-add-sum-2 Inv-loop μ-loop
+add-sum-2 c = omega (arith, of-r c, of-e c, small-e c, natAbs-le (vector (r c) (i c)) (fit-r c .sfits))
 
 loop-again : tie.Need-loop-again Inv-loop μ-loop
 loop-again c =
@@ -88,7 +92,7 @@ loop-again c =
     record {
       inside = omega arith;
       natural = allBelow-more (i b) (naturalAt (e b)) (inv .natural) (ap nonNeg (form-e b .1));
-      largest = c .larger .ensures ∙ ap₂ max (inv .largest) (ap₂ _+_ (of-r b) (of-e b)) ∙ sym (ap (λ (k : ℕ). maxℕ k (sumAt (r b) (e b))) (add-one (i b)) ∙ maxℕ-suc (i b) (sumAt (r b) (e b)));
+      largest = c .larger .ensures ∙ ap₂ max (inv .largest) (ap₂ (λ (x y : ℕ). x + halfUp y) (of-r b) (of-e b)) ∙ sym (ap (λ (k : ℕ). maxℕ k (sumAt (r b) (e b))) (add-one (i b)) ∙ maxℕ-suc (i b) (sumAt (r b) (e b)));
     }
 
 returns-2 : tie.Need-returns-2 Inv-loop μ-loop
@@ -114,6 +118,7 @@ largest-sum-spec =
     (λ c κs. search needs)
     (λ c κs. search needs)
     add-sum
+    add-sum-2
     (λ c κs. search needs)
     (λ c. omega arith)
     (λ c. omega arith)
