@@ -1,5 +1,5 @@
 /* The C interface in use. Makes the specification's sample file (Listing 8), sweeps its direction, judges its guards, makes two
- * steps of Figures 5, lists the sample in one call, and shows refusals: two files, a direction with growth (Figures 8), calls that
+ * steps of Figures 5 and two of Figures 17, lists the sample in one call, and shows refusals: two files, a direction with growth (Figures 8), calls that
  * ask for what isn't there, and a buffer that is too small. What it writes is compared with expected.txt.
  * Returns 1 where a call is refused that should not be, or finishes that should not. */
 #include "pepperscarp.h"
@@ -183,7 +183,8 @@ int main(void)
 {
     static const int32_t none[2] = {0, 0};
     static const int32_t to_one[2] = {0, 1};
-    static const int32_t matrix[36] = {1};
+    static const int32_t fading[36] = {1};
+    static const int32_t halving[36] = {32};
     int64_t r[6] = {1048576};
     int64_t e[6] = {0};
     struct file sample = model(3, 32768, none, to_one);
@@ -201,9 +202,14 @@ int main(void)
     judge(&sample, 1, 4, PEPPERSCARP_FINISHED);
     judge(&sample, 2, 4, PEPPERSCARP_FINISHED);
 
-    step(1, matrix, r, e, PEPPERSCARP_FINISHED);
-    step(1, matrix, r, e, PEPPERSCARP_FINISHED);
-    step(7, matrix, r, e, PEPPERSCARP_INVALID);
+    step(1, fading, r, e, PEPPERSCARP_FINISHED);
+    step(1, fading, r, e, PEPPERSCARP_FINISHED);
+    step(7, fading, r, e, PEPPERSCARP_INVALID);
+
+    r[0] = -2097152;
+    e[0] = 0;
+    step(1, halving, r, e, PEPPERSCARP_FINISHED);
+    step(1, halving, r, e, PEPPERSCARP_FINISHED);
 
     list(&sample, sizeof text, 1);
     list(&sample, sizeof text - 1, 0);

@@ -1,5 +1,5 @@
 -- The accuracy rule over a sequence of matrices, with no model and no code in sight: two sets known by their laws, moves, and a
--- direction of any size. In order: the exact largest value `top`, which no run passes and a run attains; supports of directions
+-- direction of any size. In order: what errors say; the exact largest value `top`, which no run passes and a run attains; supports of directions
 -- near each other; `top` near the sums that the recurrence adds up; those sums as the raw bound and slack have them.
 -- Assumes nothing.
 use mathlib.Core.Path.{_≡_, refl, sym, ap, ap₂, subst, _∙_}
@@ -16,13 +16,33 @@ use Rattle.integers.proofs.SignedParts.{v, #, _⊕_, _⊗_, eq!, le?, eq?, halv
 use Rattle.integers.proofs.Order.{⩽-of-eq, ⩽-trans, ⩽-add, ⩽-scale, halves-add, halves-scale, halves-mono}
 use Rattle.integers.proofs.Sums.{sum-cong, sum-zero, sum-first, sumℕ-zero, sumℕ-first, sumℕ-cong, sumℕ-scale, dot-times, dot-add, dot-scale, dot-cong, halves-dot}
 use Rattle.stepping.specs.Limits.{matrixUnit}
-use Rattle.stepping.proofs.Stands.{Stands, stands-step}
+use Rattle.stepping.specs.Recurrence.{Stands, firstR}
+use Rattle.stepping.proofs.Stands.{stands-first, stands-step}
 use Rattle.reachability.specs.Runs.{stateOf}
-use Rattle.reachability.specs.Recurrence.{Working, next, walk}
+use Rattle.reachability.specs.Recurrence.{Working, first, next, walk, unrounded}
 use Rattle.reachability.proofs.sets.Laws.{SetLaws}
 
 pub one-times : (z : ℤ) → pos 1 *ℤ z ≡ z
 one-times z = eq! (# 1 ⊗ v z) (v z) (omega arith)
+
+-- ---- what errors say
+
+-- Recurrence 1: at every place of every walk, twice the distance of the working direction from the one without rounding is at most its
+-- errors.
+pub working-stands : (n : ℕ) (moves : ℕ → ℕ → ℕ → ℤ) (k : ℕ) (d : ℕ → ℤ) (j : ℕ) → Stands n (matrixUnit ^ j) (unrounded n moves k (firstR d) j) (walk n moves k (first d) j .r) (walk n moves k (first d) j .e)
+unfolding walk unrounded
+working-stands n moves k d zero = stands-first n d
+working-stands n moves k d (suc j) =
+    let w = walk n moves k (first d) j in
+    let x = unrounded n moves k (firstR d) j in
+    subst (λ (s : ℕ). Stands n s (transposed n (moves (k - suc j)) x) (next n (moves (k - suc j)) w .r) (next n (moves (k - suc j)) w .e)) (scaled j)
+    (stands-step n (matrixUnit ^ j) (moves (k - suc j)) x (w .r) (w .e) (working-stands n moves k d j))
+  where
+    scaled : (j : ℕ) → matrixUnit * matrixUnit ^ j ≡ matrixUnit ^ suc j
+    scaled j = turned (matrixUnit ^ j) ∙ sym (pow-suc matrixUnit j)
+      where
+        turned : (t : ℕ) → matrixUnit * t ≡ t * matrixUnit
+        turned t = omega arith
 
 -- ---- states
 

@@ -6,7 +6,7 @@
 use mathlib.Core.Bool.{Bool, cond}
 use Prim.Native.Nat.{ℕ, zero, suc, _+_, _*_, _-_}
 use lib.IntN.{ℤ, pos, _+ℤ_}
-use Rattle.integers.specs.Sums.{sum, sumℕ, maxℕ, dotℕ}
+use Rattle.integers.specs.Sums.{sum, sumℕ, maxℕ, dotℕ, transposed}
 use Rattle.stepping.specs.Recurrence.{firstR, firstE, nextR, nextE, halfUp, growthSum, grows, spare, boundOf, slackOf}
 use Rattle.reachability.specs.Sets.{points, supportOf, reachOf}
 use Rattle.reachability.specs.Runs.{moves, direction}
@@ -28,6 +28,11 @@ next n m w = record { r = nextR n m (w .r); e = nextE n m (w .r) (w .e) }
 unfoldable pub walk : ℕ → (ℕ → ℕ → ℕ → ℤ) → ℕ → Working → ℕ → Working
 walk n moves k w zero = w
 walk n moves k w (suc j) = next n (moves (k - suc j)) (walk n moves k w j)
+
+-- Recurrence 1: the same walk of a direction x without rounding, counted in 1 / 65,536 ^ j of the unit after j moves.
+unfoldable pub unrounded : ℕ → (ℕ → ℕ → ℕ → ℤ) → ℕ → (ℕ → ℤ) → ℕ → ℕ → ℤ
+unrounded n moves k x zero = x
+unrounded n moves k x (suc j) = transposed n (moves (k - suc j)) (unrounded n moves k x j)
 
 -- r(j) and e(j) on the walk of step k of direction d.
 abbrev pub working : Model → ℕ → ℕ → ℕ → Working

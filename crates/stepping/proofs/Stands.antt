@@ -1,7 +1,7 @@
 -- The law of a step: where a working direction with its errors, which count half units, stands for an exact direction, so do the
 -- stepped ones, at 65,536 times the scale. For any matrix, so that a sequence of matrices needs nothing new. Assumes nothing.
 use mathlib.Core.Path.{_≡_, subst, _∙_}
-use Prim.Native.Nat.{ℕ, _+_, _*_, _≤_, _<_}
+use Prim.Native.Nat.{ℕ, _+_, _*_, _≤_}
 use native.Mathlib.Nat.{le-refl, mul-le-mul-left}
 use native.Mathlib.Omega.{arith}
 use lib.Dec.{lit<}
@@ -13,12 +13,7 @@ use Rattle.integers.proofs.Order.{halves-of-eq, halves-mono, halves-trans, halv
 use Rattle.integers.proofs.Rounding.{halves-nearestDiv, ceilDivℕ-le}
 use Rattle.integers.proofs.Sums.{sum-cong, sum-scale, sumℕ-cong, sumℕ-scale, halves-sum}
 use Rattle.stepping.specs.Limits.{matrixUnit}
-use Rattle.stepping.specs.Recurrence.{firstR, firstE, nextR, nextE, errorSum}
-
--- r, with the errors e, stands for the exact direction x at the scale s: in each coordinate twice the distance of x from s × r is at
--- most s × e.
-pub record Stands (n s : ℕ) (x r : ℕ → ℤ) (e : ℕ → ℕ) : Type 0 where
-  pub near : (i : ℕ) → i < n → NearHalves (x i) (pos s *ℤ r i) (s * e i)
+use Rattle.stepping.specs.Recurrence.{Stands, firstR, firstE, nextR, nextE, errorSum}
 
 -- The first working direction is exact.
 pub stands-first : (n : ℕ) (d : ℕ → ℤ) → Stands n 1 (firstR d) (firstR d) firstE

@@ -3,13 +3,18 @@
 -- coordinates.
 -- Assumes nothing.
 use mathlib.Core.Path.{_≡_}
-use Prim.Native.Nat.{ℕ, zero, suc, _+_, _*_, _^_}
+use Prim.Native.Nat.{ℕ, zero, suc, _+_, _*_, _^_, _<_}
 use mathlib.Core.Bool.{Bool, cond}
 use lib.Dec.{leb, ltb}
 use lib.IntN.{ℤ, pos, natAbs, _*ℤ_}
-use Rattle.integers.specs.Whole.{nearestDiv, ceilDiv, ceilDivℕ, fraction}
+use Rattle.integers.specs.Whole.{NearHalves, nearestDiv, ceilDiv, ceilDivℕ, fraction}
 use Rattle.integers.specs.Sums.{transposed, sumℕ, maxℕ}
 use Rattle.stepping.specs.Limits.{matrixUnit, directionUnit, growthLimit}
+
+-- Recurrence 1: what errors say. r, with the errors e, stands for the exact direction x, which is counted in 1 / s of the unit: in each
+-- coordinate twice the distance of x from s × r is at most s × e.
+pub record Stands (n s : ℕ) (x r : ℕ → ℤ) (e : ℕ → ℕ) : Type 0 where
+  pub near : (i : ℕ) → i < n → NearHalves (x i) (pos s *ℤ r i) (s * e i)
 
 -- Recurrence 2: r(0) and e(0).
 abbrev pub firstR : (ℕ → ℤ) → ℕ → ℤ

@@ -1,4 +1,4 @@
-//! Figures 1 to 14 of the specification, as far as the interface shows them, its sample (Listing 8), and the listings in examples/.
+//! Figures 1 to 14 and 16 to 20 of the specification, as far as the interface shows them, its sample (Listing 8), and the listings in examples/.
 
 use crate::sweeps::compare_sweep;
 use pepperscarp::{judge, list_length, step, sweep, Refusal, Verdict, LISTING_ROOM};
@@ -16,6 +16,19 @@ fn line(steps: u16, entry: i32, initial: [i32; 2], input: [i32; 2], direction: i
     records.extend(levels.iter().map(|level| guard(0, *level)));
     records.push(end());
     file(&records)
+}
+
+/// The working direction of one coordinate after each of so many steps: r, e and the growth sum.
+fn walked(entry: i32, direction: i64, steps: usize) -> Vec<(i64, i64, u64)> {
+    let mut matrix = [0; 36];
+    matrix[0] = entry;
+    let (mut r, mut e) = ([0; 6], [0; 6]);
+    r[0] = 1_048_576 * direction;
+    let mut after = || {
+        let sum = step(1, &matrix, &mut r, &mut e).expect("not beyond the limit");
+        (r[0], e[0], sum)
+    };
+    (0..steps).map(|_| after()).collect()
 }
 
 /// The sweep of direction 0: spare figure, bounds and slacks.
@@ -47,20 +60,14 @@ fn case_4_the_last_fraction_of_the_bound_is_in_the_slack() {
 }
 
 #[test]
-fn cases_5_and_6_negative_products_are_rounded_toward_minus_infinity() {
+fn cases_5_and_6_a_product_of_less_than_half_a_unit_is_rounded_to_zero() {
     let (_, bounds, slacks) = swept(&line(2, 1, [0, 100], [0, 0], 1, &[])).expect("calm");
     assert_eq!((bounds, slacks), (vec![100, 1, 1], vec![0, 1, 2]));
-    let (_, bounds, _) = swept(&line(2, 1, [0, 100], [0, 0], -1, &[])).expect("calm");
-    assert_eq!(bounds, vec![0, 0, 1]);
-
-    let mut matrix = [0; 36];
-    matrix[0] = 1;
-    let (mut r, mut e) = ([0; 6], [0; 6]);
-    r[0] = -1_048_576;
-    assert_eq!(step(1, &matrix, &mut r, &mut e), Ok(16));
-    assert_eq!((r[0], e[0]), (-16, 0));
-    assert_eq!(step(1, &matrix, &mut r, &mut e), Ok(2));
-    assert_eq!((r[0], e[0]), (-1, 1));
+    let (_, bounds, slacks) = swept(&line(2, 1, [0, 100], [0, 0], -1, &[])).expect("calm");
+    assert_eq!((bounds, slacks), (vec![0, 0, 1], vec![0, 0, 2]));
+    for direction in [1, -1] {
+        assert_eq!(walked(1, direction, 2), [(16 * direction, 0, 16), (0, 1, 1)]);
+    }
 }
 
 #[test]
@@ -121,17 +128,50 @@ fn the_sample_has_its_spare_figure_bounds_slacks_and_verdicts() {
 }
 
 #[test]
-fn growth_counts_the_errors_and_so_does_the_spare_figure() {
-    assert_eq!(swept(&line(2, 75_922, [0, 0], [0, 0], 763, &[])), Err(Refusal::Growth(2)));
-    assert_eq!(swept(&line(5, 81_325, [0, 0], [0, 0], 87, &[])).expect("not yet").0, 1);
+fn case_16_half_of_an_odd_sum_of_errors_is_rounded_up() {
+    let (_, bounds, slacks) = swept(&line(2, 1, [0, 1], [0, 0], 1, &[])).expect("calm");
+    assert_eq!((bounds, slacks), (vec![1, 1, 1], vec![0, 1, 2]));
+    // r(2) is -1, and T is 3 or 2: the raw bound is -1 + 2, or -1 + 1.
+    for (high, last) in [(3, (1, 2)), (2, (0, 1))] {
+        let (_, bounds, slacks) = swept(&line(2, 32, [1, high], [0, 0], -3, &[])).expect("calm");
+        assert_eq!((bounds, slacks), (vec![-3, 0, last.0], vec![0, 1, last.1]));
+    }
+}
+
+#[test]
+fn case_17_a_half_goes_up_whatever_its_sign() {
+    let most = 1_048_576;
+    let (_, bounds, slacks) = swept(&line(2, 32, [-most, 0], [0, 0], -2, &[])).expect("calm");
+    assert_eq!((bounds, slacks), (vec![2_097_152, 1_024, 1], vec![0, 0, 2]));
+    let (_, bounds, slacks) = swept(&line(2, 32, [0, most], [0, 0], 2, &[])).expect("calm");
+    assert_eq!((bounds, slacks), (vec![2_097_152, 1_024, 2], vec![0, 0, 2]));
+    // r(2) is a quarter of the direction, rounded.
+    for (direction, second) in [(2, 1i64), (-2, 0), (6, 2), (-6, -1), (3, 1), (-3, -1), (1, 0), (-1, 0)] {
+        assert_eq!(walked(32, direction, 2)[1], (second, 1, second.unsigned_abs() + 1));
+    }
+}
+
+#[test]
+fn cases_18_to_20_growth_and_the_spare_figure_count_half_of_the_errors_rounded_up() {
+    let spare = |steps, entry, direction| swept(&line(steps, entry, [0, 0], [0, 0], direction, &[])).map(|swept| swept.0);
+    assert_eq!(spare(15, 99_334, 2), Err(Refusal::Growth(15)));
+    assert_eq!(spare(14, 99_334, 2), Ok(0));
+    assert_eq!(spare(10, 99_334, 2), Ok(2));
+    assert_eq!(spare(10, 99_334, 16), Ok(0));
+    assert_eq!(walked(99_334, 2, 15)[14], (1_073_741_633, 884, 1_073_742_075));
+    assert_eq!(walked(99_334, 2, 10)[9], (134_217_710, 108, 134_217_764));
+    assert_eq!(walked(99_334, 16, 10)[9], (1_073_741_727, 108, 1_073_741_781));
+    // Half of an odd e, rounded up, takes the sum past 134,217,728 by 1.
+    assert_eq!(walked(66_993, 58, 36)[35], (134_217_688, 81, 134_217_729));
+    assert_eq!(spare(36, 66_993, 58), Ok(2));
 }
 
 #[test]
 fn errors_are_rounded_up_and_the_slack_is_doubled() {
     let (_, bounds, slacks) = swept(&line(3, 3, [0, 1], [0, 0], 1, &[])).expect("calm");
     assert_eq!((bounds, slacks), (vec![1, 1, 1, 1], vec![0, 1, 2, 2]));
-    let (_, bounds, slacks) = swept(&line(2, 3, [0, 600_000], [0, 0], 1, &[])).expect("calm");
-    assert_eq!((bounds, slacks), (vec![600_000, 28, 1], vec![0, 1, 3]));
+    let (_, bounds, slacks) = swept(&line(3, 100, [0, 600_000], [0, 0], 1, &[])).expect("calm");
+    assert_eq!((bounds, slacks), (vec![600_000, 916, 2, 1], vec![0, 1, 2, 3]));
 }
 
 #[test]

@@ -49,7 +49,9 @@ fn valid(random: &mut Random) -> (usize, [i32; 36], [i64; 6], [i64; 6]) {
         let size = random.between(0, room);
         let size = if random.one_in(3) { room } else { size };
         r[p] = if random.one_in(2) { size } else { -size };
-        e[p] = if random.one_in(2) { room - size } else { random.between(0, room - size) };
+        // Errors count half units: two to a unit, or one fewer.
+        let most = (2 * (room - size) - random.between(0, 1)).max(0);
+        e[p] = if random.one_in(2) { most } else { random.between(0, most) };
     }
     (n, matrix, r, e)
 }
@@ -66,7 +68,7 @@ fn random_steps_are_those_of_the_specification() {
 #[test]
 fn the_largest_step_there_is_is_taken_exactly() {
     for sign in [1, -1] {
-        for (r, e) in [(GROWTH_LIMIT, 0), (0, GROWTH_LIMIT), (1, GROWTH_LIMIT - 1), (-GROWTH_LIMIT, 0)] {
+        for (r, e) in [(GROWTH_LIMIT, 0), (0, 2 * GROWTH_LIMIT), (1, 2 * GROWTH_LIMIT - 2), (-GROWTH_LIMIT, 0)] {
             assert!(compare(6, &[sign * 131_072; 36], &[r; 6], &[e; 6]));
         }
     }
@@ -84,11 +86,11 @@ fn steps_with_one_broken_rule_are_refused_by_11_and_change_nothing() {
             0 => n = random.pick(&[0, 7, 8, 255, 256, usize::MAX, 1 << 32, (1 << 32) + n]),
             1 => matrix[random.below(36)] = random.pick(&[131_073, -131_073, i32::MIN, i32::MAX, 131_072, 1]),
             2 => r[place] = random.pick(&[GROWTH_LIMIT + 1, -GROWTH_LIMIT - 1, i64::MIN, i64::MAX, 1, -1]),
-            3 => e[place] = random.pick(&[-1, i64::MIN, i64::MAX, GROWTH_LIMIT + 1, 1]),
+            3 => e[place] = random.pick(&[-1, i64::MIN, i64::MAX, 2 * GROWTH_LIMIT + 1, 1]),
             4 => {
                 let size = random.between(0, GROWTH_LIMIT);
                 r[place] = if random.one_in(2) { size } else { -size };
-                e[place] = GROWTH_LIMIT - size + random.between(0, 1);
+                e[place] = 2 * (GROWTH_LIMIT - size) + random.between(0, 2);
             }
             _ => {
                 n = 1 + random.below(6);
