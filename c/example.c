@@ -1,6 +1,6 @@
 /* The C interface in use. Makes the specification's sample file (Listing 8), sweeps its direction, judges its guards, makes two
- * steps of Figures 5 and two of Figures 17, lists the sample in one call, and shows refusals: two files, a direction with growth (Figures 8), calls that
- * ask for what isn't there, and a buffer that is too small. What it writes is compared with expected.txt.
+ * steps of Figures 5 and two of Figures 17, lists the sample in one call, and shows refusals: two files, a direction with growth
+ * (Figures 8), calls that ask for what isn't there, and a buffer that is too small. What it writes is compared with expected.txt.
  * Returns 1 where a call is refused that should not be, or finishes that should not. */
 #include "pepperscarp.h"
 

@@ -69,9 +69,9 @@ extern "C" {
 /* One step of a working direction. Takes the number n of coordinates, 1 to 6; the matrix in six rows of six, in units of
  * 1/65,536; the direction r in units of 1/1,048,576 and its errors e in half units, zero beyond n. A direction d starts with
  * r[i] = 1,048,576 * d[i] and e[i] = 0.
- * Number 0: r and e of the next step stand in place of the old ones, and the figure is their growth sum, the largest
- * |r[i]| + half of e[i], rounded up. A figure above 1,073,741,824 is growth: a sweep refuses the direction there, and the next call
- * answers 11.
+ * Number 0: r and e of the next step stand in place of the old ones, and the figure is their growth sum, the largest of
+ * |r[i]| + half of e[i], each half rounded up. A figure above 1,073,741,824 is growth: a sweep refuses the direction there, and the
+ * next call answers 11. (Before version 0.4.0 e counted units, and r was rounded down.)
  * Number 11: for n outside 1 to 6, a matrix entry outside -131,072 to 131,072, a value beyond n that isn't zero, an e below 0, or
  * a growth sum of r and e above 1,073,741,824. */
 uint64_t pepperscarp_step(size_t n, const int32_t matrix[36], int64_t r[6], int64_t e[6]);

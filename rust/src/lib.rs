@@ -163,7 +163,8 @@ fn unpack(answer: u64) -> Result<(u8, u64), Refusal> {
 }
 
 /// One step of a working direction `r` with its errors `e`, in place, by the transpose of the matrix (six rows of six), and the
-/// growth sum of what it left: the largest |r| plus half of e, rounded up, since errors are counted in half units.
+/// growth sum of what it left: the largest of |r| + half of e, each half rounded up. `r` counts units of 1/1,048,576 and `e` half units
+/// (before version 0.4.0 units).
 ///
 /// What lies beyond the n coordinates is zero. [`Refusal::Invalid`], with `r` and `e` as they were, for n outside 1 to 6, a matrix
 /// entry beyond 131,072 in magnitude, a nonzero value beyond n, an e below 0, or a growth sum above 1,073,741,824 before the step.

@@ -139,7 +139,10 @@ class Figures(unittest.TestCase):
 
 
 class Rounding(unittest.TestCase):
-    """Units that are rounded to the nearest and errors in half units: figures worked by hand."""
+    """Units rounded to the nearest and errors in half units: figures worked by hand.
+
+    The r and e of seven steps and more were found by a search with another program.
+    """
 
     def told(self, model, bounds, slacks):
         self.assertEqual((swept(model).bounds, swept(model).slacks), (bounds, slacks))
@@ -175,13 +178,6 @@ class Rounding(unittest.TestCase):
         """T is 600,000 at step 2 of both, and 1,200,000 at step 3 of the second."""
         self.told(single(3, (0, 600_000), (0, 0), 1, 2), (600_000, 28, 1), (0, 1, 2))
         self.told(single(100, (0, 600_000), (0, 0), 1, 3), (600_000, 916, 2, 1), (0, 1, 2, 3))
-
-    def test_no_slack_shows_whether_t_or_two_halves_were_rounded(self):
-        """They differ where T is odd, and no odd T is a multiple of 1,048,576."""
-        for count in range(4):
-            for t in range(max(count * 1_048_576 - 9, 0), count * 1_048_576 + 9):
-                halves = 2 * ((t + 1) // 2)
-                self.assertEqual(exact.up(t, 1_048_576), exact.up(halves, 1_048_576))
 
     def test_growth_counts_half_of_e(self):
         """r(15) is 191 below the limit, and half of e(15) is 442."""

@@ -171,6 +171,11 @@ class Strength(unittest.TestCase):
                 data = encode(model)
                 self.assertTrue(differs(edited((old, new)), data, exact.listing(data)))
 
+    def test_a_slack_of_t_is_the_same(self):
+        """T in place of two halves of it, rounded up: no odd T is a multiple of 1,048,576."""
+        program = edited(("2 * half", "dot(e, initial_reach) + input_errors"))
+        self.assertFalse(any(self.differs(program, index) for index in range(500)))
+
     def test_no_edit(self):
         program = edited(("slow, plain", "plain, slow"))
         self.assertFalse(any(self.differs(program, index) for index in range(200)))

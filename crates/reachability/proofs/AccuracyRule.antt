@@ -34,7 +34,7 @@ use Rattle.reachability.proofs.sets.Laws.{SetLaws}
 use Rattle.reachability.proofs.model.Facts.{ModelFacts, model-facts}
 use Rattle.reachability.proofs.FirstPlace.{firstPlace-passes, firstPlace-before}
 use Rattle.reachability.proofs.VerdictLaws.{reaches-le, reaches-false-le, reaches-mono, reaches-scale, reaches-unscale}
-use Rattle.reachability.proofs.Walks.{one-times, top, value-le-top, attains, near-sums}
+use Rattle.reachability.proofs.Walks.{one-times, top, value-le-top, attains, halves-sums}
 
 -- ---- facts of numbers: x is the exact largest value and f that value in 1 / 1,048,576, p is 65,536 ^ k, s the sum of supports, e
 -- half of the errors
@@ -108,7 +108,7 @@ module _ (m : Model) (facts : ModelFacts m) where
 
     near-exact : (k : ℕ) → Near (exactAt (firstR x) k) (pos (matrixUnit ^ k) *ℤ supportTotal m d k) (matrixUnit ^ k * halfAt k)
     unfolding exactAt halfAt
-    near-exact k = near-of-halves (near-sums (m .n) (moves m) lawsI lawsU k (first x) (stands-first (m .n) x)) (doubled (matrixUnit ^ k) (errorTotal m d k))
+    near-exact k = near-of-halves (halves-sums (m .n) (moves m) lawsI lawsU k (first x) (stands-first (m .n) x)) (doubled (matrixUnit ^ k) (errorTotal m d k))
       where
         doubled : (p t : ℕ) → p * t ≤ 2 * (p * halfUp t)
         doubled p t = omega (arith, mul-le-mul-left p (ceilDivℕ-le t 2 (lit< tt)))

@@ -1,6 +1,6 @@
 -- The accuracy rule over a sequence of matrices, with no model and no code in sight: two sets known by their laws, moves, and a
--- direction of any size. In order: what errors say; the exact largest value `top`, which no run passes and a run attains; supports of directions
--- near each other; `top` near the sums that the recurrence adds up; those sums as the raw bound and slack have them.
+-- direction of any size. In order: what errors say; the exact largest value `top`, which no run passes and a run attains; supports of
+-- directions near each other; `top` near the sums that the recurrence adds up; those sums as the raw bound and slack have them.
 -- Assumes nothing.
 use mathlib.Core.Path.{_≡_, refl, sym, ap, ap₂, subst, _∙_}
 use mathlib.Core.Bool.{Bool, true, false, cond}
@@ -27,8 +27,8 @@ one-times z = eq! (# 1 ⊗ v z) (v z) (omega arith)
 
 -- ---- what errors say
 
--- Recurrence 1: at every place of every walk, twice the distance of the working direction from the one without rounding is at most its
--- errors.
+-- Recurrence 1: at every place of every walk, twice the distance of the working direction from the one without rounding is at most
+-- its errors.
 pub working-stands : (n : ℕ) (moves : ℕ → ℕ → ℕ → ℤ) (k : ℕ) (d : ℕ → ℤ) (j : ℕ) → Stands n (matrixUnit ^ j) (unrounded n moves k (firstR d) j) (walk n moves k (first d) j .r) (walk n moves k (first d) j .e)
 unfolding walk unrounded
 working-stands n moves k d zero = stands-first n d
@@ -136,8 +136,8 @@ module _ (n : ℕ) (moves : ℕ → ℕ → ℕ → ℤ) {memberI memberU : ℕ 
 
   module _ {member : ℕ → (ℕ → ℤ) → Type 0} {support : (ℕ → ℤ) → ℤ} {reach : ℕ → ℕ} (laws : SetLaws n member support reach) where
     -- r · x, scaled, beside the exact direction's
-    near-at : (s : ℕ) (x r : ℕ → ℤ) (e : ℕ → ℕ) → Stands n s x r e → (p : ℕ → ℤ) → member 1 p → NearHalves (dot n x p) (pos s *ℤ dot n r p) (s * dotℕ n e reach)
-    near-at s x r e stands p m =
+    halves-at : (s : ℕ) (x r : ℕ → ℤ) (e : ℕ → ℕ) → Stands n s x r e → (p : ℕ → ℤ) → member 1 p → NearHalves (dot n x p) (pos s *ℤ dot n r p) (s * dotℕ n e reach)
+    halves-at s x r e stands p m =
         subst (λ (z : ℤ). NearHalves (dot n x p) z (s * dotℕ n e reach)) scaled
         (halves-mono (native.Mathlib.Nat.le-of-eq errors) (halves-dot n x (λ i. pos s *ℤ r i) p (λ i. s * e i) reach (stands .near) small))
       where
@@ -156,18 +156,18 @@ module _ (n : ℕ) (moves : ℕ → ℕ → ℕ → ℤ) {memberI memberU : ℕ 
             within : (i : ℕ) → natAbs (p i) ≤ 1 * reach i → natAbs (p i) ≤ reach i
             within i l = omega arith
 
-    pub near-support : (s : ℕ) (x r : ℕ → ℤ) (e : ℕ → ℕ) → Stands n s x r e → NearHalves (support x) (pos s *ℤ support r) (s * dotℕ n e reach)
-    near-support s x r e stands =
+    pub halves-support : (s : ℕ) (x r : ℕ → ℤ) (e : ℕ → ℕ) → Stands n s x r e → NearHalves (support x) (pos s *ℤ support r) (s * dotℕ n e reach)
+    halves-support s x r e stands =
         let a = laws .attained x in
         let b = laws .attained r in
-        let of-x = near-at s x r e stands (a .0) (a .1) in
-        let of-r = near-at s x r e stands (b .0) (b .1) in
+        let of-x = halves-at s x r e stands (a .0) (a .1) in
+        let of-r = halves-at s x r e stands (b .0) (b .1) in
         let x-attains = eq? (v (dot n x (a .0))) (v (support x)) (a .2) in
         let r-attains = eq? (# s ⊗ v (dot n r (b .0))) (# s ⊗ v (support r)) (ap (λ (z : ℤ). pos s *ℤ z) (b .2)) in
         let r-above = le? (# s ⊗ v (dot n r (a .0))) (# s ⊗ v (support r)) (⩽-scale s (⩽-trans (laws .above 1 (a .0) (a .1) r) (⩽-of-eq (one-times (support r))))) in
         let x-above = le? (v (dot n x (b .0))) (v (support x)) (⩽-trans (laws .above 1 (b .0) (b .1) x) (⩽-of-eq (one-times (support x)))) in
-        let near-a = halves? (v (dot n x (a .0))) (# s ⊗ v (dot n r (a .0))) (s * dotℕ n e reach) of-x in
-        let near-b = halves? (v (dot n x (b .0))) (# s ⊗ v (dot n r (b .0))) (s * dotℕ n e reach) of-r in
+        let halves-a = halves? (v (dot n x (a .0))) (# s ⊗ v (dot n r (a .0))) (s * dotℕ n e reach) of-x in
+        let halves-b = halves? (v (dot n x (b .0))) (# s ⊗ v (dot n r (b .0))) (s * dotℕ n e reach) of-r in
         halves! (v (support x)) (# s ⊗ v (support r)) (s * dotℕ n e reach) (omega arith) (omega arith)
 
   -- ---- what the recurrence adds up, from the first working direction on
@@ -181,15 +181,15 @@ module _ (n : ℕ) (moves : ℕ → ℕ → ℕ → ℤ) {memberI memberU : ℕ 
   errors (suc k) w = errors k (next n (moves k) w) + dotℕ n (w .e) reachU
 
   -- The exact value is near them, at the scale 65,536 ^ k.
-  near-top : (k s : ℕ) (x : ℕ → ℤ) (w : Working) → Stands n s x (w .r) (w .e) → NearHalves (top k x) (pos (matrixUnit ^ k * s) *ℤ supports k w) (matrixUnit ^ k * s * errors k w)
+  halves-top : (k s : ℕ) (x : ℕ → ℤ) (w : Working) → Stands n s x (w .r) (w .e) → NearHalves (top k x) (pos (matrixUnit ^ k * s) *ℤ supports k w) (matrixUnit ^ k * s * errors k w)
   unfolding top supports errors
-  near-top zero s x w stands = subst (λ (t : ℕ). NearHalves (supportI x) (pos t *ℤ supportI (w .r)) (t * dotℕ n (w .e) reachI)) (alone s) (near-support lawsI s x (w .r) (w .e) stands)
+  halves-top zero s x w stands = subst (λ (t : ℕ). NearHalves (supportI x) (pos t *ℤ supportI (w .r)) (t * dotℕ n (w .e) reachI)) (alone s) (halves-support lawsI s x (w .r) (w .e) stands)
     where
       alone : (s : ℕ) → s ≡ 1 * s
       alone s = omega arith
-  near-top (suc k) s x w stands =
-      let before = subst (λ (t : ℕ). NearHalves (top k (transposed n (moves k) x)) (pos t *ℤ supports k (next n (moves k) w)) (t * errors k (next n (moves k) w))) (scaled k) (near-top k (matrixUnit * s) (transposed n (moves k) x) (next n (moves k) w) (stands-step n s (moves k) x (w .r) (w .e) stands)) in
-      let here = halves-scale (matrixUnit ^ suc k) (near-support lawsU s x (w .r) (w .e) stands) in
+  halves-top (suc k) s x w stands =
+      let before = subst (λ (t : ℕ). NearHalves (top k (transposed n (moves k) x)) (pos t *ℤ supports k (next n (moves k) w)) (t * errors k (next n (moves k) w))) (scaled k) (halves-top k (matrixUnit * s) (transposed n (moves k) x) (next n (moves k) w) (stands-step n s (moves k) x (w .r) (w .e) stands)) in
+      let here = halves-scale (matrixUnit ^ suc k) (halves-support lawsU s x (w .r) (w .e) stands) in
       subst (λ (z : ℤ). NearHalves (top k (transposed n (moves k) x) +ℤ pos (matrixUnit ^ suc k) *ℤ supportU x) z (matrixUnit ^ suc k * s * (errors k (next n (moves k) w) + dotℕ n (w .e) reachU))) (regrouped (matrixUnit ^ suc k) (supports k (next n (moves k) w)) (supportU (w .r)))
       (subst (λ (t : ℕ). NearHalves (top k (transposed n (moves k) x) +ℤ pos (matrixUnit ^ suc k) *ℤ supportU x) (pos (matrixUnit ^ suc k * s) *ℤ supports k (next n (moves k) w) +ℤ pos (matrixUnit ^ suc k) *ℤ (pos s *ℤ supportU (w .r))) t) (added (matrixUnit ^ suc k) (errors k (next n (moves k) w)) (dotℕ n (w .e) reachU)) (halves-add before here))
     where
@@ -243,8 +243,8 @@ module _ (n : ℕ) (moves : ℕ → ℕ → ℕ → ℤ) {memberI memberU : ℕ 
       turned a b c = omega arith
 
   -- The exact largest value of a direction that stands exactly, beside the sums of the recurrence.
-  pub near-sums : (k : ℕ) (w : Working) → Stands n 1 (w .r) (w .r) (w .e) → NearHalves (top k (w .r)) (pos (matrixUnit ^ k) *ℤ (supportI (walk n moves k w k .r) +ℤ sum k (λ j. supportU (walk n moves k w j .r)))) (matrixUnit ^ k * (dotℕ n (walk n moves k w k .e) reachI + sumℕ k (λ j. dotℕ n (walk n moves k w j .e) reachU)))
-  near-sums k w stands =
+  pub halves-sums : (k : ℕ) (w : Working) → Stands n 1 (w .r) (w .r) (w .e) → NearHalves (top k (w .r)) (pos (matrixUnit ^ k) *ℤ (supportI (walk n moves k w k .r) +ℤ sum k (λ j. supportU (walk n moves k w j .r)))) (matrixUnit ^ k * (dotℕ n (walk n moves k w k .e) reachI + sumℕ k (λ j. dotℕ n (walk n moves k w j .e) reachU)))
+  halves-sums k w stands =
       subst (λ (z : ℤ). NearHalves (top k (w .r)) (pos (matrixUnit ^ k) *ℤ z) (matrixUnit ^ k * (dotℕ n (walk n moves k w k .e) reachI + sumℕ k (λ j. dotℕ n (walk n moves k w j .e) reachU)))) (supports-walk k w)
       (subst (λ (z : ℕ). NearHalves (top k (w .r)) (pos (matrixUnit ^ k) *ℤ supports k w) (matrixUnit ^ k * z)) (errors-walk k w)
-      (subst (λ (t : ℕ). NearHalves (top k (w .r)) (pos t *ℤ supports k w) (t * errors k w)) (native.Mathlib.Nat.mul-one (matrixUnit ^ k)) (near-top k 1 (w .r) w stands)))
+      (subst (λ (t : ℕ). NearHalves (top k (w .r)) (pos t *ℤ supports k w) (t * errors k w)) (native.Mathlib.Nat.mul-one (matrixUnit ^ k)) (halves-top k 1 (w .r) w stands)))

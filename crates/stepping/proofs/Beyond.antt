@@ -7,21 +7,20 @@ use mathlib.Core.List.{List}
 use Prim.Native.Nat.{ℕ, _+_, _*_, _-_, _≤_, _<_}
 use native.Mathlib.Omega.{arith}
 use lib.IntN.{ℤ, pos, negℤ, natAbs, _*ℤ_, zero-*ℤ}
-use lib.Signed.{nonNeg}
 use Rattle.integers.specs.Whole.{nearestDiv, ceilDivℕ, fraction}
 use Rattle.integers.specs.Sums.{vector, magnitudes, matrix, transposed, tabulate}
-use Rattle.integers.proofs.Sums.{allBelow-intro, sum-cong, sum-none, sum-beyond, sumℕ-cong, sumℕ-none, sumℕ-beyond, maxℕ-beyond}
+use Rattle.integers.proofs.Sums.{sum-cong, sum-none, sum-beyond, sumℕ-cong, sumℕ-none, sumℕ-beyond, maxℕ-beyond}
 use Rattle.integers.proofs.Machine.{tabulate-cong, getD-tabulate}
 use Rattle.arrays.specs.Tests.{allBetween, zeroOutside}
 use Rattle.integers.proofs.Booleans.{and-true}
 use Rattle.arrays.proofs.Tests.{zeroOutside-row, zeroOutside-column, zeroOutside-wider}
 use Rattle.stepping.specs.Limits.{matrixUnit, entryLimit, growthLimit, errorLimit}
 use Rattle.stepping.specs.Recurrence.{nextR, nextE, errorSum, halfUp, growthSum}
-use Rattle.stepping.specs.Refusals.{nonNegative, matrixOk, workingOk, stepOk, steppedR, steppedE, Steps}
+use Rattle.stepping.specs.Refusals.{matrixOk, workingOk, stepOk, steppedR, steppedE, Steps}
 use Rattle.stepping.specs.declared.Stepped.{Stepped}
 use Rattle.stepping.specs.declared.Stepped.the-variants.{Sum, Refused}
 use Rattle.stepping.proofs.Numbers.{steps}
-use Rattle.stepping.proofs.Recurrence.{value-le-limit, error-le-limit}
+use Rattle.stepping.proofs.Recurrence.{growthSum-cong, value-le-limit, error-le-limit}
 use Rattle.stepping.proofs.Working.{WorkingFacts, working-facts, working-ok, dimension-most}
 
 zero-times : (k : ℕ) → 0 * k ≡ 0
@@ -50,11 +49,17 @@ module _ (n : ℕ) (n≤6 : n ≤ 6) where
         ap (λ (k : ℕ). errorSum k (matrix m) e i) (sym (six n n≤6))
         ∙ sumℕ-beyond n (6 - n) (λ p. natAbs (matrix m p i) * e p) (λ p l h. ap (λ (z : ℤ). natAbs z * e p) (zeroOutside-row n n m around p i hi l) ∙ zero-times (e p))
 
+    nextR-six : (r : ℕ → ℤ) (i : ℕ) → i < 6 → nextR 6 (matrix m) r i ≡ nextR n (matrix m) r i
+    nextR-six r i h = ap (λ (z : ℤ). nearestDiv z matrixUnit) (transposed-six r i h)
+
+    nextE-six : (r : ℕ → ℤ) (e : ℕ → ℕ) (i : ℕ) → i < 6 → nextE 6 (matrix m) r e i ≡ nextE n (matrix m) r e i
+    nextE-six r e i h = ap₂ (λ (s : ℕ) (z : ℤ). ceilDivℕ s matrixUnit + fraction z matrixUnit) (errorSum-six e i h) (transposed-six r i h)
+
     pub steppedR-six : (r : List ℤ) → tabulate 6 (nextR 6 (matrix m) (vector r)) ≡ steppedR n m r
-    steppedR-six r = tabulate-cong 6 (λ i h. ap (λ (z : ℤ). nearestDiv z matrixUnit) (transposed-six (vector r) i h))
+    steppedR-six r = tabulate-cong 6 (nextR-six (vector r))
 
     pub steppedE-six : (r e : List ℤ) → tabulate 6 (λ i. pos (nextE 6 (matrix m) (vector r) (magnitudes e) i)) ≡ steppedE n m r e
-    steppedE-six r e = tabulate-cong 6 (λ i h. ap₂ (λ (s : ℕ) (z : ℤ). pos (ceilDivℕ s matrixUnit + fraction z matrixUnit)) (errorSum-six (magnitudes e) i h) (transposed-six (vector r) i h))
+    steppedE-six r e = tabulate-cong 6 (λ i h. ap pos (nextE-six (vector r) (magnitudes e) i h))
 
     transposed-beyond : (r : ℕ → ℤ) (i : ℕ) → n ≤ i → i < 6 → transposed n (matrix m) r i ≡ pos 0
     transposed-beyond r i l h =
@@ -71,14 +76,19 @@ module _ (n : ℕ) (n≤6 : n ≤ 6) where
     nextE-beyond r e i l h = ap₂ (λ (s : ℕ) (z : ℤ). ceilDivℕ s matrixUnit + fraction z matrixUnit) (errorSum-beyond e i l h) (transposed-beyond r i l h)
 
     -- The growth sum of a stepped direction is that of its n coordinates.
-    pub growthSum-stepped : (r e : List ℤ) → growthSum 6 (vector (steppedR n m r)) (magnitudes (steppedE n m r e)) ≡ growthSum n (vector (steppedR n m r)) (magnitudes (steppedE n m r e))
+    growthSum-stepped : (r e : List ℤ) → growthSum 6 (vector (steppedR n m r)) (magnitudes (steppedE n m r e)) ≡ growthSum n (vector (steppedR n m r)) (magnitudes (steppedE n m r e))
     growthSum-stepped r e =
         growthSum-six (vector (steppedR n m r)) (magnitudes (steppedE n m r e))
         (λ i l h. ap natAbs (getD-tabulate 6 (nextR n (matrix m) (vector r)) i (pos 0) h ∙ nextR-beyond (vector r) i l h))
         (λ i l h. ap natAbs (getD-tabulate 6 (λ j. pos (nextE n (matrix m) (vector r) (magnitudes e) j)) i (pos 0) h) ∙ nextE-beyond (vector r) (magnitudes e) i l h)
 
-pub nonNegative-stepped : (n : ℕ) (m r e : List ℤ) → nonNegative (steppedE n m r e) ≡ true
-nonNegative-stepped n m r e = allBelow-intro 6 (λ i. nonNeg (vector (steppedE n m r e) i)) (λ i h. ap nonNeg (getD-tabulate 6 (λ j. pos (nextE n (matrix m) (vector r) (magnitudes e) j)) i (pos 0) h))
+    -- The same, where the six columns were made with six for n.
+    pub growthSum-advanced : (r e : List ℤ) → growthSum 6 (nextR 6 (matrix m) (vector r)) (nextE 6 (matrix m) (vector r) (magnitudes e)) ≡ growthSum n (vector (steppedR n m r)) (magnitudes (steppedE n m r e))
+    growthSum-advanced r e =
+        growthSum-cong 6
+        (λ i h. nextR-six (vector r) i h ∙ sym (getD-tabulate 6 (nextR n (matrix m) (vector r)) i (pos 0) h))
+        (λ i h. nextE-six (vector r) (magnitudes e) i h ∙ sym (ap natAbs (getD-tabulate 6 (λ j. pos (nextE n (matrix m) (vector r) (magnitudes e) j)) i (pos 0) h)))
+        ∙ growthSum-stepped r e
 
 -- ---- a working direction within its limits, all six coordinates
 

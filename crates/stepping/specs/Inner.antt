@@ -3,13 +3,13 @@
 use mathlib.Core.Path.{_≡_}
 use mathlib.Core.Bool.{Bool, cond, _||_}
 use mathlib.Core.List.{List}
-use Prim.Native.Nat.{ℕ, _≤_, _<_}
+use Prim.Native.Nat.{ℕ, _+_, _*_, _≤_, _<_}
 use lib.Dec.{T, ltb, eqb}
 use lib.IntN.{ℤ, pos, natAbs}
 use lib.Signed.{nonNeg}
 use Rattle.integers.specs.Sums.{vector, magnitudes, matrix, allBelow, tabulate}
-use Rattle.stepping.specs.Limits.{entryLimit, errorLimit}
-use Rattle.stepping.specs.Recurrence.{nextR, nextE}
+use Rattle.stepping.specs.Limits.{entryLimit, growthLimit, errorLimit}
+use Rattle.stepping.specs.Recurrence.{nextR, nextE, growthSum}
 
 -- Entries and values within their limits.
 pub record Bounded (limit : ℕ) (m xs : List ℤ) : Type 0 where
@@ -33,12 +33,15 @@ rowZero p from m = allBelow 6 (λ i. ltb i from || eqb (natAbs (matrix m p i)) 0
 abbrev pub zeroAround : ℕ → List ℤ → Bool
 zeroAround n m = allBelow 6 (λ p. rowZero p (zerosFrom n p) m)
 
--- r and e one step on: coordinate i of six.
-pub record Advances (m r e : List ℤ) (i : ℕ) (r′ e′ : ℤ) : Type 0 where
+-- r and e one step on in coordinate i, and their sum s in half units; columns have six rows.
+pub record Advances (m r e : List ℤ) (i : ℕ) (r′ e′ : ℤ) (s : ℕ) : Type 0 where
   pub direction : r′ ≡ nextR 6 (matrix m) (vector r) i
   pub error : e′ ≡ pos (nextE 6 (matrix m) (vector r) (magnitudes e) i)
+  pub halves : s ≡ 2 * natAbs (nextR 6 (matrix m) (vector r) i) + nextE 6 (matrix m) (vector r) (magnitudes e) i
+  pub small : s ≤ 48 * growthLimit + 5
 
--- All six.
-pub record Advanced (m r e r′ e′ : List ℤ) : Type 0 where
+-- r and e one step on in all six coordinates, and their growth sum.
+pub record Advanced (m r e r′ e′ : List ℤ) (s : ℕ) : Type 0 where
   pub direction : r′ ≡ tabulate 6 (nextR 6 (matrix m) (vector r))
   pub errors : e′ ≡ tabulate 6 (λ i. pos (nextE 6 (matrix m) (vector r) (magnitudes e) i))
+  pub sum : s ≡ growthSum 6 (nextR 6 (matrix m) (vector r)) (nextE 6 (matrix m) (vector r) (magnitudes e))

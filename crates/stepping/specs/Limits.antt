@@ -5,7 +5,7 @@ use Prim.Native.Nat.{ℕ, _*_}
 abbrev pub matrixUnit : ℕ
 matrixUnit = 65536
 
--- Recurrence 1: what working directions are counted in. Errors are counted in half of it.
+-- Recurrence 1: how many units of a working direction make 1. Errors are counted in half units.
 abbrev pub directionUnit : ℕ
 directionUnit = 1048576
 

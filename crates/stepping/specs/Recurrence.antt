@@ -1,6 +1,5 @@
 -- Recurrence 1 to 8, of one step, and Recurrence 13 and 14: working directions with their errors, growth, the spare figure, and the
--- rounding of a step. Definitions only. r is a vector of whole numbers, e of natural numbers, which count half units, n the number of
--- coordinates.
+-- rounding of a step. Definitions only. r is a vector of whole numbers, e of natural numbers, n the number of coordinates.
 -- Assumes nothing.
 use mathlib.Core.Path.{_≡_}
 use Prim.Native.Nat.{ℕ, zero, suc, _+_, _*_, _^_, _<_}
@@ -11,8 +10,8 @@ use Rattle.integers.specs.Whole.{NearHalves, nearestDiv, ceilDiv, ceilDivℕ, f
 use Rattle.integers.specs.Sums.{transposed, sumℕ, maxℕ}
 use Rattle.stepping.specs.Limits.{matrixUnit, directionUnit, growthLimit}
 
--- Recurrence 1: what errors say. r, with the errors e, stands for the exact direction x, which is counted in 1 / s of the unit: in each
--- coordinate twice the distance of x from s × r is at most s × e.
+-- Recurrence 1: what errors say. r, with the errors e, stands for the exact direction x, which is counted in 1 / s of the unit: in
+-- each coordinate twice the distance of x from s × r is at most s × e.
 pub record Stands (n s : ℕ) (x r : ℕ → ℤ) (e : ℕ → ℕ) : Type 0 where
   pub near : (i : ℕ) → i < n → NearHalves (x i) (pos s *ℤ r i) (s * e i)
 
@@ -35,7 +34,7 @@ errorSum n m e i = sumℕ n (λ p. natAbs (m p i) * e p)
 abbrev pub nextE : ℕ → (ℕ → ℕ → ℤ) → (ℕ → ℤ) → (ℕ → ℕ) → ℕ → ℕ
 nextE n m r e i = ceilDivℕ (errorSum n m e i) matrixUnit + fraction (transposed n m r i) matrixUnit
 
--- Recurrence 1: half units in units, rounded up.
+-- Recurrence 6, 11 and 12: half of an error, or of errors, rounded up.
 abbrev pub halfUp : ℕ → ℕ
 halfUp t = ceilDivℕ t 2
 

@@ -34,34 +34,37 @@ pub(crate) fn error_sum(matrix: &[i32; 36], e: &[i64; 6], i: usize) -> u64
     sum
 }
 
-// The next r and e of a column.
+// The next r and e of a column, and their sum in half units.
 struct Column {
     r: i64,
     e: i64,
+    halves: u64,
 }
 
-// Recurrence 4 and 5. N over 65,536 to the nearest, a half going up; and the errors over 65,536, rounded up, with 1 more for an N
-// that was rounded.
+// Recurrence 4 and 5. N over 65,536 to the nearest, a half going up; and the errors over 65,536, rounded up, with 1 more for an N that
+// was rounded.
 fn column_of(matrix: &[i32; 36], r: &[i64; 6], e: &[i64; 6], i: usize) -> Column
     requires { ⌜ (i < 6) × Bounded growthLimit (now matrix) (now r) × BoundedErrors (now matrix) (now e) ⌝ }
-    ensures { λ c. ⌜ Advances (now (matrix .entry)) (now (r .entry)) (now (e .entry)) i (c .r) (c .e) ⌝ }
+    ensures { λ c. ⌜ Advances (now (matrix .entry)) (now (r .entry)) (now (e .entry)) i (c .r) (c .e) (c .halves) ⌝ }
 {
-    let sum = product_sum(matrix, r, i);
+    let product = product_sum(matrix, r, i);
     let errors = error_sum(matrix, e, i);
-    let nearest = (sum + 32768) >> 16;
-    let up = (errors + 65535) / 65536 + arrays::fraction(sum, 65536);
+    let nearest = (product + 32768) >> 16;
+    let up = (errors + 65535) / 65536 + arrays::fraction(product, 65536);
     let error = up as i64;
+    let halves = 2 * arrays::magnitude(nearest) + up;
     Column {
         r: nearest,
         e: error,
+        halves,
     }
 }
 
-// r and e one step on, in place. The six columns stand in a straight line, so that r and e are stored once each and as a
-// whole.
-pub(crate) fn advance(matrix: &[i32; 36], r: &mut [i64; 6], e: &mut [i64; 6])
+// r and e one step on, in place, and their growth sum: the largest sum in half units, halved once. The six columns stand in a straight
+// line, so that r and e are stored once each and as a whole.
+pub(crate) fn advance(matrix: &[i32; 36], r: &mut [i64; 6], e: &mut [i64; 6]) -> u64
     requires { ⌜ Bounded growthLimit (now matrix) (now r) × BoundedErrors (now matrix) (now e) ⌝ }
-    ensures { λ _. ⌜ Advanced (now (matrix .entry)) (now (r .entry)) (now (e .entry)) (now (r .exit)) (now (e .exit)) ⌝ }
+    ensures { λ s. ⌜ Advanced (now (matrix .entry)) (now (r .entry)) (now (e .entry)) (now (r .exit)) (now (e .exit)) s ⌝ }
 {
     let c0 = column_of(matrix, r, e, 0);
     let c1 = column_of(matrix, r, e, 1);
@@ -69,6 +72,12 @@ pub(crate) fn advance(matrix: &[i32; 36], r: &mut [i64; 6], e: &mut [i64; 6])
     let c3 = column_of(matrix, r, e, 3);
     let c4 = column_of(matrix, r, e, 4);
     let c5 = column_of(matrix, r, e, 5);
+    let most1 = arrays::larger(c0.halves, c1.halves);
+    let most2 = arrays::larger(most1, c2.halves);
+    let most3 = arrays::larger(most2, c3.halves);
+    let most4 = arrays::larger(most3, c4.halves);
+    let most5 = arrays::larger(most4, c5.halves);
     *r = [c0.r, c1.r, c2.r, c3.r, c4.r, c5.r];
     *e = [c0.e, c1.e, c2.e, c3.e, c4.e, c5.e];
+    (most5 + 1) / 2
 }

@@ -1,8 +1,8 @@
 // The stepping arithmetic, Recurrence 1 to 8: the first working direction of a direction, one step of it with its errors, the growth
 // sum, the spare figure and the rounding of a step; and the test of a matrix. It stands alone (Forms 6).
 //
-// No public function has a `requires`. A working direction is six numbers r in units of 1/1,048,576 with six errors e in half units;
-// what lies beyond the n coordinates is zero. A refusal is number 11, and leaves r and e as they were.
+// No public function has a `requires`. A working direction is six numbers r in units of 1/1,048,576 with six errors e in half units.
+// What lies beyond the n coordinates is zero. A refusal is number 11, and leaves r and e as they were.
 mod column;
 mod refusals;
 pub mod rounding;
@@ -36,8 +36,8 @@ pub fn first(direction: &[i32; 6], r: &mut [i64; 6], e: &mut [i64; 6])
     *e = [0i64; 6];
 }
 
-// Routines 9. The growth sum of r and e, the largest |r[i]| plus half of e[i], rounded up. Refusals 11: n is not 1 to 6, a value beyond
-// n is not zero, an e is negative, or the sum passes 1,073,741,824.
+// Routines 9. The growth sum of r and e: the largest of |r[i]| + half of e[i], each half rounded up. Refusals 11: n is not 1 to 6, a
+// value beyond n is not zero, an e is negative, or the sum passes 1,073,741,824.
 pub fn growth(n: usize, r: &[i64; 6], e: &[i64; 6]) -> Stepped
     ensures { λ a. ⌜ Grows n (now (r .entry)) (now (e .entry)) a ⌝ }
 {
@@ -97,8 +97,7 @@ pub fn step(n: usize, matrix: &[i32; 36], r: &mut [i64; 6], e: &mut [i64; 6]) ->
     if !matrix_ok(n, matrix) {
         return Stepped::Refused;
     }
-    column::advance(matrix, r, e);
-    refusals::largest_sum(r, e)
+    Stepped::Sum(column::advance(matrix, r, e))
 }
 
 // Routines 9. The spare figure of a largest sum from 1 to 1,073,741,824; number 11 for any other.

@@ -19,7 +19,7 @@ pub(crate) fn zero_beyond(n: usize, xs: &[i64; 6]) -> bool
     true
 }
 
-// The largest |r[i]| plus half of e[i], rounded up, or number 11 where an e is below 0.
+// The largest of |r[i]| + half of e[i], each half rounded up, or number 11 where an e is below 0.
 pub(crate) fn largest_sum(r: &[i64; 6], e: &[i64; 6]) -> Stepped
     ensures { λ a. ⌜ a ≡ largestAnswer (now (r .entry)) (now (e .entry)) ⌝ }
 {

@@ -1,4 +1,5 @@
-//! Figures 1 to 14 and 16 to 20 of the specification, as far as the interface shows them, its sample (Listing 8), and the listings in examples/.
+//! Figures 1 to 14 and 16 to 20 of the specification, as far as the interface shows them, its sample (Listing 8), and the listings in
+//! examples/.
 
 use crate::sweeps::compare_sweep;
 use pepperscarp::{judge, list_length, step, sweep, Refusal, Verdict, LISTING_ROOM};

@@ -1,7 +1,7 @@
 -- `stepping::step` meets its contract. Each test that fails makes `stepOk` false; where none does, the arrays are within the
 -- limits that `advance` asks, and what it leaves, which runs to six, is what the definitions to n say. Assumes nothing.
 use Rattle.integers.proofs.Basics.{_≡_, refl, sym, ap, ap₂, subst, _∙_, Bool, true, false, ℕ, _≤_, needs, ℤ, pos}
-use mathlib.Core.Bool.{cond, _&&_}
+use mathlib.Core.Bool.{_&&_}
 use mathlib.Core.List.{List}
 use borrow.Author.Tests.{not-true, not-false}
 use lib.Dec.{T}
@@ -12,12 +12,12 @@ use Rattle.integers.proofs.Booleans.{and-true, and-false}
 use Rattle.arrays.proofs.Tests.{allBetween-at}
 use Rattle.stepping.specs.Limits.{entryLimit, growthLimit}
 use Rattle.stepping.specs.Recurrence.{growthSum}
-use Rattle.stepping.specs.Refusals.{workingOk, nonNegative, matrixOk, steppedR, steppedE}
+use Rattle.stepping.specs.Refusals.{workingOk, matrixOk}
 use Rattle.stepping.specs.Inner.{Bounded, BoundedErrors}
 use Rattle.stepping.specs.declared.Stepped.the-variants.{Sum, Refused}
 use Rattle.stepping.proofs.Numbers.{steps, refused-only, sum-only}
 use Rattle.stepping.proofs.Working.{WorkingFacts, working-facts, dimension-most}
-use Rattle.stepping.proofs.Beyond.{values-six, errors-six, growthSum-stepped, nonNegative-stepped, steppedR-six, steppedE-six}
+use Rattle.stepping.proofs.Beyond.{values-six, errors-six, growthSum-advanced, steppedR-six, steppedE-six}
 use Rattle.stepping.proofs.step.Statement.{statement}
 use Rattle.stepping.proofs.step.Tie as tie
 
@@ -82,17 +82,16 @@ advance-requires c κs = (bounded-r (c .before .before), bounded-e (c .before .b
 
 returns-3 : tie.Need-returns-3
 returns-3 c =
-    let b = c .before .before .before .before .before .before in
-    let left = c .before .before .before .advance in
+    let b = c .before .before .before in
+    let left = c .advance in
     let n = n (at b) in
     let m = m (at b) in
     let r = r (at b) in
     let e = e (at b) in
     let in-r = left .ensures .direction ∙ steppedR-six n (n≤6 (at b)) m (parts b .1) r in
     let in-e = left .ensures .errors ∙ steppedE-six n (n≤6 (at b)) m (parts b .1) r e in
-    let sums = ap (λ (t : Bool). cond t (Sum (growthSum 6 (vector (steppedR n m r)) (magnitudes (steppedE n m r e)))) Refused) (nonNegative-stepped n m r e) in
-    let answer = c .largest-sum .ensures ∙ ap₂ (λ (x y : List ℤ). cond (nonNegative y) (Sum (growthSum 6 (vector x) (magnitudes y))) Refused) in-r in-e ∙ sums ∙ ap Sum (growthSum-stepped n (n≤6 (at b)) m (parts b .1) r e) ∙ sym (ap₂ (λ (x y : List ℤ). Sum (growthSum n (vector x) (magnitudes y))) in-r in-e) in
-    steps n m r e true (ap₂ _&&_ (working (at b)) (matrix-passed b)) (c .largest-sum .result) (left .last .1 .0) (left .last .1 .1 .0) answer in-r in-e
+    let answer = ap Sum (left .ensures .sum ∙ growthSum-advanced n (n≤6 (at b)) m (parts b .1) r e) ∙ sym (ap₂ (λ (x y : List ℤ). Sum (growthSum n (vector x) (magnitudes y))) in-r in-e) in
+    steps n m r e true (ap₂ _&&_ (working (at b)) (matrix-passed b)) (Sum (left .result)) (left .last .1 .0) (left .last .1 .1 .0) answer in-r in-e
 
 pub step-spec : {M : Type 1} → statement M
 step-spec =
@@ -105,5 +104,4 @@ step-spec =
     (λ c κs. search needs)
     returns-2
     advance-requires
-    (λ c κs. search needs)
     returns-3)

@@ -1,10 +1,12 @@
--- `stepping::column::advance` meets its contract: r and e of each column are what `column_of` says, and the two lists are stored
--- whole. Assumes nothing.
-use Rattle.integers.proofs.Basics.{_≡_, _∙_, ℕ, arith, needs, ℤ, pos, w64, toZ, ofZ}
+-- `stepping::column::advance` meets its contract: r and e of each column and their sum are what `column_of` says, and the two lists are
+-- stored whole. Assumes nothing.
+use Rattle.integers.proofs.Basics.{_≡_, ap, ap₂, _∙_, ℕ, _+_, _*_, arith, needs, ℤ, pos, natAbs, w64, toZ, ofZ}
+use Prim.Native.Nat.{max}
 use mathlib.Core.List.{List, [], _∷_}
-use Rattle.integers.specs.Sums.{vector, magnitudes, matrix as matrixOf}
-use Rattle.stepping.specs.Recurrence.{nextR, nextE}
+use Rattle.integers.specs.Sums.{vector, magnitudes, matrix as matrixOf, maxℕ}
+use Rattle.stepping.specs.Recurrence.{nextR, nextE, halfUp}
 use Rattle.stepping.specs.Inner.{Advances}
+use Rattle.stepping.proofs.Recurrence.{growthSum-halves}
 use Rattle.stepping.proofs.column.advance.Statement.{statement}
 use Rattle.stepping.proofs.column.advance.Tie as tie
 
@@ -13,17 +15,36 @@ column-of-requires-6 c κs =
     let start = c .before .before .before .before .before .before .before .before .before .before .before .before .before .before .before .before .before in
     (omega arith, start .pre .0, start .pre .1)
 
+largest-of-six : (f : ℕ → ℕ) → max (max (max (max (max (f 0) (f 1)) (f 2)) (f 3)) (f 4)) (f 5) ≡ maxℕ 6 f
+unfolding maxℕ
+largest-of-six f = ap (λ (k : ℕ). max (max (max (max (max k (f 1)) (f 2)) (f 3)) (f 4)) (f 5)) (from-none (f 0))
+  where
+    from-none : (k : ℕ) → k ≡ max 0 k
+    from-none k = omega arith
+
 -- the fields of column i, read back from their bits
-module _ (m r e : List ℤ) (i : ℕ) {r′ e′ : ℤ} (is : Advances m r e i r′ e′) where
+module _ (m r e : List ℤ) (i : ℕ) {r′ e′ : ℤ} {s : ℕ} (is : Advances m r e i r′ e′ s) where
   in-r : toZ w64 (ofZ w64 r′) ≡ r′ → toZ w64 (ofZ w64 r′) ≡ nextR 6 (matrixOf m) (vector r) i
   in-r read = read ∙ is .direction
 
   in-e : toZ w64 (ofZ w64 e′) ≡ e′ → toZ w64 (ofZ w64 e′) ≡ pos (nextE 6 (matrixOf m) (vector r) (magnitudes e) i)
   in-e read = read ∙ is .error
 
+add-result : tie.Need-add-result
+add-result c =
+    let most = c .before .before .before .before .before .before .before .before .before .before .before .before .before .before in
+    let c5 = most .before .before .before .before .before in
+    let c4 = c5 .before .before .before in
+    let c3 = c4 .before .before .before in
+    let c2 = c3 .before .before .before in
+    let c1 = c2 .before .before .before in
+    let c0 = c1 .before .before .before in
+    omega (arith, most .before .before .before .before .larger .ensures, most .before .before .before .larger2 .ensures, most .before .before .larger3 .ensures, most .before .larger4 .ensures, most .larger5 .ensures, c0 .column-of .ensures .small, c1 .column-of2 .ensures .small, c2 .column-of3 .ensures .small, c3 .column-of4 .ensures .small, c4 .column-of5 .ensures .small, c5 .column-of6 .ensures .small)
+
 returns : tie.Need-returns
 returns c =
-    let c5 = c .before .before .before .before .before .before .before .before .before .before .before .before .before .before in
+    let most = c .before .before .before .before .before .before .before .before .before .before .before .before .before .before in
+    let c5 = most .before .before .before .before .before in
     let c4 = c5 .before .before .before in
     let c3 = c4 .before .before .before in
     let c2 = c3 .before .before .before in
@@ -33,6 +54,10 @@ returns c =
     let m = a .matrix .now in
     let r = a .r .now in
     let e = a .e .now in
+    let first = most .before .before .before .before .larger .ensures ∙ ap₂ max (c0 .column-of .ensures .halves) (c1 .column-of2 .ensures .halves) in
+    let second = most .before .before .before .larger2 .ensures ∙ ap₂ max first (c2 .column-of3 .ensures .halves) in
+    let third = most .before .before .larger3 .ensures ∙ ap₂ max second (c3 .column-of4 .ensures .halves) in
+    let fourth = most .before .larger4 .ensures ∙ ap₂ max third (c4 .column-of5 .ensures .halves) in
     record {
       direction = λ j. in-r m r e 0 (c0 .column-of .ensures) (search (needs, c0 .column-of .ok .1 .1)) j
           ∷ in-r m r e 1 (c1 .column-of2 .ensures) (search (needs, c1 .column-of2 .ok .1 .1)) j
@@ -48,6 +73,7 @@ returns c =
           ∷ in-e m r e 4 (c4 .column-of5 .ensures) (search (needs, c4 .column-of5 .ok .1 .1)) j
           ∷ in-e m r e 5 (c5 .column-of6 .ensures) (search (needs, c5 .column-of6 .ok .1 .1)) j
           ∷ [];
+      sum = ap halfUp (most .larger5 .ensures ∙ ap₂ max fourth (c5 .column-of6 .ensures .halves) ∙ largest-of-six (λ i. 2 * natAbs (nextR 6 (matrixOf m) (vector r) i) + nextE 6 (matrixOf m) (vector r) (magnitudes e) i)) ∙ growthSum-halves 6 (nextR 6 (matrixOf m) (vector r)) (nextE 6 (matrixOf m) (vector r) (magnitudes e));
     }
 
 pub advance-spec : {M : Type 1} → statement M
@@ -60,4 +86,10 @@ advance-spec =
     (λ c κs. search needs)
     (λ c κs. search needs)
     column-of-requires-6
+    (λ c κs. search needs)
+    (λ c κs. search needs)
+    (λ c κs. search needs)
+    (λ c κs. search needs)
+    (λ c κs. search needs)
+    add-result
     returns)

@@ -81,7 +81,7 @@ add-erred c =
     let start = before (c .before) in
     omega (arith, errors-small (c .errors-of2 .ensures) (start .pre .input .errors), start .pre .errors-small)
 
--- the raw bound: the supports, and half of all errors with at most 1 more
+-- the raw bound: the supports, and half of all errors with at most 1 more; that it is 1 is settled where the bound is
 module _ (c : tie.After-errors-of2) where
   abbrev at : tie.After-support-of2
   at = c .before .before
