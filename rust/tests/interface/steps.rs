@@ -66,6 +66,22 @@ fn random_steps_are_those_of_the_specification() {
 }
 
 #[test]
+fn a_step_at_a_half_or_beside_it_goes_to_the_nearest() {
+    let mut matrix = [0; 36];
+    matrix[0] = 1;
+    for halves in -99..=99 {
+        let at = (halves + 1i64).div_euclid(2);
+        let odd = i64::from(halves % 2 != 0);
+        for (beside, next, error) in [(-1, at - odd, 1), (0, at, odd), (1, at, 1)] {
+            let (mut r, mut e) = ([32_768 * halves + beside, 0, 0, 0, 0, 0], [0; 6]);
+            assert!(compare(1, &matrix, &r, &e));
+            step(1, &matrix, &mut r, &mut e).expect("small");
+            assert_eq!((r[0], e[0]), (next, error), "{halves} halves and {beside}");
+        }
+    }
+}
+
+#[test]
 fn the_largest_step_there_is_is_taken_exactly() {
     for sign in [1, -1] {
         for (r, e) in [(GROWTH_LIMIT, 0), (0, 2 * GROWTH_LIMIT), (1, 2 * GROWTH_LIMIT - 2), (-GROWTH_LIMIT, 0)] {
