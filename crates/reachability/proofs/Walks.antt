@@ -1,6 +1,6 @@
 -- The accuracy rule over a sequence of matrices, with no model and no code in sight: two sets known by their laws, moves, and a
--- direction of any size. In order: what errors say; the exact largest value `top`, which no run passes and a run attains; supports of
--- directions near each other; `top` near the sums that the recurrence adds up; those sums as the raw bound and slack have them.
+-- direction of any size. In order: what errors say; the exact largest value `top`, which no run passes and a run attains; supports
+-- of directions near each other; `top` near the sums that the recurrence adds up; those sums as the raw bound and slack have them.
 -- Assumes nothing.
 use mathlib.Core.Path.{_≡_, refl, sym, ap, ap₂, subst, _∙_}
 use mathlib.Core.Bool.{Bool, true, false, cond}

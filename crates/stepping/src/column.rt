@@ -41,8 +41,8 @@ struct Column {
     halves: u64,
 }
 
-// Recurrence 4 and 5. N over 65,536 to the nearest, a half going up; and the errors over 65,536, rounded up, with 1 more for an N that
-// was rounded.
+// Recurrence 4 and 5. N over 65,536 to the nearest, a half going up; and the errors over 65,536, rounded up, with 1 more for an N
+// that was rounded.
 fn column_of(matrix: &[i32; 36], r: &[i64; 6], e: &[i64; 6], i: usize) -> Column
     requires { ⌜ (i < 6) × Bounded growthLimit (now matrix) (now r) × BoundedErrors (now matrix) (now e) ⌝ }
     ensures { λ c. ⌜ Advances (now (matrix .entry)) (now (r .entry)) (now (e .entry)) i (c .r) (c .e) (c .halves) ⌝ }
@@ -60,8 +60,8 @@ fn column_of(matrix: &[i32; 36], r: &[i64; 6], e: &[i64; 6], i: usize) -> Column
     }
 }
 
-// r and e one step on, in place, and their growth sum: the largest sum in half units, halved once. The six columns stand in a straight
-// line, so that r and e are stored once each and as a whole.
+// r and e one step on, in place, and their growth sum: the largest sum in half units, halved once. The six columns stand in a
+// straight line, so that r and e are stored once each and as a whole.
 pub(crate) fn advance(matrix: &[i32; 36], r: &mut [i64; 6], e: &mut [i64; 6]) -> u64
     requires { ⌜ Bounded growthLimit (now matrix) (now r) × BoundedErrors (now matrix) (now e) ⌝ }
     ensures { λ s. ⌜ Advanced (now (matrix .entry)) (now (r .entry)) (now (e .entry)) (now (r .exit)) (now (e .exit)) s ⌝ }

@@ -1,5 +1,5 @@
--- `stepping::column::advance` meets its contract: r and e of each column and their sum are what `column_of` says, and the two lists are
--- stored whole. Assumes nothing.
+-- `stepping::column::advance` meets its contract: r and e of each column and their sum are what `column_of` says, and the two lists
+-- are stored whole. Assumes nothing.
 use Rattle.integers.proofs.Basics.{_≡_, ap, ap₂, _∙_, ℕ, _+_, _*_, arith, needs, ℤ, pos, natAbs, w64, toZ, ofZ}
 use Prim.Native.Nat.{max}
 use mathlib.Core.List.{List, [], _∷_}
