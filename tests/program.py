@@ -9,14 +9,19 @@ built program, target/bin/envelope, and fails where there is none.
 
 from __future__ import annotations
 
+import collections
+import itertools
 import os
+import random
 import re
 import socket
 import subprocess
 import sys
 import tempfile
 import unittest
+from operator import mul
 from pathlib import Path
+from typing import Callable
 
 ROOT = Path(__file__).resolve().parent.parent
 PROGRAM = ROOT / "target" / "bin" / "envelope"
@@ -30,10 +35,12 @@ MOST_MEMORY = 4 * 1024  # kB
 sys.path.insert(0, str(ROOT / "tools"))
 
 import exact  # noqa: E402
+import listings  # noqa: E402
+import models  # noqa: E402
 import readerfiles  # noqa: E402
 from layout import (  # noqa: E402
-    BOX, MAX_DIRECTIONS, MAX_GUARDS, MAX_N, MAX_REACH, MAX_STEPS, VERTICES, ZONOTOPE, Model, Set, encode,
-    zero_box,
+    BOX, MAX_DIRECTION_ENTRY, MAX_DIRECTIONS, MAX_GUARDS, MAX_N, MAX_POINTS, MAX_REACH, MAX_STEPS,
+    MIN_POINTS, VERTICES, ZONOTOPE, Model, Set, Vector, encode, zero_box,
 )
 
 
@@ -237,6 +244,78 @@ class Text(unittest.TestCase):
     def test_what_lies_behind_2048_bytes_makes_no_difference(self) -> None:
         self.assertEqual(reply(SAMPLE + bytes(4000)), b"refused 10 at 186\n")
         self.assertEqual(reply((SAMPLE + bytes(4000))[:2048]), b"refused 10 at 186\n")
+
+
+class OnePointMore(unittest.TestCase):
+    """Sets 16 to 19: the initial set (step 0) and the input set (step 1) get point after point.
+
+    The matrix is zero and K is 1, so that r(1) is 0 and no r is rounded: the bound of step 0 is the
+    support of the initial set at the direction, that of step 1 is the input set's.
+    """
+
+    def file(self, step: int, set_: Set, directions: list[Vector]) -> bytes:
+        """A model with this initial or input set; the other set is the vertex (1, 2, ..)."""
+        n = len(directions[0])
+        sets = [Set(VERTICES, (tuple(range(1, n + 1)),))] * 2
+        sets[step] = set_
+        return encode(Model(n, 1, ((0,) * n,) * n, *sets, tuple(directions), ()))
+
+    def check(self, form: str, joined: Callable[[int, int], int]) -> None:
+        """Check bounds of sets of each n that get one point after the other.
+
+        A bound is `joined` of the one in the file before and the new point's product; of one point
+        it is the product. A product of each sign comes below, at and above the bound so far.
+        """
+        rng = random.Random(4)
+        seen = collections.Counter()
+        for step, n in itertools.product((0, 1), [*range(1, MAX_N + 1)] * 2):
+            drawn = [models.vectors(rng, n, MAX_DIRECTION_ENTRY, 4) for _ in range(12)]
+            directions = list(filter(any, sum(drawn, [])))[:MAX_DIRECTIONS]
+            points = models.growing(rng, form, n)
+            for count, new in enumerate(points, start=1):
+                products = [sum(map(mul, direction, new)) for direction in directions]
+                if count == 1:
+                    bounds = products
+                else:
+                    seen.update(
+                        (step, product > 0, product < 0, product > bound, product < bound)
+                        for product, bound in zip(products, bounds)
+                    )
+                    bounds = list(map(joined, bounds, products))
+                if count >= MIN_POINTS[form]:
+                    data = self.file(step, Set(form, points[:count]), directions)
+                    told = listings.parse(reply(data).decode()).directions
+                    self.assertEqual([swept.bounds[step] for swept in told], bounds)
+                    self.assertEqual({swept.slacks for swept in told}, {(0, 0)})
+        self.assertEqual(len(seen), 2 * 3 * 3)
+        self.assertGreater(min(seen.values()), 3, seen)
+
+    def test_one_vertex_more_makes_the_larger_of_two_supports(self) -> None:
+        self.check(VERTICES, max)
+
+    def test_one_generator_more_adds_a_magnitude(self) -> None:
+        self.check(ZONOTOPE, lambda bound, product: bound + abs(product))
+
+    def test_the_reach_is_that_of_the_points_so_far(self) -> None:
+        # The first points reach to the limit in a coordinate, and so may one vertex more; one
+        # generator more has to be 0 there. Zeros follow, so that the record isn't the set's last.
+        rng = random.Random(5)
+        for step, form, n in itertools.product((0, 1), (VERTICES, ZONOTOPE), range(1, MAX_N + 1)):
+            for count in range(1, MAX_POINTS[form]):
+                *points, new = map(list, models.growing(rng, form, n)[: count + 1])
+                i, full = rng.randrange(n), rng.choice(points)
+                full[i] = 0
+                used = sum(abs(point[i]) for point in points) if form == ZONOTOPE else 0
+                full[i] = rng.choice((-1, 1)) * (MAX_REACH - used)
+                most = 0 if form == ZONOTOPE else MAX_REACH
+                zeros = [[0] * n] * rng.randrange(MAX_POINTS[form] - count)
+                at = 4 + 26 * n + 25 * (count + step)  # head, rows, and the points before
+                for size in sorted({0, most, most + 1}):
+                    new[i] = rng.choice((-size, size))
+                    set_ = Set(form, tuple(map(tuple, (*points, new, *zeros))))
+                    text = reply(self.file(step, set_, [(1,) * n])).decode()
+                    expected = f"model {n} 1" if size <= most else f"refused 6 at {at}"
+                    self.assertEqual(text.split("\n")[0], expected)
 
 
 class Input(unittest.TestCase):

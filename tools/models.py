@@ -2,7 +2,8 @@
 """Random models and files, the same for the same seed.
 
 In order: the parts of an accepted model; guards near the model's own bounds; values beyond a
-limit; damaged files. Most models have few steps and directions, so that checking them is quick.
+limit; damaged files; points for tests that build a set point by point. Most models have few steps
+and directions, so that checking them is quick.
 
     models.py SEED NUMBER    write file NUMBER of that seed to standard output
 """
@@ -409,6 +410,31 @@ def file_of(seed: int, number: int) -> bytes:
 def stream(seed: int, count: int) -> Iterator[bytes]:
     """The first `count` files of a seed."""
     return (file_of(seed, number) for number in range(count))
+
+
+# Sets that are built point by point
+
+
+def vectors(rng: random.Random, n: int, most: int, count: int) -> list[Vector]:
+    """Vectors with magnitudes up to `most`, often that or 0; two times in three all of one sign."""
+    low, high = rng.choice(((-most, most), (0, most), (-most, 0)))
+    return [
+        tuple(rng.choice((low, 0, high, rng.randint(low, high))) for _ in range(n))
+        for _ in range(count)
+    ]
+
+
+def growing(rng: random.Random, form: str, n: int) -> tuple[Vector, ...]:
+    """Points of a set of the largest count; the first ones alone keep the limits too.
+
+    About one in five is equal to one before it.
+    """
+    count = MAX_POINTS[form]
+    points = vectors(rng, n, MAX_REACH // count if form == ZONOTOPE else MAX_REACH, count)
+    for index in range(1, count):
+        if rng.random() < 0.2:
+            points[index] = rng.choice(points[:index])
+    return tuple(points)
 
 
 def main() -> None:

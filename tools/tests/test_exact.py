@@ -1,11 +1,13 @@
 """The exact program against the specification's figures, and against runs counted one by one."""
 
+import collections
 import itertools
 import random
 import tempfile
 import unittest
 from dataclasses import replace
 from fractions import Fraction
+from operator import mul
 from pathlib import Path
 
 from helpers import BEYOND_BY_HALF, HALVED_ONCE, box, run_tool, single
@@ -15,8 +17,8 @@ import listings
 import models
 import readerfiles
 from layout import (
-    BODY_LENGTHS, BOX, LONGEST_FILE, VERTICES, ZONOTOPE, Model, Set, direction, encode, guard, head,
-    point, row, states_input,
+    BODY_LENGTHS, BOX, GROWTH_LIMIT, LONGEST_FILE, MIN_POINTS, VERTICES, ZONOTOPE, Model, Set,
+    direction, encode, guard, head, point, row, states_input,
 )
 from listings import Growth, Listing, Refusal, Sweep, Verdict
 
@@ -48,6 +50,12 @@ def swept(model):
     return exact.sweep(model, model.directions[0])
 
 
+def figures(form, points, r):
+    """Support at r and reach of a set."""
+    set_ = Set(form, points)
+    return exact.support(set_, r), exact.reach(set_, len(r))
+
+
 def last(model):
     """r(K) and e(K)."""
     *_, found = itertools.islice(exact.working(model, model.directions[0]), model.steps + 1)
@@ -55,7 +63,7 @@ def last(model):
 
 
 class Figures(unittest.TestCase):
-    """Figures 1 to 14, the sample, and further figures worked by hand."""
+    """Figures 1 to 14, 21 and 22, the sample, and further figures worked by hand."""
 
     def test_case_1(self):
         told = swept(single(65_536, (2, 5), (-1, 1), 3, 2))
@@ -115,6 +123,18 @@ class Figures(unittest.TestCase):
     def test_case_14(self):
         self.assertEqual(exact.listing(b""), "refused 1 at 0\n")
 
+    def test_case_21(self):
+        """The products are 3, 2 and -3."""
+        points, r = ((1, -2), (3, 1), (-1, 2)), (1, -1)
+        self.assertEqual(figures(ZONOTOPE, points[:2], r), (5, (4, 3)))
+        self.assertEqual(figures(ZONOTOPE, points, r), (8, (5, 5)))
+
+    def test_case_22(self):
+        """The products are 0, 8 and 3."""
+        points, r = ((0, 0), (4, 0), (0, 3)), (2, 1)
+        self.assertEqual(figures(VERTICES, points[:2], r), (8, (4, 0)))
+        self.assertEqual(figures(VERTICES, points, r), (8, (4, 3)))
+
     def test_sample(self):
         self.assertEqual(len(SAMPLE), 186)
         self.assertEqual(exact.listing(SAMPLE), SAMPLE_LISTING)
@@ -136,6 +156,42 @@ class Figures(unittest.TestCase):
             text = exact.listing(encode(model, stated_steps=stated))
             self.assertTrue(text.startswith(f"model 1 {steps}\n"), stated)
             self.assertTrue(text.endswith(f"\n{steps} 0 0\n"), stated)
+
+
+class OnePointMore(unittest.TestCase):
+    """Sets 16 to 19: figures of a set by those of the set before and of the new point alone."""
+
+    def check(self, form, joined):
+        """Check sets of each n that get one point after the other; of a centre alone the reach.
+
+        A figure is `joined` of the one before and the new point's; of one point it is its own. With
+        each n a product of each sign comes below, at and above the support so far.
+        """
+        rng = random.Random(4)
+        seen = collections.Counter()
+        for n in [*range(1, 7)] * 300:
+            [r] = models.vectors(rng, n, GROWTH_LIMIT, 1)
+            points = models.growing(rng, form, n)
+            for count, new in enumerate(points, start=1):
+                product, magnitudes = sum(map(mul, r, new)), tuple(map(abs, new))
+                if count == 1:
+                    support, reach = product, magnitudes
+                else:
+                    seen[n, product > 0, product < 0, product > support, product < support] += 1
+                    support = joined(support, product)
+                    reach = tuple(map(joined, reach, magnitudes))
+                set_ = Set(form, points[:count])
+                self.assertEqual(exact.reach(set_, n), reach)
+                if count >= MIN_POINTS[form]:
+                    self.assertEqual(exact.support(set_, r), support)
+        self.assertEqual(len(seen), 6 * 3 * 3)
+        self.assertGreater(min(seen.values()), 3, seen)
+
+    def test_one_vertex_more(self):
+        self.check(VERTICES, max)
+
+    def test_one_generator_more(self):
+        self.check(ZONOTOPE, lambda so_far, new: so_far + abs(new))
 
 
 class Rounding(unittest.TestCase):

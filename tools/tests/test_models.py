@@ -18,6 +18,8 @@ SEED, COUNT = 1, 1_500
 
 NEAREST = "(total + MATRIX_UNIT // 2) // MATRIX_UNIT"
 HALF_OF_T = "up(dot(e, initial_reach) + input_errors, 2)"
+GENERATORS = "sum(abs(dot(generator, r)) for generator in generators)"
+LARGEST = "max(dot(vertex, r) for vertex in set_.points)"
 
 # A wrong answer's name, the text of `exact` that is changed, and what it becomes.
 EDITS = (
@@ -55,7 +57,17 @@ EDITS = (
     ("input_error_lost", "input_errors += dot(e, input_reach)", "pass"),
     ("lower_corner_taken", "high if x > 0 else low", "low if x > 0 else high"),
     ("generator_signed", "abs(dot(generator, r))", "dot(generator, r)"),
+    ("first_generator_signed", GENERATORS,
+     "dot(generators[0], r) + sum(abs(dot(generator, r)) for generator in generators[1:])"),
+    ("last_generator_left_out", GENERATORS, f"{GENERATORS[:-1]}[:-1])"),
+    ("magnitude_of_the_sum", GENERATORS, "abs(sum(dot(generator, r) for generator in generators))"),
+    ("centre_by_magnitude", "dot(centre, r) +", "abs(dot(centre, r)) +"),
     ("least_vertex", "return max(dot(vertex", "return min(dot(vertex"),
+    ("last_vertex_alone", LARGEST, "dot(set_.points[-1], r)"),
+    ("first_vertex_left_out", LARGEST, f"{LARGEST[:-1]}[1:] or set_.points)"),
+    ("last_vertex_left_out", LARGEST, f"{LARGEST[:-1]}[:-1] or set_.points)"),
+    ("largest_from_zero", LARGEST, f"max(0, {LARGEST})"),
+    ("largest_magnitude", LARGEST, "max(abs(dot(vertex, r)) for vertex in set_.points)"),
     ("hit_above_level", "bound - slack >= level", "bound - slack > level"),
     ("unknown_above_level", "if bound >= level", "if bound > level"),
     ("body_before_order", "if kind not in allowed:",

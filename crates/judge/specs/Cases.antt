@@ -1,4 +1,4 @@
--- Figures 1 to 12 and 16 to 20, the marked cases, as one list, and what it means that they hold. Definitions only. A case is the
+-- Figures 1 to 12 and 16 to 22, the marked cases, as one list, and what it means that they hold. Definitions only. A case is the
 -- list of what the specification says in it; a saying sets a figure beside what the contracts of `support`, `reach`, `sweep` and `judge`
 -- say is answered or left, or beside the r, e, T or raw slack by which they say it. Sweeps are of direction 0 and judges of guard 0,
 -- with K + 1 elements in both lists. Where the specification names no K, it is the last step that has a figure.
@@ -141,13 +141,19 @@ faded high direction = single 2 (pos 1) (interval (pos 0) high) zeroBox directio
 abbrev pub doubled : ℕ → Model
 doubled steps = single steps (pos 131072) zeroBox zeroBox (pos 1) []
 
--- The set of Figures 9: centre, two generators.
+-- The zonotope of Figures 9 and 21: centre, two generators; and without the last.
 abbrev pub zonotope : Set
 zonotope = setOf Zonotope ((pos 1 ∷ negℤ (pos 2) ∷ []) ∷ (pos 3 ∷ pos 1 ∷ []) ∷ (negℤ (pos 1) ∷ pos 2 ∷ []) ∷ [])
 
--- The set of Figures 10.
+abbrev pub oneGenerator : Set
+oneGenerator = setOf Zonotope ((pos 1 ∷ negℤ (pos 2) ∷ []) ∷ (pos 3 ∷ pos 1 ∷ []) ∷ [])
+
+-- The vertices of Figures 10 and 22; and without the last.
 abbrev pub vertices : Set
 vertices = setOf Vertices ((pos 0 ∷ pos 0 ∷ []) ∷ (pos 4 ∷ pos 0 ∷ []) ∷ (pos 0 ∷ pos 3 ∷ []) ∷ [])
+
+abbrev pub twoVertices : Set
+twoVertices = setOf Vertices ((pos 0 ∷ pos 0 ∷ []) ∷ (pos 4 ∷ pos 0 ∷ []) ∷ [])
 
 -- The set of Figures 11: its lower and its upper corner.
 abbrev pub box : Set
@@ -292,7 +298,25 @@ case20 =
     ∷ sweeps (widened 10 (pos 16)) (Spare 0)
     ∷ []
 
--- Figures 1 to 12 and 16 to 20, in one list.
+-- Figures 21.
+abbrev pub case21 : Case
+case21 =
+    supports 2 oneGenerator (pos 1 ∷ negℤ (pos 1) ∷ []) (pos 5)
+    ∷ reaches 2 oneGenerator (pos 4 ∷ pos 3 ∷ [])
+    ∷ supports 2 zonotope (pos 1 ∷ negℤ (pos 1) ∷ []) (pos 8)
+    ∷ reaches 2 zonotope (pos 5 ∷ pos 5 ∷ [])
+    ∷ []
+
+-- Figures 22.
+abbrev pub case22 : Case
+case22 =
+    supports 2 twoVertices (pos 2 ∷ pos 1 ∷ []) (pos 8)
+    ∷ reaches 2 twoVertices (pos 4 ∷ pos 0 ∷ [])
+    ∷ supports 2 vertices (pos 2 ∷ pos 1 ∷ []) (pos 8)
+    ∷ reaches 2 vertices (pos 4 ∷ pos 3 ∷ [])
+    ∷ []
+
+-- Figures 1 to 12 and 16 to 22, in one list.
 abbrev pub cases : List Case
 cases =
     case1
@@ -312,4 +336,6 @@ cases =
     ∷ case18
     ∷ case19
     ∷ case20
+    ∷ case21
+    ∷ case22
     ∷ []

@@ -1,6 +1,8 @@
 -- Laws of the three sets.
 pub mod Laws
 pub mod ReachAttained
+pub mod PointByPoint
 pub mod Bounds
 pub mod SupportSoFar
 pub mod Facts
+pub mod OneMore

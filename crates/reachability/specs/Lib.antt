@@ -1,4 +1,5 @@
 pub mod Sets
+pub mod OneMore
 pub mod Limits
 pub mod Runs
 pub mod Recurrence

@@ -27,10 +27,14 @@ points = matrix
 
 -- ---- support
 
+-- The larger of two.
+abbrev pub larger : ℤ → ℤ → ℤ
+larger a b = cond (ltZ a b) b a
+
 -- The largest of f 0 up to f k.
 unfoldable pub largest : ℕ → (ℕ → ℤ) → ℤ
 largest zero f = f 0
-largest (suc k) f = cond (ltZ (largest k f) (f (suc k))) (f (suc k)) (largest k f)
+largest (suc k) f = larger (largest k f) (f (suc k))
 
 -- Sets 10, 11 and 12, shape by shape. That this is Sets 9, the largest r · x over the set, is proved (`proofs.sets.Laws`).
 abbrev pub supportOf : ℕ → Shape → ℕ → (ℕ → ℕ → ℤ) → (ℕ → ℤ) → ℤ

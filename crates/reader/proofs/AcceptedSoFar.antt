@@ -30,8 +30,8 @@ use Rattle.reader.specs.Values.{headOk, rowOk, pointOk, directionOk, gua
 use Rattle.reader.specs.Refusals.{countOf, kindNumber, storedIn, stored}
 use Rattle.reader.proofs.order.KindNumbers.{kindNumber-zero, lt-of-mostOf}
 use Rattle.reader.proofs.RowsOfSix.{vector-zeros, zeros-blank, small-blank, nonzero-none, guarded-more, guarded-set}
-use Rattle.reader.proofs.OrderFacts.{isDone, pointMay, fact, order-fact, isDone-late, isDone-early}
-use Rattle.reader.proofs.PartsSoFar.{passed, FrameAt, n-least, frame-on, frame-row, SetAt, set-early, set-late, point-low, point-high, set-point, DirectionsAt, directions-early, directions-late, directions-more, GuardsAt}
+use Rattle.reader.proofs.OrderFacts.{isDone, pointMay, point-low, point-high, fact, order-fact, isDone-late, isDone-early}
+use Rattle.reader.proofs.PartsSoFar.{passed, FrameAt, n-least, frame-on, frame-row, SetAt, set-early, set-late, set-point, DirectionsAt, directions-early, directions-late, directions-more, GuardsAt}
 
 -- ---- the whole state
 
@@ -53,6 +53,7 @@ blank-set base place n h =
     record {
       held = record { length-is = refl; outside = zeros-blank 96 0 n; most = omega arith };
       none = λ l. refl;
+      shaped = λ l m. absurd (omega arith);
       one = λ e. absurd (omega arith);
       some = λ l m. absurd (omega arith);
       done = λ t. absurd (isDone-early base place (omega arith) t);
@@ -65,6 +66,7 @@ zero-box place n h =
     record {
       held = record { length-is = refl; outside = zeros-blank 96 2 n; most = omega arith };
       none = λ l. absurd (omega arith);
+      shaped = λ l m. absurd (omega arith);
       one = λ e. absurd (omega arith);
       some = λ l m. absurd (omega arith);
       done = λ t. ap₂ _&&_ (zeroOutside-of 2 n (zeros 96) (zeros-blank 96 2 n)) (ordered-zeros n);
@@ -171,8 +173,8 @@ module _ (s : State) (kind : ℕ) (body : List ℕ) (g : AcceptedSoFar s) where
       let l = leb-true 0x02 (s .last) late in
       let h = ltb-true (s .last) 0x20 early in
       let p = set-point 0x10 (s .last) (s .model .n) (s .model .initial) kind body (g .initial) refl may few ok in
-      let a = point-low 0x10 (s .last) (s .model .n) (s .model .initial) kind body (g .initial) refl may few ok in
-      let b = point-high 0x10 (s .last) (s .model .n) (s .model .initial) kind body (g .initial) refl may few ok in
+      let a = point-low 0x10 (s .last) kind may in
+      let b = point-high 0x10 (s .last) kind may in
       record {
         first = λ z. absurd (omega arith);
         frame = frame-on (g .frame) kind (omega arith) (omega arith);
@@ -187,8 +189,8 @@ module _ (s : State) (kind : ℕ) (body : List ℕ) (g : AcceptedSoFar s) where
   so-far-input may done late few ok =
       let l = leb-true 0x02 (s .last) late in
       let p = set-point 0x20 (s .last) (s .model .n) (s .model .input) kind body (g .input) refl may few ok in
-      let a = point-low 0x20 (s .last) (s .model .n) (s .model .input) kind body (g .input) refl may few ok in
-      let b = point-high 0x20 (s .last) (s .model .n) (s .model .input) kind body (g .input) refl may few ok in
+      let a = point-low 0x20 (s .last) kind may in
+      let b = point-high 0x20 (s .last) kind may in
       record {
         first = λ z. absurd (omega arith);
         frame = frame-on (g .frame) kind (omega arith) (omega arith);

@@ -6,6 +6,7 @@ pub mod RowsOfSix
 pub mod OrderFacts
 pub mod PartsSoFar
 pub mod AcceptedSoFar
+pub mod PointByPoint
 pub mod Sizes
 pub mod ReadModels
 pub mod NoInput

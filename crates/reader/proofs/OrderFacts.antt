@@ -3,9 +3,10 @@
 use mathlib.Core.Path.{_≡_, refl, sym, ap, _∙_, ap₂}
 use mathlib.Core.Bool.{Bool, true, false, cond, _&&_, _||_}
 use mathlib.Core.List.{List, _∷_, []}
-use Prim.Native.Nat.{ℕ, _+_, _≤_}
+use Prim.Native.Nat.{ℕ, _+_, _≤_, _<_}
+use native.Mathlib.Decide.{decLt}
 use native.Mathlib.Omega.{arith}
-use borrow.Author.Tests.{eqb-true, ne-eqb, le-leb, lt-leb}
+use borrow.Author.Tests.{eq-eqb, ne-eqb, eqb-true, le-leb, lt-leb, leb-true, le-ltb}
 use lib.Dec.{eqb, leb, ltb}
 use Rattle.integers.proofs.Booleans.{and-true, or-true}
 use Rattle.records.specs.declared.order.Part.{Part}
@@ -50,14 +51,44 @@ isDone-early base place h t = never (eqb place (base + 1)) (leb (base + 3) place
     never : (a b : Bool) → a ≡ false → b ≡ false → a || b ≡ true → ⊥
     never a b e f t = let z : _≡_ {A = ℕ} 0 1 = cc (ap₂ _||_ e f) in omega arith
 
--- Where a point may stand: a lower corner and a centre only where no point was before, an upper corner behind the lower one, a
--- generator behind the centre or a generator.
+-- Where a point may stand: an upper corner behind the lower one, a generator behind the centre or a generator, a vertex behind a
+-- vertex; and a lower corner, a centre and a vertex where no point was before.
 abbrev pub pointMay : ℕ → ℕ → ℕ → Bool
 pointMay base place kind =
     (leb base kind && leb kind (base + 4))
-    && cond (eqb kind base) (ltb place base)
-    (cond (eqb kind (base + 1)) (eqb place base)
-    (cond (eqb kind (base + 3)) (leb (base + 2) place && leb place (base + 3)) true))
+    && cond (eqb kind (base + 1)) (eqb place base)
+    (cond (eqb kind (base + 3)) (leb (base + 2) place && leb place (base + 3))
+    (ltb place base || (eqb kind (base + 4) && eqb place (base + 4))))
+
+module _ (base place kind : ℕ) (may : pointMay base place kind ≡ true) where
+  pub point-low : base ≤ kind
+  point-low = leb-true base kind (and-true (leb base kind) (leb kind (base + 4)) (and-true (leb base kind && leb kind (base + 4)) _ may .0) .0)
+
+  pub point-high : kind ≤ base + 4
+  point-high = leb-true kind (base + 4) (and-true (leb base kind) (leb kind (base + 4)) (and-true (leb base kind && leb kind (base + 4)) _ may .0) .1)
+
+  which : cond (eqb kind (base + 1)) (eqb place base) (cond (eqb kind (base + 3)) (leb (base + 2) place && leb place (base + 3)) (ltb place base || (eqb kind (base + 4) && eqb place (base + 4)))) ≡ true
+  which = and-true (leb base kind && leb kind (base + 4)) _ may .1
+
+  pub upper-place : kind ≡ base + 1 → place ≡ base
+  upper-place e = eqb-true place base (simp (eq-eqb kind (base + 1) e) at which)
+
+  pub generator-place : kind ≡ base + 3 → (base + 2 ≤ place) × (place ≤ base + 3)
+  generator-place e =
+      let both = and-true (leb (base + 2) place) (leb place (base + 3)) (simp (ne-eqb kind (base + 1) (λ f. omega arith), eq-eqb kind (base + 3) e) at which) in
+      (leb-true (base + 2) place (both .0), leb-true place (base + 3) (both .1))
+
+  -- of the others, with a point before
+  pub vertex-place : (kind ≡ base + 1 → ⊥) → (kind ≡ base + 3 → ⊥) → base ≤ place → (kind ≡ base + 4) × (place ≡ base + 4)
+  vertex-place u g h = behind (ltb place base) (le-ltb place base h) (simp (ne-eqb kind (base + 1) u, ne-eqb kind (base + 3) g) at which)
+    where
+      behind : (b : Bool) → b ≡ false → b || (eqb kind (base + 4) && eqb place (base + 4)) ≡ true → (kind ≡ base + 4) × (place ≡ base + 4)
+      behind b e t =
+          let both = and-true (eqb kind (base + 4)) (eqb place (base + 4)) (sym (ap (λ (x : Bool). x || (eqb kind (base + 4) && eqb place (base + 4))) e) ∙ t) in
+          (eqb-true kind (base + 4) (both .0), eqb-true place (base + 4) (both .1))
+
+  pub first-place : kind ≡ base → place < base
+  first-place e = elim (decLt place base) [ yes l ↦ l | no g ↦ absurd (omega (arith, vertex-place (λ f. omega arith) (λ f. omega arith) (omega (arith, g)) .0)) ]
 
 unfoldable pub fact : Part → ℕ → ℕ → Bool
 fact Head place kind = eqb place 0x00

@@ -7,7 +7,7 @@ use mathlib.Core.List.{List}
 use Prim.Native.Nat.{ℕ, _+_, _*_, _%_, _≤_, _<_}
 use native.Mathlib.Decide.{decLt}
 use native.Mathlib.Omega.{arith}
-use borrow.Author.Tests.{le-ltb, le-leb, lt-leb, eq-eqb, ne-eqb, leb-true, ltb-true, eqb-true, ltb-false}
+use borrow.Author.Tests.{le-ltb, le-leb, lt-leb, eq-eqb, ne-eqb, leb-true, ltb-true, ltb-false}
 use lib.Dec.{leb, ltb, eqb}
 use lib.ListN.{length, set, List·getD-eq-default}
 use lib.IntN.{ℤ, pos}
@@ -30,7 +30,7 @@ use Rattle.reader.specs.Values.{within, pointOk, directionOk, unless}
 use Rattle.reader.proofs.store.PutRow.{length-putRow}
 use Rattle.reader.proofs.order.KindNumbers.{lt-of-mostOf}
 use Rattle.reader.proofs.RowsOfSix.{zeros-putRow, small-putRow, Nonzero, nonzero-putRow, Guarded}
-use Rattle.reader.proofs.OrderFacts.{isDone, pointMay, isDone-early}
+use Rattle.reader.proofs.OrderFacts.{isDone, pointMay, point-low, point-high, first-place, upper-place, generator-place, isDone-early}
 
 -- ---- the six numbers of a body are zero beyond n
 
@@ -105,6 +105,7 @@ pub record Held (n : ℕ) (set : Set) : Type 0 where
 pub record SetAt (base place n : ℕ) (set : Set) : Type 0 where
   pub held : Held n set
   pub none : place < base → set ≡ blankSet
+  pub shaped : base ≤ place → place ≤ base + 4 → set .shape ≡ shapeOf place
   pub one : place ≡ base → set .count ≡ 1
   pub some : base + 2 ≤ place → place ≤ base + 3 → 1 ≤ set .count
   pub done : isDone base place ≡ true → setAccepted n set ≡ true
@@ -120,6 +121,7 @@ module _ {base place n : ℕ} {set : Set} (s : SetAt base place n set) where
       record {
         held = s .held;
         none = λ l. s .none h;
+        shaped = λ l m. absurd (omega arith);
         one = λ e. absurd (omega arith);
         some = λ l m. absurd (omega arith);
         done = λ t. absurd (isDone-early base kind (omega arith) t);
@@ -131,6 +133,7 @@ module _ {base place n : ℕ} {set : Set} (s : SetAt base place n set) where
       record {
         held = s .held;
         none = λ l. absurd (omega arith);
+        shaped = λ l m. absurd (omega arith);
         one = λ e. absurd (omega arith);
         some = λ l m. absurd (omega arith);
         done = λ u. s .done t;
@@ -153,26 +156,6 @@ module _ (base place n : ℕ) (set : Set) (kind : ℕ) (body : List ℕ) (s : Se
   block-zeros : Zeros count n block
   block-zeros = zeros-putRow n (set .points) (set .count) (sixAt n body 0) room (λ i h. sixAt-beyond n body 0 i h) (s .held .outside)
 
-  pub point-low : base ≤ kind
-  point-low = leb-true base kind (and-true (leb base kind) (leb kind (base + 4)) (and-true (leb base kind && leb kind (base + 4)) _ may .0) .0)
-
-  pub point-high : kind ≤ base + 4
-  point-high = leb-true kind (base + 4) (and-true (leb base kind) (leb kind (base + 4)) (and-true (leb base kind && leb kind (base + 4)) _ may .0) .1)
-
-  which : cond (eqb kind base) (ltb place base) (cond (eqb kind (base + 1)) (eqb place base) (cond (eqb kind (base + 3)) (leb (base + 2) place && leb place (base + 3)) true)) ≡ true
-  which = and-true (leb base kind && leb kind (base + 4)) _ may .1
-
-  first-place : kind ≡ base → place < base
-  first-place e = ltb-true place base (simp (eq-eqb kind base e) at which)
-
-  upper-place : kind ≡ base + 1 → place ≡ base
-  upper-place e = eqb-true place base (simp (ne-eqb kind base (λ f. omega arith), eq-eqb kind (base + 1) e) at which)
-
-  generator-place : kind ≡ base + 3 → (base + 2 ≤ place) × (place ≤ base + 3)
-  generator-place e =
-      let both = and-true (leb (base + 2) place) (leb place (base + 3)) (simp (ne-eqb kind base (λ f. omega arith), ne-eqb kind (base + 1) (λ f. omega arith), eq-eqb kind (base + 3) e) at which) in
-      (leb-true (base + 2) place (both .0), leb-true place (base + 3) (both .1))
-
   -- what the test of number 6 says
   reach-ok : reachOk (shapeOf kind) count (points block) ≡ true
   unfolding pointOk withPoint
@@ -194,13 +177,13 @@ module _ (base place n : ℕ) (set : Set) (kind : ℕ) (body : List ℕ) (s : Se
   upper-done e =
       let w : kind % 16 ≡ 1 = omega arith in
       whole Box (ap (λ (b : Bool). cond b Box (cond (leb (kind % 16) 3) Zonotope Vertices)) (le-leb (kind % 16) 1 (omega arith)))
-      (eq-eqb count 2 (omega (arith, s .one (upper-place e))))
+      (eq-eqb count 2 (omega (arith, s .one (upper-place base place kind may e))))
       (ordered (eq-eqb (kind % 16) 1 w))
 
   generator-done : kind ≡ base + 3 → setOk n (shapeOf kind) count block ≡ true
   generator-done e =
       let w : kind % 16 ≡ 3 = omega arith in
-      let p = generator-place e in
+      let p = generator-place base place kind may e in
       let nine : set .count < 9 = subst (λ (b : Bool). set .count < cond b 9 16) (eq-eqb (kind % 16) 3 w) few in
       whole Zonotope (simp (lt-leb (kind % 16) 1 (omega arith), le-leb (kind % 16) 3 (omega arith)))
       (ap₂ _&&_ (le-leb 2 count (omega (arith, s .some (p .0) (p .1)))) (le-leb count 9 (omega arith)))
@@ -214,7 +197,7 @@ module _ (base place n : ℕ) (set : Set) (kind : ℕ) (body : List ℕ) (s : Se
       refl
 
   point-done : isDone base kind ≡ true → setOk n (shapeOf kind) count block ≡ true
-  point-done t = elim (decLt base kind) [ yes a ↦ elim (decLt (base + 1) kind) [ yes b ↦ elim (decLt (base + 3) kind) [ yes d ↦ vertex-done (omega (arith, point-high, d)) | no g ↦ third (omega (arith, g)) b ] | no g ↦ upper-done (omega (arith, a, g)) ] | no g ↦ absurd (isDone-early base kind (omega (arith, g)) t) ]
+  point-done t = elim (decLt base kind) [ yes a ↦ elim (decLt (base + 1) kind) [ yes b ↦ elim (decLt (base + 3) kind) [ yes d ↦ vertex-done (omega (arith, point-high base place kind may, d)) | no g ↦ third (omega (arith, g)) b ] | no g ↦ upper-done (omega (arith, a, g)) ] | no g ↦ absurd (isDone-early base kind (omega (arith, g)) t) ]
     where
       third : kind ≤ base + 3 → base + 1 < kind → setOk n (shapeOf kind) count block ≡ true
       third h b = generator-done (omega (arith, leb-true (base + 3) kind (second (eqb kind (base + 1)) (leb (base + 3) kind) (ne-eqb kind (base + 1) (λ e. omega arith)) t)))
@@ -227,8 +210,9 @@ module _ (base place n : ℕ) (set : Set) (kind : ℕ) (body : List ℕ) (s : Se
   set-point =
       record {
         held = record { length-is = length-putRow (set .count) (sixAt n body 0) (set .points) ∙ s .held .length-is; outside = block-zeros; most = omega (arith, count-few) };
-        none = λ l. absurd (omega (arith, point-low));
-        one = λ e. ap (λ (k : ℕ). k + 1) (none-count s (first-place e));
+        none = λ l. absurd (omega (arith, point-low base place kind may));
+        shaped = λ l m. refl;
+        one = λ e. ap (λ (k : ℕ). k + 1) (none-count s (first-place base place kind may e));
         some = λ l m. omega arith;
         done = λ t. point-done t;
       }

@@ -1,4 +1,4 @@
-//! Figures 1 to 14 and 16 to 20 of the specification, as far as the interface shows them, its sample (Listing 8), and the listings in
+//! Figures 1 to 14 and 16 to 22 of the specification, as far as the interface shows them, its sample (Listing 8), and the listings in
 //! examples/.
 
 use crate::sweeps::compare_sweep;
@@ -165,6 +165,18 @@ fn cases_18_to_20_growth_and_the_spare_figure_count_half_of_the_errors_rounded_u
     // Half of an odd e, rounded up, takes the sum past 134,217,728 by 1.
     assert_eq!(walked(66_993, 58, 36)[35], (134_217_688, 81, 134_217_729));
     assert_eq!(spare(36, 66_993, 58), Ok(2));
+}
+
+#[test]
+fn cases_21_and_22_supports_with_one_point_more() {
+    let zonotope = [numbers(0x12, &[1, -2]), numbers(0x13, &[3, 1]), numbers(0x13, &[-1, 2])];
+    let vertices = [numbers(0x14, &[0, 0]), numbers(0x14, &[4, 0]), numbers(0x14, &[0, 3])];
+    for (points, direction, supports) in [(&zonotope, [1, -1], [5, 8]), (&vertices, [2, 1], [8, 8])] {
+        for (count, support) in [2, 3].into_iter().zip(supports) {
+            let (_, bounds, slacks) = swept(&plane([[0, 0], [0, 0]], &points[..count], direction)).expect("calm");
+            assert_eq!((bounds, slacks), (vec![support, 0], vec![0, 0]));
+        }
+    }
 }
 
 #[test]

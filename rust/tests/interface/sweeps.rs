@@ -1,11 +1,13 @@
-//! Accepted models: every sweep and every verdict is the specification's.
+//! Accepted models: every sweep and every verdict is the specification's, and a set with one point more has the support that Sets 17 and
+//! Sets 18 say.
 
 use crate::lent::Lent;
 use crate::makers::{open_model, Random};
 use pepperscarp::{judge, list_length, sweep, Refusal, Verdict};
-use support::records::{end, file, guard};
+use std::collections::BTreeMap;
+use support::records::{end, file, guard, of_model};
 use support::recurrence;
-use support::specification::{self, Model};
+use support::specification::{self, Form, Model};
 
 /// What the specification gives, in numbers that can't wrap.
 type Envelope = recurrence::Envelope<i128>;
@@ -121,6 +123,46 @@ fn every_sweep_and_every_verdict_of_random_models_is_that_of_the_specification()
     assert!(swept > 10_000 && grown > 2_000, "both come often");
     assert!(verdicts.iter().all(|count| *count > 800), "each verdict comes often");
     assert!(sizes[1..].iter().all(|count| *count > 800) && forms.iter().all(|count| *count > 3_000) && without_input > 800);
+}
+
+#[test]
+fn one_vertex_more_makes_the_larger_of_two_supports_and_one_generator_more_adds_a_magnitude() {
+    // The matrix is zero and K is 1, so that r(1) is 0 and no r is rounded: the bound of step 0 is the support of the initial set at the
+    // direction, that of step 1 is the input set's.
+    let mut random = Random::new(202_604);
+    let mut seen = BTreeMap::new();
+    for _ in 0..1_500 {
+        let mut records = open_model(&mut random);
+        records.push(end());
+        let mut whole = specification::read(&file(&records)).expect("a model");
+        (whole.steps, whole.matrix) = (1, [[0; 6]; 6]);
+        for (step, set) in [&whole.initial, &whole.input].into_iter().enumerate().filter(|(_, set)| set.form != Form::Box) {
+            for (number, direction) in whole.directions.iter().enumerate() {
+                let mut support = 0;
+                for (place, point) in set.points.iter().enumerate() {
+                    let product = direction.iter().zip(point).map(|(d, x)| i64::from(*d) * i64::from(*x)).sum::<i64>();
+                    if place > 0 {
+                        *seen.entry((step, set.form as u8, product.cmp(&0), product.cmp(&support))).or_insert(0) += 1;
+                    }
+                    support = match set.form {
+                        _ if place == 0 => product,
+                        Form::Zonotope => support + product.abs(),
+                        _ => support.max(product),
+                    };
+                    if place == 0 && set.form == Form::Zonotope {
+                        continue; // a centre alone is no set
+                    }
+                    let mut model = whole.clone();
+                    [&mut model.initial, &mut model.input][step].points.truncate(place + 1);
+                    let (mut bounds, mut slacks) = ([0; 2], [0; 2]);
+                    sweep(&file(&of_model(&model)), number, &mut bounds, &mut slacks).expect("no growth");
+                    assert_eq!((bounds[step], slacks), (support, [0, 0]), "direction {number} of {model:?}");
+                }
+            }
+        }
+    }
+    // In each set and form a product of each sign is smaller than the support so far, equal to it and larger.
+    assert!(seen.len() == 2 * 2 * 3 * 3 && seen.values().all(|count| *count > 20), "each comes often: {seen:?}");
 }
 
 #[test]

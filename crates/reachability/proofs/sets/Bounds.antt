@@ -1,9 +1,9 @@
 -- Bounds on what the supports of tested points compute, and zeros beyond n: the loops run to six, the definitions to n.
 -- Assumes nothing.
-use mathlib.Core.Path.{_≡_, refl, sym, ap, ap₂, _∙_}
+use mathlib.Core.Path.{_≡_, sym, ap, ap₂, _∙_}
 use mathlib.Core.Bool.{Bool, true, false, cond}
 use mathlib.Core.List.{List}
-use Prim.Native.Nat.{ℕ, zero, suc, _+_, _*_, _-_, _≤_, _<_}
+use Prim.Native.Nat.{ℕ, suc, _+_, _*_, _-_, _≤_, _<_}
 use native.Mathlib.Nat.{le-trans}
 use native.Mathlib.Omega.{arith}
 use lib.IntN.{ℤ, pos, natAbs, _+ℤ_, _*ℤ_, *ℤ-zero}
@@ -13,10 +13,11 @@ use Rattle.integers.proofs.Order.{natAbs-mul-le}
 use Rattle.integers.proofs.Sums.{sum-beyond, sumℕ-bound, sumℕ-cong, natAbs-sum, sum-cong}
 use Rattle.arrays.specs.Tests.{zeroOutside}
 use Rattle.arrays.proofs.Tests.{zeroOutside-column}
-use Rattle.reachability.specs.Sets.{points, largest, supportOf}
+use Rattle.reachability.specs.Sets.{points, supportOf}
 use Rattle.reachability.specs.SetsInner.{Tested, productLimit, termLimit}
 use Rattle.reachability.specs.declared.sets.Shape.{Shape}
 use Rattle.reachability.specs.declared.sets.Shape.the-variants.{Box, Zonotope, Vertices}
+use Rattle.reachability.proofs.sets.PointByPoint.{largest-cong}
 
 -- ---- bounds
 
@@ -26,20 +27,6 @@ dot-small xs r k t =
     (sumℕ-bound 6 productLimit (λ i h. native.Mathlib.Nat.le-refl productLimit))
 
 -- ---- zeros beyond n
-
-pub largest-zero : (f : ℕ → ℤ) → largest 0 f ≡ f 0
-unfolding largest
-largest-zero f = refl
-
-pub largest-suc : (k : ℕ) (f : ℕ → ℤ) → largest (suc k) f ≡ cond (ltZ (largest k f) (f (suc k))) (f (suc k)) (largest k f)
-unfolding largest
-largest-suc k f = refl
-
-pub largest-cong : (k : ℕ) {f g : ℕ → ℤ} → ((j : ℕ) → f j ≡ g j) → largest k f ≡ largest k g
-unfolding largest
-largest-cong zero e = e 0
-largest-cong (suc k) {f} {g} e =
-    ap₂ (λ (x y : ℤ). cond (ltZ x y) y x) (largest-cong k e) (e (suc k))
 
 six : (n : ℕ) → n ≤ 6 → n + (6 - n) ≡ 6
 six n h = omega arith
@@ -69,7 +56,7 @@ module _ (n : ℕ) (n≤6 : n ≤ 6) (count : ℕ) (xs : List ℤ) (outside : ze
   pub supportOf-six : (shape : Shape) (r : ℕ → ℤ) → supportOf 6 shape count (points xs) r ≡ supportOf n shape count (points xs) r
   supportOf-six Box r = box-six r
   supportOf-six Zonotope r = ap₂ (λ (x : ℤ) (y : ℕ). x +ℤ pos y) (dot-six r 0) (sumℕ-cong (count - 1) (λ k h. ap natAbs (dot-six r (suc k))))
-  supportOf-six Vertices r = largest-cong (count - 1) (dot-six r)
+  supportOf-six Vertices r = largest-cong (count - 1) (λ k h. dot-six r k)
 
 -- ---- a support looks only at the first n values of a direction
 
@@ -79,4 +66,4 @@ dot-same n x e = sum-cong n (λ i h. ap (λ (z : ℤ). z *ℤ x i) (e i h))
 pub supportOf-same : (n : ℕ) (shape : Shape) (count : ℕ) (p : ℕ → ℕ → ℤ) {r s : ℕ → ℤ} → ((i : ℕ) → i < n → r i ≡ s i) → supportOf n shape count p r ≡ supportOf n shape count p s
 supportOf-same n Box count p e = sum-cong n (λ i h. ap (λ (z : ℤ). z *ℤ cond (ltZ (pos 0) z) (p 1 i) (p 0 i)) (e i h))
 supportOf-same n Zonotope count p e = ap₂ (λ (x : ℤ) (y : ℕ). x +ℤ pos y) (dot-same n (p 0) e) (sumℕ-cong (count - 1) (λ k h. ap natAbs (dot-same n (p (suc k)) e)))
-supportOf-same n Vertices count p e = largest-cong (count - 1) (λ k. dot-same n (p k) e)
+supportOf-same n Vertices count p e = largest-cong (count - 1) (λ k h. dot-same n (p k) e)

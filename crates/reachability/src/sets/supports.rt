@@ -6,7 +6,7 @@ ghost use Prim.Native.Nat.{_<_};
 ghost use lib.IntN.{pos, _+ℤ_, _*ℤ_};
 ghost use lib.Signed.{ltZ};
 ghost use Rattle.integers.specs.Sums.{vector, dot as dotOf};
-ghost use Rattle.reachability.specs.Sets.{supportOf, points as pointsOf};
+ghost use Rattle.reachability.specs.Sets.{supportOf, larger as largerOf, points as pointsOf};
 ghost use Rattle.reachability.specs.SetsInner.{TimesAdd, Tested, Counted};
 ghost use Rattle.reachability.specs.declared.sets.Shape.the-variants.{Box, Zonotope, Vertices};
 
@@ -26,7 +26,7 @@ fn corner(r: i64, low: i32, high: i32) -> i32
 }
 
 fn larger(a: i64, b: i64) -> i64
-    ensures { λ c. ⌜ c ≡ cond (ltZ a b) b a ⌝ }
+    ensures { λ c. ⌜ c ≡ largerOf a b ⌝ }
 {
     if a < b { b } else { a }
 }

@@ -1,13 +1,10 @@
 -- `reachability::sets::supports::of_vertices` meets its contract: `most` is the support of the points passed. The measure is what is
 -- left of the count. Assumes nothing.
-use Rattle.integers.proofs.Basics.{sym, ap₂, _∙_, _-_, arith, needs, ℤ, w64, toZ}
-use mathlib.Core.Bool.{cond}
-use lib.Signed.{ltZ}
-use Rattle.integers.specs.Sums.{vector}
+use Rattle.integers.proofs.Basics.{_≡_, ap, _∙_, _-_, arith, needs, ℤ, w64, toZ}
 use Rattle.integers.proofs.Machine.{read-given}
-use Rattle.reachability.specs.Sets.{points as pointsOf}
+use Rattle.reachability.specs.Sets.{larger}
 use Rattle.reachability.specs.declared.sets.Shape.the-variants.{Vertices}
-use Rattle.reachability.proofs.sets.SupportSoFar.{SupportSoFar, vertices-one, vertices-more, support-more, support-done}
+use Rattle.reachability.proofs.sets.SupportSoFar.{SupportSoFar, product, support-first, support-more, support-done}
 use Rattle.reachability.proofs.sets.supports.of_vertices.Statement.{statement}
 use Rattle.reachability.proofs.sets.supports.of_vertices.Tie as tie
 
@@ -23,7 +20,8 @@ dot-requires c κs = (omega arith, c .pre .1)
 loop-holds : tie.Need-loop-holds Inv-loop μ-loop
 loop-holds c =
     let a = c .before .args in
-    record { some = omega arith; inside = c .before .pre .0 .some; is = read-given w64 (c .dot .result) (c .dot .ok) ∙ c .dot .ensures ∙ sym (vertices-one 6 (pointsOf (a .points .now)) (vector (a .r .now))) }
+    let first : c .dot .result ≡ product (a .points .now) (a .r .now) 0 = c .dot .ensures in
+    support-first (c .before .pre .0 .some) (read-given w64 (c .dot .result) (c .dot .ok) ∙ first)
 
 dot-requires-2 : tie.Need-dot-requires-2 Inv-loop μ-loop
 dot-requires-2 c κs =
@@ -37,14 +35,12 @@ loop-again : tie.Need-loop-again Inv-loop μ-loop
 loop-again c =
     let b = c .before in
     let at-loop = b .before .before in
-    let inv = at-loop .loop .inv in
-    let a = at-loop .before .before .args in
     let read-dot = read-given w64 (b .dot2 .result) (b .dot2 .ok) ∙ b .dot2 .ensures in
-    support-more inv (b .before .loop-test .taken)
-    (read-given w64 (c .larger .result) (c .larger .ok) ∙ c .larger .ensures ∙ ap₂ (λ (x y : ℤ). cond (ltZ x y) y x) (inv .is) read-dot ∙ sym (vertices-more 6 (pointsOf (a .points .now)) (vector (a .r .now)) (at-loop .loop .k) (inv .some)))
+    support-more (at-loop .loop .inv) (b .before .loop-test .taken)
+    (read-given w64 (c .larger .result) (c .larger .ok) ∙ c .larger .ensures ∙ ap (λ (z : ℤ). larger (toZ w64 (at-loop .loop .most)) z) read-dot)
 
 returns : tie.Need-returns Inv-loop μ-loop
-returns c = support-done (c .before .loop .inv) (c .loop-test .left)
+returns c = support-done tt (c .before .loop .inv) (c .loop-test .left)
 
 pub of-vertices-spec : {M : Type 1} → statement M
 of-vertices-spec =

@@ -1,17 +1,16 @@
 -- `reachability::sets::supports::of_zonotope` meets its contract: `sum` is the support of the points passed, the centre first. The
 -- measure is what is left of the count. Assumes nothing.
-use Rattle.integers.proofs.Basics.{_≡_, sym, ap, ap₂, subst, _∙_, ℕ, _+_, _*_, _-_, _≤_, arith, needs, ℤ, pos, natAbs, _+ℤ_, w64, SFits, toZ, ofZ, toZ-ofZ}
+use Rattle.integers.proofs.Basics.{_≡_, sym, ap, subst, _∙_, ℕ, _+_, _*_, _-_, _≤_, _<_, arith, needs, ℤ, pos, natAbs, _+ℤ_, w64, SFits, toZ, toZ-ofZ}
 use mathlib.Core.List.{List}
 use native.Mathlib.Nat.{le-trans}
 use mir.Facts.{toZ-pos}
 use lib.Dec.{lit<}
-use Rattle.integers.specs.Sums.{vector, dot as dotOf}
 use Rattle.integers.proofs.Machine.{sfits-of-natAbs, read-given}
-use Rattle.reachability.specs.Sets.{supportOf, points as pointsOf}
 use Rattle.reachability.specs.SetsInner.{termLimit}
 use Rattle.reachability.specs.declared.sets.Shape.the-variants.{Zonotope}
 use Rattle.reachability.proofs.sets.Bounds.{dot-small}
-use Rattle.reachability.proofs.sets.SupportSoFar.{SupportSoFar, zonotope-one, zonotope-more, zonotope-small, support-more, support-done}
+use Rattle.reachability.proofs.sets.PointByPoint.{withOneMore}
+use Rattle.reachability.proofs.sets.SupportSoFar.{SupportSoFar, product, support-first, support-more, support-done, zonotope-small}
 use Rattle.reachability.proofs.sets.supports.of_zonotope.Statement.{statement}
 use Rattle.reachability.proofs.sets.supports.of_zonotope.Tie as tie
 
@@ -27,7 +26,8 @@ dot-requires c κs = (omega arith, c .pre .1)
 loop-holds : tie.Need-loop-holds Inv-loop μ-loop
 loop-holds c =
     let a = c .before .args in
-    record { some = omega arith; inside = c .before .pre .0 .some; is = read-given w64 (c .dot .result) (c .dot .ok) ∙ c .dot .ensures ∙ sym (zonotope-one 6 (pointsOf (a .points .now)) (vector (a .r .now))) }
+    let first : c .dot .result ≡ product (a .points .now) (a .r .now) 0 = c .dot .ensures in
+    support-first (c .before .pre .0 .some) (read-given w64 (c .dot .result) (c .dot .ok) ∙ first)
 
 dot-requires-2 : tie.Need-dot-requires-2 Inv-loop μ-loop
 dot-requires-2 c κs =
@@ -51,33 +51,40 @@ module _ (c : tie.After-magnitude Inv-loop μ-loop) where
   abbrev k : ℕ
   k = at-loop .loop .k
 
-  size-is : c .magnitude .result ≡ natAbs (dotOf 6 (vector r) (pointsOf xs k))
+  abbrev so-far : ℤ
+  so-far = toZ w64 (at-loop .loop .sum)
+
+  size-is : c .magnitude .result ≡ natAbs (product xs r k)
   size-is = c .magnitude .ensures ∙ ap natAbs (read-given w64 (c .before .dot2 .result) (c .before .dot2 .ok) ∙ c .before .dot2 .ensures)
 
   size-small : c .magnitude .result ≤ termLimit
   size-small = subst (λ (s : ℕ). s ≤ termLimit) (sym size-is) (dot-small xs r k (start .pre .1))
 
-  sum-is : toZ w64 (at-loop .loop .sum) +ℤ toZ w64 (c .magnitude .result) ≡ supportOf 6 Zonotope (k + 1) (pointsOf xs) (vector r)
-  sum-is = ap₂ _+ℤ_ (at-loop .loop .inv .is) (toZ-pos w64 {n = c .magnitude .result} (omega (arith, size-small)) ∙ ap pos size-is) ∙ sym (zonotope-more 6 (pointsOf xs) (vector r) k (at-loop .loop .inv .some))
+  sum-is : so-far +ℤ toZ w64 (c .magnitude .result) ≡ withOneMore Zonotope so-far (product xs r k)
+  sum-is = ap (λ (z : ℤ). so-far +ℤ z) (toZ-pos w64 {n = c .magnitude .result} (omega (arith, size-small)) ∙ ap pos size-is)
 
-  sum-fits : SFits w64 (supportOf 6 Zonotope (k + 1) (pointsOf xs) (vector r))
-  sum-fits = sfits-of-natAbs w64 {b = 16 * termLimit} (le-trans (zonotope-small xs r (k + 1) (omega arith) (start .pre .1)) (omega (arith, start .pre .0 .most, c .before .before .loop-test .taken))) (lit< tt)
+  taken : k < start .args .count
+  taken = c .before .before .loop-test .taken
+
+  sum-fits : SFits w64 (so-far +ℤ toZ w64 (c .magnitude .result))
+  sum-fits =
+      let next = support-more (at-loop .loop .inv) taken sum-is in
+      sfits-of-natAbs w64 {b = 16 * termLimit} (le-trans (native.Mathlib.Nat.le-of-eq (ap natAbs (next .is))) (le-trans (zonotope-small xs r (k + 1) (omega arith) (start .pre .1)) (omega (arith, start .pre .0 .most)))) (lit< tt)
 
 cast-size : tie.Need-cast-size Inv-loop μ-loop
 cast-size c = record { sfits = omega (arith, size-small c) }
 
 add-sum : tie.Need-add-sum Inv-loop μ-loop
-add-sum c = subst (SFits w64) (sym (sum-is c)) (sum-fits c)
+add-sum c = sum-fits c
 
 add-k : tie.Need-add-k Inv-loop μ-loop
 add-k c = omega (arith, start c .pre .0 .most)
 
 loop-again : tie.Need-loop-again Inv-loop μ-loop
-loop-again c =
-    support-more (at-loop c .loop .inv) (c .before .before .loop-test .taken) (ap (λ (z : ℤ). toZ w64 (ofZ w64 z)) (sum-is c) ∙ toZ-ofZ (sum-fits c))
+loop-again c = support-more (at-loop c .loop .inv) (taken c) (toZ-ofZ (sum-fits c) ∙ sum-is c)
 
 returns : tie.Need-returns Inv-loop μ-loop
-returns c = support-done (c .before .loop .inv) (c .loop-test .left)
+returns c = support-done tt (c .before .loop .inv) (c .loop-test .left)
 
 pub of-zonotope-spec : {M : Type 1} → statement M
 of-zonotope-spec =
