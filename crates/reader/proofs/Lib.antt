@@ -6,9 +6,9 @@ pub mod RowsOfSix
 pub mod OrderFacts
 pub mod PartsSoFar
 pub mod AcceptedSoFar
-pub mod PointByPoint
 pub mod Sizes
 pub mod ReadModels
+pub mod PointByPoint
 pub mod NoInput
 pub mod Answers
 pub mod Sample

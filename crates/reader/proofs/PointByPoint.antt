@@ -1,6 +1,6 @@
 -- Sets 16, as a file is read: a generator, or a vertex behind a vertex, makes a set with one point more than the set before it, and the
 -- new point is the one that the record tells. So Sets 17 to 19 hold of what the reader tests and stores point by point. In order: any
--- set so far; the two sets of a state. Assumes nothing.
+-- set so far; the two sets at a place that reading comes to. Assumes nothing.
 use mathlib.Core.Path.{_≡_, refl, sym, ap, subst, _∙_}
 use mathlib.Core.Bool.{Bool, true, false, cond}
 use mathlib.Core.List.{List}
@@ -20,13 +20,15 @@ use Rattle.reachability.specs.declared.sets.Set.{Set}
 use Rattle.reachability.specs.OneMore.{OneMore, newPoint}
 use Rattle.reader.specs.declared.state.State.{State}
 use Rattle.reader.specs.Order.{shapeOf, isUpper}
-use Rattle.reader.specs.Models.{entryAt, sixAt, setOf, withPoint}
+use Rattle.reader.specs.Models.{start, entryAt, sixAt, setOf, withPoint}
 use Rattle.reader.specs.Refusals.{countOf, kindNumber}
+use Rattle.reader.specs.Reading.{stopFor}
 use Rattle.reader.proofs.order.KindNumbers.{kindNumber-zero, count-lt}
 use Rattle.reader.proofs.RowsOfSix.{matrix-putRow-same, matrix-putRow-other}
 use Rattle.reader.proofs.OrderFacts.{pointMay, generator-place, vertex-place, fact, order-fact}
 use Rattle.reader.proofs.PartsSoFar.{SetAt, none-count}
 use Rattle.reader.proofs.AcceptedSoFar.{AcceptedSoFar}
+use Rattle.reader.proofs.ReadModels.{reachable-stop}
 
 -- ---- any set so far
 
@@ -67,32 +69,44 @@ module _ (base place n : ℕ) (set : Set) (kind : ℕ) (body : List ℕ) (s : Se
         points-are = λ k i h l. matrix-putRow-other (set .points) (set .count) (sixAt n body 0) k i l (λ e. omega arith);
       }
 
--- ---- the two sets of a state
+-- ---- the two sets at a place that reading comes to
 
--- the part of the file that tells the initial set or, with `input`, the input set
+-- The part of a file that tells the initial set or, with `input`, the input set.
 abbrev pub partOfSet : Bool → Part
 partOfSet input = cond input Input Initial
 
-module _ (s : State) (kind : ℕ) (body : List ℕ) (g : AcceptedSoFar s) (may : kindNumber s kind ≡ 0) where
-  upper : (base : ℕ) → base % 16 ≡ 0 → isUpper kind ≡ false → kind ≡ base + 1 → ⊥
-  upper base even other e = omega (arith, eqb-false (kind % 16) 1 other)
+-- After so many records of a file: a kind passes the tests of order and count.
+module _ (file : List ℕ) (turns kind : ℕ) (body : List ℕ) (may : kindNumber (stopFor turns file 0 start .state) kind ≡ 0) where
+  abbrev s : State
+  s = stopFor turns file 0 start .state
+
+  abbrev before : Bool → Set
+  before input = setOf input (s .model)
+
+  -- the set that number 6 is tested of, and that is stored
+  abbrev after : Bool → Set
+  after input = withPoint (s .model .n) (setOf input (s .model)) kind body
+
+  so-far : AcceptedSoFar s
+  so-far = reachable-stop file turns .so-far
 
   fact-of : (p : Part) → partOf kind ≡ p → (fact p (s .last) kind ≡ true) × (countOf p s < 16)
   fact-of p e =
       let both = kindNumber-zero s kind may in
       (subst (λ (q : Part). fact q (s .last) kind ≡ true) e (order-fact (s .last) kind (both .0)), count-lt s kind (both .1) e)
 
-  -- Sets 16: what a record that may stand there, other than an upper corner, makes of a set that has points.
-  pub one-more : (input : Bool) → partOf kind ≡ partOfSet input → isUpper kind ≡ false → 1 ≤ setOf input (s .model) .count → OneMore (setOf input (s .model)) (withPoint (s .model .n) (setOf input (s .model)) kind body)
+  upper : (base : ℕ) → base % 16 ≡ 0 → isUpper kind ≡ false → kind ≡ base + 1 → ⊥
+  upper base even other e = omega (arith, eqb-false (kind % 16) 1 other)
+
+  -- Sets 16: a record other than an upper corner makes a set that has points one with one point more.
+  pub one-more : (input : Bool) → partOf kind ≡ partOfSet input → isUpper kind ≡ false → 1 ≤ before input .count → OneMore (before input) (after input)
   unfolding fact
   one-more false e other some =
-      let f = fact-of Initial e in
-      one-more-at 0x10 (s .last) (s .model .n) (s .model .initial) kind body (g .initial) refl (and-true (pointMay 0x10 (s .last) kind) _ (f .0) .0) (upper 0x10 refl other) some
+      one-more-at 0x10 (s .last) (s .model .n) (s .model .initial) kind body (so-far .initial) refl (and-true (pointMay 0x10 (s .last) kind) _ (fact-of Initial e .0) .0) (upper 0x10 refl other) some
   one-more true e other some =
-      let f = fact-of Input e in
-      one-more-at 0x20 (s .last) (s .model .n) (s .model .input) kind body (g .input) refl (and-true (pointMay 0x20 (s .last) kind) _ (f .0) .0) (upper 0x20 refl other) some
+      one-more-at 0x20 (s .last) (s .model .n) (s .model .input) kind body (so-far .input) refl (and-true (pointMay 0x20 (s .last) kind) _ (fact-of Input e .0) .0) (upper 0x20 refl other) some
 
   -- File 3: the new point is the one in the body.
-  pub new-point : (input : Bool) → partOf kind ≡ partOfSet input → (i : ℕ) → i < 6 → newPoint (setOf input (s .model)) (withPoint (s .model .n) (setOf input (s .model)) kind body) i ≡ entryAt (s .model .n) body 0 i
-  new-point false e i h = new-point-at (s .model .n) (s .model .initial) kind body (g .initial .held .length-is) (fact-of Initial e .1) i h
-  new-point true e i h = new-point-at (s .model .n) (s .model .input) kind body (g .input .held .length-is) (fact-of Input e .1) i h
+  pub new-point : (input : Bool) → partOf kind ≡ partOfSet input → (i : ℕ) → i < 6 → newPoint (before input) (after input) i ≡ entryAt (s .model .n) body 0 i
+  new-point false e i h = new-point-at (s .model .n) (s .model .initial) kind body (so-far .initial .held .length-is) (fact-of Initial e .1) i h
+  new-point true e i h = new-point-at (s .model .n) (s .model .input) kind body (so-far .input .held .length-is) (fact-of Input e .1) i h
