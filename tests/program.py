@@ -3,8 +3,9 @@
 
     program.py
 
-What the program writes is compared byte by byte with listings that it did not make. It takes the
-built program, target/bin/envelope, and fails where there is none.
+What the program writes is compared byte by byte with listings that it did not make, and bounds of
+sets that get one point after the other with what Sets 17 and 18 say. It takes the built program,
+target/bin/envelope, and fails where there is none.
 """
 
 from __future__ import annotations
@@ -298,15 +299,13 @@ class OnePointMore(unittest.TestCase):
 
     def test_the_reach_is_that_of_the_points_so_far(self) -> None:
         # The first points reach to the limit in a coordinate, and so may one vertex more; one
-        # generator more has to be 0 there. Zeros follow, so that the record isn't the set's last.
+        # generator more has to be 0 there. Often zeros follow, so that it isn't the set's last.
         rng = random.Random(5)
         for step, form, n in itertools.product((0, 1), (VERTICES, ZONOTOPE), range(1, MAX_N + 1)):
             for count in range(1, MAX_POINTS[form]):
                 *points, new = map(list, models.growing(rng, form, n)[: count + 1])
-                i, full = rng.randrange(n), rng.choice(points)
-                full[i] = 0
-                used = sum(abs(point[i]) for point in points) if form == ZONOTOPE else 0
-                full[i] = rng.choice((-1, 1)) * (MAX_REACH - used)
+                i = rng.randrange(n)
+                models.stretch(points, form, rng.randrange(count), i, MAX_REACH)
                 most = 0 if form == ZONOTOPE else MAX_REACH
                 zeros = [[0] * n] * rng.randrange(MAX_POINTS[form] - count)
                 at = 4 + 26 * n + 25 * (count + step)  # head, rows, and the points before

@@ -129,13 +129,13 @@ def _set(rng: random.Random, n: int, largest: bool = False) -> Set:
         scale //= count
     points = [[rng.randint(-scale, scale) for _ in range(n)] for _ in range(count)]
     for i in range(n) if largest else rng.choice(((), (), (), (rng.randrange(n),))):
-        _stretch(points, form, rng.randrange(count), i, MAX_REACH)
+        stretch(points, form, rng.randrange(count), i, MAX_REACH)
     if form == BOX:
         points = [[f(pair) for pair in zip(*points)] for f in (min, max)]
     return Set(form, tuple(map(tuple, points)))
 
 
-def _stretch(points: list[list[int]], form: str, index: int, i: int, reach: int) -> None:
+def stretch(points: list[list[int]], form: str, index: int, i: int, reach: int) -> None:
     """Give the set this reach in coordinate i, by its point of this index."""
     others = sum(abs(p[i]) for p in points) - abs(points[index][i]) if form == ZONOTOPE else 0
     sign = -1 if points[index][i] < 0 else 1
@@ -285,7 +285,7 @@ def _overreaching(rng: random.Random, model: Model) -> list[bytes]:
     if set_.form == BOX and rng.random() < 0.5:
         points[1][i] = points[0][i] - 1
     else:
-        _stretch(points, set_.form, rng.randrange(len(points)), i, MAX_REACH + 1)
+        stretch(points, set_.form, rng.randrange(len(points)), i, MAX_REACH + 1)
     return _records(rng, replace(model, **{name: Set(set_.form, tuple(map(tuple, points)))}))
 
 
@@ -427,7 +427,7 @@ def vectors(rng: random.Random, n: int, most: int, count: int) -> list[Vector]:
 def growing(rng: random.Random, form: str, n: int) -> tuple[Vector, ...]:
     """Points of a set of the largest count; the first ones alone keep the limits too.
 
-    About one in five is equal to one before it.
+    One in five or more is equal to one before it.
     """
     count = MAX_POINTS[form]
     points = vectors(rng, n, MAX_REACH // count if form == ZONOTOPE else MAX_REACH, count)

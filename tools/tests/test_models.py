@@ -61,6 +61,7 @@ EDITS = (
      "dot(generators[0], r) + sum(abs(dot(generator, r)) for generator in generators[1:])"),
     ("last_generator_left_out", GENERATORS, f"{GENERATORS[:-1]}[:-1])"),
     ("magnitude_of_the_sum", GENERATORS, "abs(sum(dot(generator, r) for generator in generators))"),
+    ("first_generator_as_start", "dot(centre, r) +", "dot(generators[0], r) +"),
     ("centre_by_magnitude", "dot(centre, r) +", "abs(dot(centre, r)) +"),
     ("least_vertex", "return max(dot(vertex", "return min(dot(vertex"),
     ("last_vertex_alone", LARGEST, "dot(set_.points[-1], r)"),

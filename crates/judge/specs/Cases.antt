@@ -10,6 +10,7 @@ use lib.ListN.{length, replicate}
 use lib.IntN.{ℤ, pos, negℤ}
 use Rattle.integers.specs.Sums.{vector}
 use Rattle.reachability.specs.Sets.{supportAnswer, ReachAnswer}
+use Rattle.reachability.specs.OneMore.{OneMore}
 use Rattle.reachability.specs.Recurrence.{working, errorTotal, rawSlack}
 use Rattle.reachability.specs.Answers.{sweepAnswer, sweptNumber, boundsOf, slacksOf}
 use Rattle.reachability.specs.declared.sets.Shape.{Shape}
@@ -91,6 +92,8 @@ pub data Saying : Type 0 where
   -- Of n coordinates: a set's support at r, and its reach.
   supports : ℕ → Set → List ℤ → ℤ → Saying
   reaches : ℕ → Set → List ℤ → Saying
+  -- A set, and one that has one point more.
+  grows : Set → Set → Saying
 
 abbrev pub Holds : Saying → Type 0
 Holds (numbered m number) = sweptNumber (swept m) ≡ number
@@ -105,6 +108,7 @@ Holds (rawSlackAt m k s) = rawSlack m 0 k ≡ s
 Holds (judges m a) = judged m ≡ a
 Holds (supports n s r v) = supportAnswer n s (padded 6 r) ≡ Value v
 Holds (reaches n s xs) = ReachAnswer n s 0 (padded 6 xs)
+Holds (grows s t) = OneMore s t
 
 abbrev pub Case : Type 0
 Case = List Saying
@@ -141,17 +145,19 @@ faded high direction = single 2 (pos 1) (interval (pos 0) high) zeroBox directio
 abbrev pub doubled : ℕ → Model
 doubled steps = single steps (pos 131072) zeroBox zeroBox (pos 1) []
 
--- The zonotope of Figures 9 and 21: centre, two generators; and without the last.
+-- The zonotope of Figures 9 and 21: centre, two generators.
 abbrev pub zonotope : Set
 zonotope = setOf Zonotope ((pos 1 ∷ negℤ (pos 2) ∷ []) ∷ (pos 3 ∷ pos 1 ∷ []) ∷ (negℤ (pos 1) ∷ pos 2 ∷ []) ∷ [])
 
+-- That of Figures 21, without the last generator.
 abbrev pub oneGenerator : Set
 oneGenerator = setOf Zonotope ((pos 1 ∷ negℤ (pos 2) ∷ []) ∷ (pos 3 ∷ pos 1 ∷ []) ∷ [])
 
--- The vertices of Figures 10 and 22; and without the last.
+-- The vertices of Figures 10 and 22.
 abbrev pub vertices : Set
 vertices = setOf Vertices ((pos 0 ∷ pos 0 ∷ []) ∷ (pos 4 ∷ pos 0 ∷ []) ∷ (pos 0 ∷ pos 3 ∷ []) ∷ [])
 
+-- Those of Figures 22, without the last.
 abbrev pub twoVertices : Set
 twoVertices = setOf Vertices ((pos 0 ∷ pos 0 ∷ []) ∷ (pos 4 ∷ pos 0 ∷ []) ∷ [])
 
@@ -301,7 +307,8 @@ case20 =
 -- Figures 21.
 abbrev pub case21 : Case
 case21 =
-    supports 2 oneGenerator (pos 1 ∷ negℤ (pos 1) ∷ []) (pos 5)
+    grows oneGenerator zonotope
+    ∷ supports 2 oneGenerator (pos 1 ∷ negℤ (pos 1) ∷ []) (pos 5)
     ∷ reaches 2 oneGenerator (pos 4 ∷ pos 3 ∷ [])
     ∷ supports 2 zonotope (pos 1 ∷ negℤ (pos 1) ∷ []) (pos 8)
     ∷ reaches 2 zonotope (pos 5 ∷ pos 5 ∷ [])
@@ -310,7 +317,8 @@ case21 =
 -- Figures 22.
 abbrev pub case22 : Case
 case22 =
-    supports 2 twoVertices (pos 2 ∷ pos 1 ∷ []) (pos 8)
+    grows twoVertices vertices
+    ∷ supports 2 twoVertices (pos 2 ∷ pos 1 ∷ []) (pos 8)
     ∷ reaches 2 twoVertices (pos 4 ∷ pos 0 ∷ [])
     ∷ supports 2 vertices (pos 2 ∷ pos 1 ∷ []) (pos 8)
     ∷ reaches 2 vertices (pos 4 ∷ pos 3 ∷ [])

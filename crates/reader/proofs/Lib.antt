@@ -8,7 +8,7 @@ pub mod PartsSoFar
 pub mod AcceptedSoFar
 pub mod Sizes
 pub mod ReadModels
-pub mod PointByPoint
+pub mod OnePointMore
 pub mod NoInput
 pub mod Answers
 pub mod Sample

@@ -78,7 +78,7 @@ module _ (base place kind : ℕ) (may : pointMay base place kind ≡ true) where
       let both = and-true (leb (base + 2) place) (leb place (base + 3)) (simp (ne-eqb kind (base + 1) (λ f. omega arith), eq-eqb kind (base + 3) e) at which) in
       (leb-true (base + 2) place (both .0), leb-true place (base + 3) (both .1))
 
-  -- of the others, with a point before
+  -- any other kind, where a point was before: a vertex behind a vertex
   pub vertex-place : (kind ≡ base + 1 → ⊥) → (kind ≡ base + 3 → ⊥) → base ≤ place → (kind ≡ base + 4) × (place ≡ base + 4)
   vertex-place u g h = behind (ltb place base) (le-ltb place base h) (simp (ne-eqb kind (base + 1) u, ne-eqb kind (base + 3) g) at which)
     where

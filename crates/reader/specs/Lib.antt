@@ -4,4 +4,5 @@ pub mod Values
 pub mod Refusals
 pub mod Reading
 pub mod NoInput
+pub mod Points
 pub mod Inner

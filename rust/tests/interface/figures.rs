@@ -1,5 +1,5 @@
-//! Figures 1 to 14 and 16 to 22 of the specification, as far as the interface shows them, its sample (Listing 8), and the listings in
-//! examples/.
+//! Figures 1 to 14 and 16 to 22 of the specification, as far as the interface shows them, its sample (Listing 8), and the listings
+//! in examples/.
 
 use crate::sweeps::compare_sweep;
 use pepperscarp::{judge, list_length, step, sweep, Refusal, Verdict, LISTING_ROOM};
@@ -85,12 +85,21 @@ fn plane(rows: [[i32; 2]; 2], initial: &[Record], direction: [i32; 2]) -> Vec<u8
     file(&records)
 }
 
+/// The zonotope of cases 9 and 21.
+fn zonotope() -> [Record; 3] {
+    [numbers(0x12, &[1, -2]), numbers(0x13, &[3, 1]), numbers(0x13, &[-1, 2])]
+}
+
+/// The vertices of cases 10 and 22.
+fn vertices() -> [Record; 3] {
+    [numbers(0x14, &[0, 0]), numbers(0x14, &[4, 0]), numbers(0x14, &[0, 3])]
+}
+
 #[test]
 fn cases_9_to_11_supports_as_bounds_of_step_0() {
-    let zonotope = [numbers(0x12, &[1, -2]), numbers(0x13, &[3, 1]), numbers(0x13, &[-1, 2])];
-    let vertices = [numbers(0x14, &[0, 0]), numbers(0x14, &[4, 0]), numbers(0x14, &[0, 3])];
     let corners = [numbers(0x10, &[-2, 3]), numbers(0x11, &[1, 4])];
-    for (initial, direction, support) in [(&zonotope[..], [1, 1], 4), (&vertices[..], [1, 2], 6), (&corners[..], [-1, 1], 6)] {
+    for (initial, direction, support) in [(&zonotope()[..], [1, 1], 4), (&vertices()[..], [1, 2], 6), (&corners[..], [-1, 1], 6)]
+    {
         let (_, bounds, slacks) = swept(&plane([[0, 0], [0, 0]], initial, direction)).expect("calm");
         assert_eq!((bounds, slacks), (vec![support, 0], vec![0, 0]));
     }
@@ -169,9 +178,7 @@ fn cases_18_to_20_growth_and_the_spare_figure_count_half_of_the_errors_rounded_u
 
 #[test]
 fn cases_21_and_22_supports_with_one_point_more() {
-    let zonotope = [numbers(0x12, &[1, -2]), numbers(0x13, &[3, 1]), numbers(0x13, &[-1, 2])];
-    let vertices = [numbers(0x14, &[0, 0]), numbers(0x14, &[4, 0]), numbers(0x14, &[0, 3])];
-    for (points, direction, supports) in [(&zonotope, [1, -1], [5, 8]), (&vertices, [2, 1], [8, 8])] {
+    for (points, direction, supports) in [(zonotope(), [1, -1], [5, 8]), (vertices(), [2, 1], [8, 8])] {
         for (count, support) in [2, 3].into_iter().zip(supports) {
             let (_, bounds, slacks) = swept(&plane([[0, 0], [0, 0]], &points[..count], direction)).expect("calm");
             assert_eq!((bounds, slacks), (vec![support, 0], vec![0, 0]));

@@ -1,5 +1,5 @@
-//! Accepted models: every sweep and every verdict is the specification's, and a set with one point more has the support that Sets 17 and
-//! Sets 18 say.
+//! Accepted models: every sweep and every verdict is the specification's, and a set with one point more has the support that
+//! Sets 17 and 18 say.
 
 use crate::lent::Lent;
 use crate::makers::{open_model, Random};
@@ -127,8 +127,8 @@ fn every_sweep_and_every_verdict_of_random_models_is_that_of_the_specification()
 
 #[test]
 fn one_vertex_more_makes_the_larger_of_two_supports_and_one_generator_more_adds_a_magnitude() {
-    // The matrix is zero and K is 1, so that r(1) is 0 and no r is rounded: the bound of step 0 is the support of the initial set at the
-    // direction, that of step 1 is the input set's.
+    // The matrix is zero and K is 1, so that r(1) is 0 and no r is rounded: the bound of step 0 is the support of the initial set
+    // at the direction, that of step 1 is the input set's.
     let mut random = Random::new(202_604);
     let mut seen = BTreeMap::new();
     for _ in 0..1_500 {
@@ -161,7 +161,7 @@ fn one_vertex_more_makes_the_larger_of_two_supports_and_one_generator_more_adds_
             }
         }
     }
-    // In each set and form a product of each sign is smaller than the support so far, equal to it and larger.
+    // For both sets and both forms a product of each sign is smaller than the support so far, equal to it and larger.
     assert!(seen.len() == 2 * 2 * 3 * 3 && seen.values().all(|count| *count > 20), "each comes often: {seen:?}");
 }
 

@@ -15,8 +15,8 @@ use Rattle.integers.proofs.Machine.{getD-tabulate}
 use Rattle.integers.proofs.Sums.{dot-cong, allBelow-at, allBelow-intro}
 use Rattle.stepping.specs.Refusals.{dimensionOk}
 use Rattle.limits.specs.Limits.{directionOk}
-use Rattle.reachability.specs.Sets.{points, supportOf, setOk, reachOk, reachLimit, reachWithin, supportOk, supportAnswer, supportNumber, ReachAnswer}
-use Rattle.reachability.specs.OneMore.{OneMore, newPoint, reachAt, GrownBy, VertexMore, GeneratorMore}
+use Rattle.reachability.specs.Sets.{points, supportOf, setOk, reachOk, reachLimit, supportOk, supportAnswer, supportNumber, ReachAnswer}
+use Rattle.reachability.specs.OneMore.{OneMore, newPoint, reachAt, GrownBy, VertexMore, GeneratorMore, WithinBefore}
 use Rattle.reachability.specs.declared.sets.Shape.{Shape}
 use Rattle.reachability.specs.declared.sets.Shape.the-variants.{Box, Zonotope, Vertices}
 use Rattle.reachability.specs.declared.sets.Set.{Set}
@@ -109,15 +109,15 @@ grown-as : (n : ℕ) (s t : Set) (shape : Shape) → OneMore s t → Pointwise s
 grown-as n s t shape m w e = subst (λ (x : Shape). GrownBy (withOneMore x) n s t) e (grown-by s t m (subst Pointwise (sym e) w) n)
 
 -- Sets 17.
-pub vertex-more : (n : ℕ) (s t : Set) → OneMore s t → s .shape ≡ Vertices → VertexMore n s t
+pub vertex-more : (n : ℕ) (s t : Set) → VertexMore n s t
 vertex-more n s t m e = grown-as n s t Vertices m tt e
 
 -- Sets 18.
-pub generator-more : (n : ℕ) (s t : Set) → OneMore s t → s .shape ≡ Zonotope → GeneratorMore n s t
+pub generator-more : (n : ℕ) (s t : Set) → GeneratorMore n s t
 generator-more n s t m e = grown-as n s t Zonotope m tt e
 
--- Sets 19: where the reach of the points is within its limit, it was so without the last of them.
-pub within-before : (s t : Set) → OneMore s t → (s .shape ≡ Box → ⊥) → 1 ≤ s .count → reachWithin (t .shape) (t .count) (t .points) ≡ true → reachWithin (s .shape) (s .count) (s .points) ≡ true
+-- Sets 19.
+pub within-before : (s t : Set) → WithinBefore s t
 within-before s t m no-box some h =
     let both = and-true (leb 1 (t .count) && leb (t .count) 16) (reachOk (t .shape) (t .count) (points (t .points))) h in
     let most = leb-true (t .count) 16 (and-true (leb 1 (t .count)) (leb (t .count) 16) (both .0) .1) in

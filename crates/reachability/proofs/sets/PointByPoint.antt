@@ -18,11 +18,11 @@ use Rattle.reachability.specs.declared.sets.Shape.the-variants.{Box, Zon
 
 -- ---- the largest of numbers
 
-pub largest-zero : (f : ℕ → ℤ) → largest 0 f ≡ f 0
+largest-zero : (f : ℕ → ℤ) → largest 0 f ≡ f 0
 unfolding largest
 largest-zero f = refl
 
-pub largest-suc : (k : ℕ) (f : ℕ → ℤ) → largest (suc k) f ≡ larger (largest k f) (f (suc k))
+largest-suc : (k : ℕ) (f : ℕ → ℤ) → largest (suc k) f ≡ larger (largest k f) (f (suc k))
 unfolding largest
 largest-suc k f = refl
 

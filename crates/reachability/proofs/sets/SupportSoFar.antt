@@ -1,5 +1,5 @@
--- A support point by point: what a loop over the points keeps, the figure of those passed (`PointByPoint`). In order: the products; the
--- loop; how large a zonotope's sum gets. Assumes nothing.
+-- A support point by point: what a loop over the points keeps, the figure of those passed (`PointByPoint`). In order: the products;
+-- the loop; how large a zonotope's sum gets. Assumes nothing.
 use mathlib.Core.Path.{_≡_, refl, sym, ap, _∙_}
 use mathlib.Core.List.{List}
 use Prim.Native.Nat.{ℕ, suc, _+_, _*_, _-_, _≤_, _<_}

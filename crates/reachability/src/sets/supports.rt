@@ -60,6 +60,7 @@ fn of_box(points: &[i32; 96], r: &[i64; 6]) -> i64
     sum
 }
 
+// Sets 11, Forms 8. Of the points passed the sum alone is kept.
 fn of_zonotope(count: usize, points: &[i32; 96], r: &[i64; 6]) -> i64
     requires { ⌜ Counted count × Tested (now points) (now r) ⌝ }
     ensures { λ s. ⌜ s ≡ supportOf 6 Zonotope count (pointsOf (now (points .entry))) (vector (now (r .entry))) ⌝ }
@@ -75,6 +76,7 @@ fn of_zonotope(count: usize, points: &[i32; 96], r: &[i64; 6]) -> i64
     sum
 }
 
+// Sets 12, Forms 8. Of the points passed the largest product alone is kept.
 fn of_vertices(count: usize, points: &[i32; 96], r: &[i64; 6]) -> i64
     requires { ⌜ Counted count × Tested (now points) (now r) ⌝ }
     ensures { λ s. ⌜ s ≡ supportOf 6 Vertices count (pointsOf (now (points .entry))) (vector (now (r .entry))) ⌝ }
