@@ -37,6 +37,7 @@ pub record GrownBy (more : ℤ → ℤ → ℤ) (n : ℕ) (s t : Set) : Type 0 w
 abbrev pub VertexMore : ℕ → Set → Set → Type 0
 VertexMore n s t = OneMore s t → s .shape ≡ Vertices → GrownBy larger n s t
 
+-- The first plus the magnitude of the second.
 abbrev pub plusMagnitude : ℤ → ℤ → ℤ
 plusMagnitude a b = a +ℤ pos (natAbs b)
 
