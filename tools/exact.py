@@ -4,9 +4,9 @@
 It was made from the words of the request, before docs/SPECIFICATION.md was. A change of it is made
 from the changed clauses, before the Rattle side is looked at.
 
-In order: the reader of files; supports, reaches and the recurrence over whole numbers; the
-listing; and, apart from all of these, the exact largest values as fractions, by corners, with the
-check of the accuracy rule against them.
+In order: the reader of files, and how it rounds fitted entries; supports, reaches and the
+recurrence over whole numbers; the listing; and, apart from all of these, the exact largest values
+as fractions, by corners, with the check of the accuracy rule against them.
 
     exact.py FILE            print the listing of a file (standard input without FILE, or for `-`)
     exact.py --check FILE    and check the accuracy rule of what is printed
@@ -18,6 +18,7 @@ from __future__ import annotations
 
 import argparse
 import itertools
+import math
 import sys
 from fractions import Fraction
 from operator import mul
@@ -26,10 +27,10 @@ from typing import Collection, Iterator, Sequence
 import files
 import listings
 from layout import (
-    BODY_LENGTHS, BOX, CENTRE, DEFAULT_STEPS, DIRECTION, DIRECTION_UNIT, END, GROWTH_LIMIT, GUARD,
-    HEAD, INITIAL, INPUT, LOWER, MATRIX_UNIT, MAX_DIRECTION_ENTRY, MAX_DIRECTIONS, MAX_ENTRY,
-    MAX_GUARDS, MAX_N, MAX_POINTS, MAX_REACH, MAX_SPARE, MAX_STEPS, MIN_POINTS, POINT_KINDS,
-    READ_LIMIT, ROW, VERTEX, ZONOTOPE, Model, Set, Vector, zero_box,
+    BODY_LENGTHS, BOX, CENTRE, DEFAULT_STEPS, DIRECTION, DIRECTION_UNIT, END, FITTED, GROWTH_LIMIT,
+    GUARD, HEAD, INITIAL, INPUT, LOWER, MATRIX_UNIT, MAX_DIRECTION_ENTRY, MAX_DIRECTIONS, MAX_ENTRY,
+    MAX_FACTOR, MAX_GUARDS, MAX_N, MAX_POINTS, MAX_REACH, MAX_SPARE, MAX_STEPS, MIN_POINTS,
+    POINT_KINDS, READ_LIMIT, ROW, VERTEX, ZONOTOPE, Model, Set, Vector, zero_box,
 )
 from listings import CLEAR, GROWTH, HIT, UNKNOWN, Growth, Listing, Refusal, Sweep, Verdict
 
@@ -39,12 +40,13 @@ REASONS = {
     2: "unknown kind of record",
     3: "a record of this kind is not allowed here",
     4: f"n is not 1 to {MAX_N}, or the steps are not 0 to {MAX_STEPS}",
-    5: f"a row out of turn, or one of its entries not {-MAX_ENTRY:,} to {MAX_ENTRY:,}",
+    5: f"a row out of turn, or an entry of a scaled row not {-MAX_ENTRY:,} to {MAX_ENTRY:,}",
     6: f"the reach of the set passes {MAX_REACH:,}, or its upper corner is below its lower",
     7: f"an entry beyond {-MAX_DIRECTION_ENTRY:,} to {MAX_DIRECTION_ENTRY:,}, or all entries zero",
     8: "a guard on a direction that is not there",
     9: "one generator, vertex, direction or guard too many",
     10: "bytes follow the end",
+    15: f"an entry of a fitted row that is no number from {-MAX_FACTOR} to {MAX_FACTOR}",
 }
 
 
@@ -100,6 +102,54 @@ def _vector(data: bytes, n: int) -> Vector:
     return tuple(_signed(data[4 * i : 4 * i + 4]) for i in range(n))
 
 
+# Fitted entries
+
+
+def binary64(bits: int) -> Fraction | None:
+    """The exact value of a number of 64 bits (File 11); None of an infinity and of a NaN."""
+    sign, exponent, fraction = bits >> 63, bits >> 52 & 0x7FF, bits & 2**52 - 1
+    if exponent == 0x7FF:
+        return None
+    # Without the leading 1 where the exponent is at its least: zeros and the tiniest numbers.
+    significand = fraction if exponent == 0 else 2**52 + fraction
+    return (-1) ** sign * significand * Fraction(2) ** (max(exponent, 1) - 1075)
+
+
+def nearest(value: Fraction) -> int:
+    """The whole number nearest to a value, and of two that are equally near the even one."""
+    below = math.floor(value)
+    rest = value - below
+    above = rest > Fraction(1, 2) or (rest == Fraction(1, 2) and below % 2 == 1)
+    return below + 1 if above else below
+
+
+def fitted_entry(value: Fraction) -> int:
+    """The matrix entry that a fitted value becomes (File 12)."""
+    return nearest(MATRIX_UNIT * value)
+
+
+def _fitted_values(data: bytes, n: int) -> list[Fraction | None]:
+    """The exact values of the first n entries of 8 bytes; those beyond n are ignored."""
+    return [binary64(int.from_bytes(data[8 * i : 8 * i + 8], "little")) for i in range(n)]
+
+
+# The records of a file
+
+
+def _read_row(file: _File, number: int, n: int) -> Vector:
+    """The entries of the row with this number, scaled or fitted."""
+    kind = file.kind({ROW, FITTED})
+    body = file.body()
+    file.require(body[0] == number, 5)
+    if kind == ROW:
+        entries = _vector(body[1:], n)
+        file.require(all(abs(entry) <= MAX_ENTRY for entry in entries), 5)
+        return entries
+    values = _fitted_values(body[1:], n)
+    file.require(all(value is not None and abs(value) <= MAX_FACTOR for value in values), 15)
+    return tuple(map(fitted_entry, values))
+
+
 def _read_set(file: _File, part: int, n: int, later: set[int]) -> Set:
     """One of the three forms of a set; `later` are the kinds that the next part starts with."""
     firsts = {part + first: form for form, (first, _) in POINT_KINDS.items()}
@@ -126,15 +176,7 @@ def _read(file: _File) -> Model:
     file.require(1 <= n <= MAX_N and stated_steps <= MAX_STEPS, 4)
     steps = DEFAULT_STEPS if stated_steps == 0 else stated_steps
 
-    matrix: list[Vector] = []
-    while len(matrix) < n:
-        file.kind({ROW})
-        body = file.body()
-        entries = _vector(body[1:], n)
-        in_limits = all(abs(entry) <= MAX_ENTRY for entry in entries)
-        file.require(body[0] == len(matrix) and in_limits, 5)
-        matrix.append(entries)
-
+    matrix = tuple(_read_row(file, number, n) for number in range(n))
     later = {INPUT + LOWER, INPUT + CENTRE, INPUT + VERTEX, DIRECTION}
     initial = _read_set(file, INITIAL, n, later)
     if file.kind(later) == DIRECTION:
@@ -161,7 +203,7 @@ def _read(file: _File) -> Model:
     file.body()
     if file.at < len(file.data):
         raise _Refused(10, file.at)
-    return Model(n, steps, tuple(matrix), initial, input_, tuple(directions), tuple(guards))
+    return Model(n, steps, matrix, initial, input_, tuple(directions), tuple(guards))
 
 
 def read_model(data: bytes) -> Model | Refusal:

@@ -9,9 +9,10 @@ from __future__ import annotations
 
 import struct
 from dataclasses import dataclass
-from typing import Iterator, Sequence
+from typing import Iterator, Mapping, Sequence
 
 Vector = tuple[int, ...]
+FittedRows = Mapping[int, Sequence[int]]  # by their numbers, the 64 bits of each entry
 
 # "Limits" and "Sets"
 MAX_N = 6  # Limits 1
@@ -28,19 +29,21 @@ MIN_LEVEL, MAX_LEVEL = -(2**63), 2**63 - 1  # Model 5
 
 # "Recurrence"
 MATRIX_UNIT = 65_536  # Model 3
+MAX_FACTOR = MAX_ENTRY // MATRIX_UNIT  # Limits 3; also that of a fitted entry, Refusals 15
 DIRECTION_UNIT = 1_048_576  # Recurrence 1
 GROWTH_LIMIT = 1_073_741_824  # Recurrence 7
 MAX_SPARE = 10  # Recurrence 9
 
 # "File"
 READ_LIMIT = 2_048  # Reading 4
-LONGEST_FILE = 1_521  # File 9
-HEAD, ROW, DIRECTION, GUARD, END = 0x01, 0x02, 0x30, 0x40, 0xFF  # File 3
+LONGEST_FILE = 1_665  # File 9
+HEAD, ROW, FITTED, DIRECTION, GUARD, END = 0x01, 0x02, 0x03, 0x30, 0x40, 0xFF  # File 3
 INITIAL, INPUT = 0x10, 0x20  # the kinds of a set's points are one of these plus one of the next
 LOWER, UPPER, CENTRE, GENERATOR, VERTEX = 0, 1, 2, 3, 4
 BODY_LENGTHS = {
     HEAD: 3,
     ROW: 25,
+    FITTED: 49,
     **{part + point: 24 for part in (INITIAL, INPUT) for point in range(5)},
     DIRECTION: 24,
     GUARD: 9,
@@ -92,6 +95,16 @@ def row(number: int, entries: Sequence[int]) -> bytes:
     return bytes([ROW, number]) + _six(entries)
 
 
+def fitted(number: int, patterns: Sequence[int]) -> bytes:
+    """A fitted row of the 64 bits of each entry: as a float, not every NaN would keep its bits."""
+    return struct.pack("<BB6Q", FITTED, number, *patterns, *[0] * (MAX_N - len(patterns)))
+
+
+def pattern(value: float) -> int:
+    """The 64 bits of a number of binary64."""
+    return int.from_bytes(struct.pack("<d", value), "little")
+
+
 def point(kind: int, entries: Sequence[int]) -> bytes:
     return bytes([kind]) + _six(entries)
 
@@ -114,16 +127,24 @@ def set_records(part: int, set_: Set) -> list[bytes]:
 
 
 def records(
-    model: Model, stated_steps: int | None = None, input_stated: bool = True
+    model: Model,
+    stated_steps: int | None = None,
+    input_stated: bool = True,
+    fitted_rows: FittedRows | None = None,
 ) -> list[bytes]:
     """The records of a model.
 
     `stated_steps` is what the head says where that is not K. An input set that is not stated has
-    no records, and the file is read with that of `zero_box`, whatever the model has.
+    no records, and the file is read with that of `zero_box`, whatever the model has. A row whose
+    number is in `fitted_rows` is a fitted one of these patterns, whatever the matrix has.
     """
+    patterns = fitted_rows or {}
     return [
         head(model.n, model.steps if stated_steps is None else stated_steps),
-        *(row(number, entries) for number, entries in enumerate(model.matrix)),
+        *(
+            fitted(number, patterns[number]) if number in patterns else row(number, entries)
+            for number, entries in enumerate(model.matrix)
+        ),
         *set_records(INITIAL, model.initial),
         *(set_records(INPUT, model.input) if input_stated else ()),
         *map(direction, model.directions),
@@ -132,9 +153,14 @@ def records(
     ]
 
 
-def encode(model: Model, stated_steps: int | None = None, input_stated: bool = True) -> bytes:
-    """The file of a model."""
-    return b"".join(records(model, stated_steps, input_stated))
+def encode(
+    model: Model,
+    stated_steps: int | None = None,
+    input_stated: bool = True,
+    fitted_rows: FittedRows | None = None,
+) -> bytes:
+    """The file of a model, of its `records`."""
+    return b"".join(records(model, stated_steps, input_stated, fitted_rows))
 
 
 def offsets(data: bytes) -> Iterator[int]:
@@ -143,6 +169,12 @@ def offsets(data: bytes) -> Iterator[int]:
     while at < len(data) and data[at] in BODY_LENGTHS:
         yield at
         at += 1 + BODY_LENGTHS[data[at]]
+
+
+def fitted_rows_of(data: bytes, n: int) -> dict[int, Vector]:
+    """The fitted rows of a file that is accepted, with the first n entries of each."""
+    starts = (at for at in offsets(data) if data[at] == FITTED)
+    return {data[at + 1]: struct.unpack_from(f"<{n}Q", data, at + 2) for at in starts}
 
 
 def states_input(data: bytes) -> bool:

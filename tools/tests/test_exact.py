@@ -2,7 +2,9 @@
 
 import collections
 import itertools
+import math
 import random
+import struct
 import tempfile
 import unittest
 from dataclasses import replace
@@ -18,7 +20,7 @@ import models
 import readerfiles
 from layout import (
     BODY_LENGTHS, BOX, GROWTH_LIMIT, LONGEST_FILE, MIN_POINTS, VERTICES, ZONOTOPE, Model, Set,
-    direction, encode, guard, head, point, row, states_input,
+    direction, encode, fitted, fitted_rows_of, guard, head, pattern, point, row, states_input,
 )
 from listings import Growth, Listing, Refusal, Sweep, Verdict
 
@@ -63,7 +65,7 @@ def last(model):
 
 
 class Figures(unittest.TestCase):
-    """Figures 1 to 14, 21 and 22, the sample, and further figures worked by hand."""
+    """Figures 1 to 14 and 21 to 23, the sample, and further figures worked by hand."""
 
     def test_case_1(self):
         told = swept(single(65_536, (2, 5), (-1, 1), 3, 2))
@@ -134,6 +136,19 @@ class Figures(unittest.TestCase):
         points, r = ((0, 0), (4, 0), (0, 3)), (2, 1)
         self.assertEqual(figures(VERTICES, points[:2], r), (8, (4, 0)))
         self.assertEqual(figures(VERTICES, points, r), (8, (4, 3)))
+
+    def test_case_23(self):
+        """1.5 over 65,536 is 1.5 x 2^-16, whose exponent is 1,007, and 2.5 is 1.25 x 2^-15."""
+        for bits, entry in (
+            (0x3EF8_0000_0000_0000, 2), (0x3F04_0000_0000_0000, 2),
+            (0xBEF8_0000_0000_0000, -2), (0xBF04_0000_0000_0000, -2),
+            (0x4000_0000_0000_0000, 131_072), (0xC000_0000_0000_0000, -131_072),
+            (0x0000_0000_0000_0001, 0), (0x8000_0000_0000_0001, 0),
+        ):
+            data = head(1, 1) + fitted(0, [bits]) + point(0x14, [1]) + direction([1]) + b"\xff"
+            self.assertEqual(exact.read_model(data).matrix, ((entry,),), hex(bits))
+        for bits in (0x4000_0000_0000_0001, 0xC000_0000_0000_0001):
+            self.assertEqual(exact.read_model(head(1, 1) + fitted(0, [bits])), Refusal(15, 4))
 
     def test_sample(self):
         self.assertEqual(len(SAMPLE), 186)
@@ -282,7 +297,7 @@ class Reader(unittest.TestCase):
 
     def test_lengths(self):
         self.assertEqual([len(part) for part in (self.rows, self.sets, self.asked)], [30, 80, 105])
-        self.assertEqual(sum(BODY_LENGTHS.values()), 3 + 25 + 10 * 24 + 24 + 9)
+        self.assertEqual(sum(BODY_LENGTHS.values()), 3 + 25 + 49 + 10 * 24 + 24 + 9)
 
     def test_kind_before_body(self):
         self.refused(b"\x01", 1, 0)
@@ -349,9 +364,142 @@ class Reader(unittest.TestCase):
     def test_longest_file(self):
         points = Set(VERTICES, ((1,) * 6,) * 16)
         model = Model(6, 256, ((0,) * 6,) * 6, points, points, ((1,) * 6,) * 16, ((15, 0),) * 16)
-        data = encode(model)
-        self.assertEqual((len(data), LONGEST_FILE), (1_521, 1_521))
-        self.assertEqual(exact.read_model(data), model)
+        for count in range(7):
+            data = encode(model, fitted_rows={number: [0] * 6 for number in range(count)})
+            self.assertEqual(len(data), 1_521 + 24 * count)
+            self.assertEqual(exact.read_model(data), model)
+        self.assertEqual((len(data), LONGEST_FILE), (1_665, 1_665))
+        self.refused(data + b"\0", 10, 1_665)
+
+
+def patterns():
+    """Patterns of 64 bits: around every power of two, around ties, and at random."""
+    rng = random.Random(5)
+    ties = [pattern((k + 0.5) / 65_536) for k in (*range(40), *rng.sample(range(2**17), 400))]
+    powers = [exponent << 52 for exponent in range(0x800)]
+    for bits in (*powers, *ties, *(rng.getrandbits(63) for _ in range(2_000))):
+        for near in (bits - 1, bits, bits + 1):
+            if 0 <= near < 2**63:
+                yield from (near, near | 2**63)
+
+
+class Fitted(unittest.TestCase):
+    """Fitted rows (File 11 to 14, Refusals 15), also against the floats of Python."""
+
+    ONE, HALF = 0x3FF0_0000_0000_0000, 0x3FE0_0000_0000_0000
+    NO_ENTRIES = {
+        "next above 2": 0x4000_0000_0000_0001,
+        "next below -2": 0xC000_0000_0000_0001,
+        "3": 0x4008_0000_0000_0000,
+        "largest": 0x7FEF_FFFF_FFFF_FFFF,
+        "infinity": 0x7FF0_0000_0000_0000,
+        "minus infinity": 0xFFF0_0000_0000_0000,
+        "signalling NaN": 0x7FF0_0000_0000_0001,
+        "quiet NaN": 0x7FF8_0000_0000_0000,
+        "quiet NaN with sign": 0xFFF8_0000_0000_0000,
+        "all ones": 0xFFFF_FFFF_FFFF_FFFF,
+    }
+
+    def read(self, n, *rows):
+        """The matrix of a file with these rows, or its refusal."""
+        end = point(0x14, [1] * n) + direction([1] * n) + b"\xff"
+        read = exact.read_model(head(n, 1) + b"".join(rows) + end)
+        return read if isinstance(read, Refusal) else read.matrix
+
+    def test_values_are_those_of_floats(self):
+        for bits in patterns():
+            value = struct.unpack("<d", bits.to_bytes(8, "little"))[0]
+            expected = Fraction(value) if math.isfinite(value) else None
+            self.assertEqual(exact.binary64(bits), expected, hex(bits))
+
+    def test_values_by_hand(self):
+        for bits, value in (
+            (0x3FF8_0000_0000_0000, Fraction(3, 2)),
+            (0xBFD0_0000_0000_0000, Fraction(-1, 4)),
+            (0x0010_0000_0000_0000, Fraction(1, 2**1022)),
+            (0x000F_FFFF_FFFF_FFFF, Fraction(2**52 - 1, 2**1074)),
+            (0x8000_0000_0000_0001, Fraction(-1, 2**1074)),
+            (0x8000_0000_0000_0000, 0),
+            (0x7FEF_FFFF_FFFF_FFFF, (2**53 - 1) * 2**971),
+        ):
+            self.assertEqual(exact.binary64(bits), value, hex(bits))
+
+    def test_the_nearest_and_of_two_the_even_one(self):
+        for value, entry in (("5/2", 2), ("7/2", 4), ("-5/2", -2), ("-7/2", -4), ("1/2", 0),
+                             ("-1/2", 0), ("49/100", 0), ("51/100", 1), ("-51/100", -1),
+                             ("-149/100", -1), ("3", 3), ("-3", -3)):
+            self.assertEqual(exact.nearest(Fraction(value)), entry, value)
+        for bits in patterns():
+            value = exact.binary64(bits)
+            if value is not None and abs(value) <= 2:
+                entry = exact.fitted_entry(value)
+                self.assertEqual(entry, round(65_536 * value), hex(bits))
+                self.assertLessEqual(2 * abs(entry - 65_536 * value), 1)
+                self.assertLessEqual(abs(entry), 131_072)
+
+    def test_a_scaled_entry_stays(self):
+        """File 14, of every entry that a scaled row can hold."""
+        for entry in range(-131_072, 131_073):
+            if exact.fitted_entry(exact.binary64(pattern(entry / 65_536))) != entry:
+                self.fail(entry)
+
+    def test_rows_are_mixed_in_any_way(self):
+        """Row i is (i + 1, -i) in 65,536ths, either way; the fitted ones are a little off."""
+        for kinds in itertools.product((0x02, 0x03), repeat=3):
+            rows = [
+                row(i, [i + 1, -i, 7]) if kind == 0x02
+                else fitted(i, [pattern((x + 0.4) / 65_536) for x in (i + 1, -i, 7)])
+                for i, kind in enumerate(kinds)
+            ]
+            self.assertEqual(self.read(3, *rows), tuple((i + 1, -i, 7) for i in range(3)))
+
+    def test_each_entry_is_tested(self):
+        for n in range(1, 7):
+            for i, number in itertools.product(range(n), {0, n - 1}):
+                for what, bits in self.NO_ENTRIES.items():
+                    rows = [fitted(j, [self.ONE] * 6) for j in range(n)]
+                    rows[number] = fitted(number, [bits if j == i else 0 for j in range(n)])
+                    self.assertEqual(self.read(n, *rows), Refusal(15, 4 + 50 * number), what)
+
+    def test_entries_beyond_n_are_ignored(self):
+        for bits in self.NO_ENTRIES.values():
+            for n in range(1, 6):
+                rows = [fitted(i, [self.HALF] * n + [bits] * (6 - n)) for i in range(n)]
+                self.assertEqual(self.read(n, *rows), ((32_768,) * n,) * n)
+
+    def test_body_then_number_then_entries(self):
+        wrong = fitted(1, [self.NO_ENTRIES["quiet NaN"]])
+        self.assertEqual(exact.read_model(head(1, 1) + b"\x03"), Refusal(1, 4))
+        self.assertEqual(exact.read_model(head(1, 1) + wrong[:-1]), Refusal(1, 4))
+        self.assertEqual(exact.read_model(head(1, 1) + wrong), Refusal(5, 4))
+        self.assertEqual(exact.read_model(head(1, 1) + b"\x03\0" + wrong[2:]), Refusal(15, 4))
+        for number in (0, 2, 255):
+            self.assertEqual(self.read(2, row(0, []), fitted(number, [])), Refusal(5, 30))
+            self.assertEqual(self.read(2, fitted(0, []), row(number, [])), Refusal(5, 54))
+
+    def test_order(self):
+        """It may stand where a scaled row may, and nowhere else."""
+        self.assertEqual(exact.read_model(b"\x03"), Refusal(3, 0))
+        self.assertEqual(self.read(1, row(0, []), fitted(1, [])), Refusal(3, 30))
+        self.assertEqual(self.read(1, fitted(0, []), row(1, [])), Refusal(3, 54))
+        self.assertEqual(self.read(2, fitted(0, [])), Refusal(3, 54))
+        rest = [point(0x14, [1]), point(0x24, [1]), direction([1]), guard(0, 1)]
+        for count in range(1, 5):
+            start = head(1, 1) + row(0, []) + b"".join(rest[:count])
+            self.assertEqual(exact.read_model(start + fitted(1, [])), Refusal(3, len(start)))
+
+    def test_the_envelope_is_that_of_the_rounded_matrix(self):
+        """0.3 becomes 19,661 (19,660.8): the listing is that of the scaled row."""
+        model = single(19_661, (0, 1_000_000), (-3, 5), 7, 9, guards=(1_000,))
+        data = encode(model, fitted_rows={0: [pattern(0.3)]})
+        self.assertEqual(exact.listing(data), exact.listing(encode(model)))
+        exact.check_accuracy(exact.read_model(data), exact.listing_of(model))
+
+    def test_the_fitted_rows_of_a_file(self):
+        model = Model(2, 1, ((1, 2), (3, 4)), Set(VERTICES, ((1, 1),)), box((0, 0), (0, 0)),
+                      ((1, 1),), ())
+        for rows in ({}, {0: (5, 6)}, {1: (2**64 - 1, 7)}, {0: (0, 0), 1: (1, 2)}):
+            self.assertEqual(fitted_rows_of(encode(model, fitted_rows=rows), 2), rows)
 
 
 class NoInput(unittest.TestCase):
