@@ -1,7 +1,7 @@
 -- A whole number as a difference of two naturals, and with it the one way by which goals over ℤ are closed here.
 -- In order: the two parts and their laws; quoted expressions; `le!` and `eq!`, which prove an order or an equation of two
 -- expressions from one of naturals, for `omega`; `le?` and `eq?`, which hand a fact over ℤ to `omega`; `abs!`, `abs?`,
--- `near!`, `near?`, `halves!` and `halves?`, the same for a magnitude and a distance.
+-- `near!`, `near?`, `halves!`, `halves?` and `apart?`, the same for a magnitude and a distance.
 -- Assumes nothing.
 use mathlib.Core.Path.{_≡_, refl, ap}
 use mathlib.Core.Logic.{_⊎_, inl, inr, ⊎-elim}
@@ -178,3 +178,10 @@ halves! a b e h k =
 
 pub halves? : (a b : Expr) (e : ℕ) → NearHalves (val a) (val b) e → (2 * (up a + dn b) ≤ 2 * (up b + dn a) + e) × (2 * (up b + dn a) ≤ 2 * (up a + dn b) + e)
 halves? a b e h = omega (arith, parts (a ⊖ b), natAbs-parts (val (a ⊖ b)), h .within)
+
+-- a distance that is told exactly is one of two differences
+pub apart? : (a b : Expr) (e : ℕ) → natAbs (val a -ℤ val b) ≡ e → (up b + dn a ≡ up a + dn b + e) ⊎ (up a + dn b ≡ up b + dn a + e)
+apart? a b e h =
+    let p = parts (a ⊖ b) in
+    let m = natAbs-parts (val (a ⊖ b)) in
+    ⊎-elim (λ z. inl (omega arith)) (λ z. inr (omega arith)) (parts-apart (val (a ⊖ b)))

@@ -3,7 +3,8 @@
 use mathlib.Core.Path.{_≡_}
 use mathlib.Core.Bool.{Bool, true, false, cond}
 use mathlib.Core.List.{List}
-use Prim.Native.Nat.{ℕ, suc, _/_, _%_, _<_}
+use mathlib.Core.Logic.{_⊎_, inl, inr}
+use Prim.Native.Nat.{ℕ, suc, _/_, _%_, _≤_, _<_}
 use native.Mathlib.Omega.{arith}
 use lib.Dec.{leb, ltb}
 use lib.ListN.{getD}
@@ -41,8 +42,13 @@ packed-unpacks number verdict figure h k = record { number-is = omega arith; ver
 
 -- ---- the answers
 
+-- a file's number is 1 to 10 or 15
+small : {number : ℕ} → (number ≤ 10) ⊎ (number ≡ 15) → number < 256
+small (inl h) = omega (arith, h)
+small (inr e) = omega (arith, e)
+
 pub refused-unpacks : (file : List ℕ) (number offset : ℕ) → readModel file .status ≡ Refused number offset → Unpacks (packed number 0 offset) number 0 offset
-refused-unpacks file number offset e = packed-unpacks number 0 offset (omega (arith, readModel-told file number offset e .most)) (omega arith)
+refused-unpacks file number offset e = packed-unpacks number 0 offset (small (readModel-told file number offset e .known)) (omega arith)
 
 pub stepped-unpacks : (a : Stepped) → Unpacks (steppedPacked a) (steppedNumber a) 0 (steppedFigure a)
 stepped-unpacks a = packed-unpacks (steppedNumber a) 0 (steppedFigure a) (small a) (omega arith)

@@ -8,6 +8,7 @@ use native.Mathlib.Omega.{arith}
 use borrow.Author.Tests.{le-leb, leb-true, ltb-true, eqb-true, eqb-false, leb-false}
 use lib.Dec.{leb, ltb, eqb}
 use lib.ListN.{length-set, replicate}
+use lib.IntN.{natAbs}
 use lib.Signed.{leZ}
 use Rattle.integers.specs.Sums.{allBelow}
 use Rattle.integers.proofs.Booleans.{and-true}
@@ -16,6 +17,9 @@ use Rattle.integers.proofs.Machine.{getD-replicate-default}
 use Rattle.arrays.proofs.Tests.{zeroOutside-of}
 use Rattle.stepping.specs.Limits.{entryLimit}
 use Rattle.stepping.specs.Refusals.{dimensionOk}
+use Rattle.coefficients.specs.Entries.{entryOfBits, scaledEntry, entryValue}
+use Rattle.coefficients.specs.Rows.{storedSix}
+use Rattle.coefficients.proofs.RowLaws.{storedSix-within, storedSix-beyond, scaledEntry-within, entryOfBits-within}
 use Rattle.records.specs.Numbers.{littleEndian, signedAt}
 use Rattle.limits.specs.Limits.{directionLimit, stepsOk}
 use Rattle.reachability.specs.declared.sets.Shape.the-variants.{Box}
@@ -25,8 +29,8 @@ use Rattle.records.specs.declared.order.Part.the-variants.{Head, Row, Initial, 
 use Rattle.reader.specs.declared.state.State.{State}
 use Rattle.records.specs.Order.{partOf}
 use Rattle.reader.specs.Order.{mostOf}
-use Rattle.reader.specs.Models.{zeros, blankSet, blankModel, start, firstByte, usualSteps, defaultSteps, rowPlace, withHead, withRow, withPoint, withSetPoint, inputAt, withDirection, withGuard}
-use Rattle.reader.specs.Values.{headOk, rowOk, pointOk, directionOk, guardOk, valueNumber}
+use Rattle.reader.specs.Models.{zeros, blankSet, blankModel, start, firstByte, usualSteps, defaultSteps, rowAnswer, scaledAt, bitsAt, rowPlace, withHead, withRow, withPoint, withSetPoint, inputAt, withDirection, withGuard}
+use Rattle.reader.specs.Values.{headOk, pointOk, directionOk, guardOk, valueNumber}
 use Rattle.reader.specs.Refusals.{countOf, kindNumber, storedIn, stored}
 use Rattle.reader.proofs.order.KindNumbers.{kindNumber-zero, lt-of-mostOf}
 use Rattle.reader.proofs.RowsOfSix.{vector-zeros, zeros-blank, small-blank, nonzero-none, guarded-more, guarded-set}
@@ -152,15 +156,23 @@ row-place-range rows n = split (ltb rows n)
     split true = (omega arith, omega arith)
     split false = (omega arith, omega arith)
 
+-- Limits 3: what a row stores, scaled or fitted, is within the limit
+answer-within : (kind : ℕ) (body : List ℕ) (i : ℕ) → natAbs (entryValue (rowAnswer kind body i)) ≤ entryLimit
+answer-within kind body i = split (eqb kind 0x03)
+  where
+    split : (b : Bool) → natAbs (entryValue (cond b (entryOfBits (bitsAt body i)) (scaledEntry (scaledAt body i)))) ≤ entryLimit
+    split true = entryOfBits-within (bitsAt body i)
+    split false = scaledEntry-within (scaledAt body i)
+
 module _ (s : State) (kind : ℕ) (body : List ℕ) (g : AcceptedSoFar s) where
-  so-far-row : s .last ≡ 1 → rowOk s body ≡ true → AcceptedSoFar (withRow s body)
-  unfolding rowOk withRow
-  so-far-row e ok =
+  so-far-row : s .last ≡ 1 → AcceptedSoFar (withRow s kind body)
+  unfolding withRow
+  so-far-row e =
       let r = row-place-range (s .rows + 1) (s .model .n) in
       let p = rowPlace (s .rows + 1) (s .model .n) in
       record {
         first = λ z. absurd (omega (arith, r .0));
-        frame = frame-row (g .frame) body e (and-true (eqb (firstByte body) (s .rows)) _ ok .1);
+        frame = frame-row (g .frame) (storedSix (s .model .n) (rowAnswer kind body)) e (storedSix-within (s .model .n) (rowAnswer kind body) (answer-within kind body)) (storedSix-beyond (s .model .n) (rowAnswer kind body));
         initial = set-early (g .initial) p (omega arith) (omega (arith, r .1));
         input = set-early (g .input) p (omega arith) (omega (arith, r .1));
         directions = directions-early (g .directions) p (omega (arith, r .1));
@@ -245,7 +257,7 @@ module _ (s : State) (kind : ℕ) (body : List ℕ) (g : AcceptedSoFar s) where
   unfolding fact
   so-far-part Head f few z =
       subst (λ (x : State). AcceptedSoFar (withHead x body)) (sym (g .first (eqb-true (s .last) 0x00 f))) (so-far-head body (passed (headOk body) 4 (omega arith) z))
-  so-far-part Row f few z = so-far-row (eqb-true (s .last) 0x01 f) (passed (rowOk s body) 5 (omega arith) z)
+  so-far-part Row f few z = so-far-row (eqb-true (s .last) 0x01 f)
   so-far-part Initial f few z =
       let a = and-true (pointMay 0x10 (s .last) kind) (leb 0x02 (s .last) && ltb (s .last) 0x20) f in
       let b = and-true (leb 0x02 (s .last)) (ltb (s .last) 0x20) (a .1) in

@@ -1,13 +1,17 @@
--- What a refused file is told: a number from 1 to 10, with an offset no farther than the file's length. In order: the numbers of
+-- What a refused file is told: a number from 1 to 10 or 15, with an offset no farther than the file's length. In order: the numbers of
 -- one record; the number and the offset where reading stops. Assumes nothing.
-use mathlib.Core.Path.{_≡_, refl, ap, _∙_}
+use mathlib.Core.Path.{_≡_, refl, ap, subst, _∙_}
 use mathlib.Core.Bool.{Bool, true, false, cond}
+use mathlib.Core.Logic.{_⊎_, inl, inr}
 use mathlib.Core.List.{List}
 use Prim.Native.Nat.{ℕ, suc, _+_, _-_, _≤_}
 use native.Mathlib.Omega.{arith}
 use borrow.Author.Tests.{eqb-true, eqb-false, ltb-true}
 use lib.Dec.{eqb, ltb}
 use lib.ListN.{length}
+use Rattle.coefficients.specs.Entries.{entryOfBits, scaledEntry, entryNumber}
+use Rattle.coefficients.specs.Rows.{firstOf, entriesNumber}
+use Rattle.coefficients.proofs.RowLaws.{entriesNumber-ind, scaledEntry-number, entryOfBits-number}
 use Rattle.records.specs.Records.{Record, whole, short, unknown, nothing, recordAt}
 use Rattle.records.proofs.RecordAt.{whole-of}
 use Rattle.records.specs.declared.order.Part.{Part}
@@ -15,57 +19,75 @@ use Rattle.records.specs.declared.order.Part.the-variants.{Head, Row, Initial, 
 use Rattle.reader.specs.declared.Status.the-variants.{Refused}
 use Rattle.reader.specs.declared.state.State.{State}
 use Rattle.records.specs.Order.{partOf}
-use Rattle.reader.specs.Models.{start, withPoint}
-use Rattle.reader.specs.Values.{headOk, rowOk, pointOk, directionOk, guardOk, unless, valueNumber}
-use Rattle.reader.specs.Refusals.{kindNumber, firstOf, refusal}
+use Rattle.reader.specs.Models.{start, firstByte, scaledAt, bitsAt, rowAnswer, withPoint}
+use Rattle.reader.specs.Values.{headOk, pointOk, directionOk, guardOk, unless, rowNumber, valueNumber}
+use Rattle.reader.specs.Refusals.{kindNumber, refusal}
 use Rattle.reader.specs.Reading.{Stop, stopFrom, numberAt, offsetAt, refused, readAs, readingAt, readFrom, readModel}
 use Rattle.reader.proofs.order.KindNumbers.{kindNumber-le}
 use Rattle.reader.proofs.ReadingOn.{firstOf-none, stopFor-ind}
 
 -- ---- the numbers of one record
 
-unless-le : (ok : Bool) (number : ℕ) → number ≤ 10 → unless ok number ≤ 10
-unless-le true number h = omega arith
-unless-le false number h = h
+-- The numbers that the reader has for a file, 0 for none.
+abbrev Known : ℕ → Type 0
+Known number = (number ≤ 10) ⊎ (number ≡ 15)
 
-valueNumber-le : (p : Part) (s : State) (kind : ℕ) (body : List ℕ) → valueNumber p s kind body ≤ 10
-valueNumber-le Head s kind body = unless-le (headOk body) 4 (omega arith)
-valueNumber-le Row s kind body = unless-le (rowOk s body) 5 (omega arith)
-valueNumber-le Initial s kind body = unless-le (pointOk (s .model .n) kind (withPoint (s .model .n) (s .model .initial) kind body)) 6 (omega arith)
-valueNumber-le Input s kind body = unless-le (pointOk (s .model .n) kind (withPoint (s .model .n) (s .model .input) kind body)) 6 (omega arith)
-valueNumber-le Direction s kind body = unless-le (directionOk (s .model .n) body) 7 (omega arith)
-valueNumber-le Guard s kind body = unless-le (guardOk s body) 8 (omega arith)
-valueNumber-le End s kind body = omega arith
+unless-known : (ok : Bool) (number : ℕ) → Known number → Known (unless ok number)
+unless-known true number h = inl (omega arith)
+unless-known false number h = h
 
-firstOf-le : (a b : ℕ) → a ≤ 10 → b ≤ 10 → firstOf a b ≤ 10
-firstOf-le a b h k = split (eqb a 0)
+firstOf-known : (a b : ℕ) → Known a → Known b → Known (firstOf a b)
+firstOf-known a b h k = split (eqb a 0)
   where
-    split : (t : Bool) → cond t b a ≤ 10
+    split : (t : Bool) → Known (cond t b a)
     split true = k
     split false = h
 
-refusal-le : (s : State) (r : Record) → refusal s r ≤ 10
+answer-known : (kind : ℕ) (body : List ℕ) (i : ℕ) → Known (entryNumber (rowAnswer kind body i))
+answer-known kind body i = split (eqb kind 0x03)
+  where
+    split : (b : Bool) → Known (entryNumber (cond b (entryOfBits (bitsAt body i)) (scaledEntry (scaledAt body i))))
+    split true = entryOfBits-number Known (inl (omega arith)) (inr refl) (bitsAt body i)
+    split false = scaledEntry-number Known (inl (omega arith)) (inl (omega arith)) (scaledAt body i)
+
+rowNumber-known : (s : State) (kind : ℕ) (body : List ℕ) → Known (rowNumber s kind body)
+unfolding rowNumber
+rowNumber-known s kind body =
+    firstOf-known (unless (eqb (firstByte body) (s .rows)) 5) (entriesNumber (s .model .n) (rowAnswer kind body))
+    (unless-known (eqb (firstByte body) (s .rows)) 5 (inl (omega arith)))
+    (entriesNumber-ind Known (s .model .n) (rowAnswer kind body) (inl (omega arith)) (answer-known kind body))
+
+valueNumber-known : (p : Part) (s : State) (kind : ℕ) (body : List ℕ) → Known (valueNumber p s kind body)
+valueNumber-known Head s kind body = unless-known (headOk body) 4 (inl (omega arith))
+valueNumber-known Row s kind body = rowNumber-known s kind body
+valueNumber-known Initial s kind body = unless-known (pointOk (s .model .n) kind (withPoint (s .model .n) (s .model .initial) kind body)) 6 (inl (omega arith))
+valueNumber-known Input s kind body = unless-known (pointOk (s .model .n) kind (withPoint (s .model .n) (s .model .input) kind body)) 6 (inl (omega arith))
+valueNumber-known Direction s kind body = unless-known (directionOk (s .model .n) body) 7 (inl (omega arith))
+valueNumber-known Guard s kind body = unless-known (guardOk s body) 8 (inl (omega arith))
+valueNumber-known End s kind body = inl (omega arith)
+
+refusal-known : (s : State) (r : Record) → Known (refusal s r)
 unfolding refusal
-refusal-le s nothing = omega arith
-refusal-le s (unknown kind) = omega arith
-refusal-le s (short kind) = firstOf-le (kindNumber s kind) 1 (omega (arith, kindNumber-le s kind)) (omega arith)
-refusal-le s (whole kind body) = firstOf-le (kindNumber s kind) (valueNumber (partOf kind) s kind body) (omega (arith, kindNumber-le s kind)) (valueNumber-le (partOf kind) s kind body)
+refusal-known s nothing = inl (omega arith)
+refusal-known s (unknown kind) = inl (omega arith)
+refusal-known s (short kind) = firstOf-known (kindNumber s kind) 1 (inl (omega (arith, kindNumber-le s kind))) (inl (omega arith))
+refusal-known s (whole kind body) = firstOf-known (kindNumber s kind) (valueNumber (partOf kind) s kind body) (inl (omega (arith, kindNumber-le s kind))) (valueNumber-known (partOf kind) s kind body)
 
 -- ---- the number and the offset where reading stops
 
 pub record Told (file : List ℕ) (number offset : ℕ) : Type 0 where
   pub least : 1 ≤ number
-  pub most : number ≤ 10
+  pub known : (number ≤ 10) ⊎ (number ≡ 15)
   pub inside : offset ≤ length file
 
 module _ (file : List ℕ) (p : Stop) where
-  numberAt-le : numberAt file p ≤ 10
+  numberAt-known : Known (numberAt file p)
   unfolding numberAt
-  numberAt-le = firstOf-le (refusal (p .state) (recordAt file (p .at))) _ (refusal-le (p .state) (recordAt file (p .at))) (ten (ltb (p .at + 1) (length file)))
+  numberAt-known = firstOf-known (refusal (p .state) (recordAt file (p .at))) _ (refusal-known (p .state) (recordAt file (p .at))) (ten (ltb (p .at + 1) (length file)))
     where
-      ten : (b : Bool) → cond b 10 0 ≤ 10
-      ten true = omega arith
-      ten false = omega arith
+      ten : (b : Bool) → Known (cond b 10 0)
+      ten true = inl (omega arith)
+      ten false = inl (omega arith)
 
   offsetAt-le : (numberAt file p ≡ 0 → ⊥) → p .at ≤ length file → offsetAt file p ≤ length file
   unfolding numberAt offsetAt
@@ -87,7 +109,7 @@ module _ (file : List ℕ) (p : Stop) where
           let n : numberAt file p ≡ number = cc in
           let o : offsetAt file p ≡ offset = cc in
           let ne = eqb-false (numberAt file p) 0 f in
-          record { least = omega (arith, ne); most = omega (arith, numberAt-le); inside = omega (arith, offsetAt-le ne h) }
+          record { least = omega (arith, ne); known = subst Known n numberAt-known; inside = omega (arith, offsetAt-le ne h) }
 
 pub readModel-told : (file : List ℕ) (number offset : ℕ) → readModel file .status ≡ Refused number offset → Told file number offset
 unfolding readModel readFrom

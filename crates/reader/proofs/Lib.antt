@@ -12,3 +12,4 @@ pub mod OnePointMore
 pub mod NoInput
 pub mod Answers
 pub mod Sample
+pub mod Longest

@@ -15,6 +15,7 @@ use lib.IntN.{ℤ, pos}
 use Rattle.integers.specs.Sums.{allBelow}
 use Rattle.integers.proofs.Booleans.{and-true, or-false}
 use Rattle.integers.proofs.Machine.{tabulate-cong, getD-replicate-default}
+use Rattle.coefficients.specs.Rows.{firstOf}
 use Rattle.records.specs.Kinds.{bodyLength}
 use Rattle.records.specs.Numbers.{littleEndian, twosComplement, signedAt}
 use Rattle.records.specs.Order.{mayFollow, partOf}
@@ -33,7 +34,7 @@ use Rattle.reader.specs.declared.state.State.{State}
 use Rattle.reader.specs.Order.{shapeOf}
 use Rattle.reader.specs.Models.{zeros, blankSet, start, entryAt, sixAt, putRow, setSet, setDirections, stateOf, withPoint, withSetPoint, inputAt, withDirection, withGuard}
 use Rattle.reader.specs.Values.{pointOk, unless, valueNumber}
-use Rattle.reader.specs.Refusals.{oneTooMany, kindNumber, firstOf, refusal, storedIn, stored}
+use Rattle.reader.specs.Refusals.{oneTooMany, kindNumber, refusal, storedIn, stored}
 use Rattle.reader.specs.NoInput.{completesInitial, NoInputAt, zeroBody, zeroCorners, putIn, moved}
 use Rattle.reader.proofs.OrderFacts.{order-at}
 use Rattle.reader.proofs.order.KindNumbers.{kindNumber-zero}

@@ -10,11 +10,11 @@ use native.Mathlib.Omega.{arith}
 use borrow.Author.Tests.{le-ltb, le-leb, lt-leb, eq-eqb, ne-eqb, leb-true, ltb-true, ltb-false}
 use lib.Dec.{leb, ltb, eqb}
 use lib.ListN.{length, set, List·getD-eq-default}
-use lib.IntN.{ℤ, pos}
+use lib.IntN.{ℤ, pos, natAbs}
 use Rattle.integers.specs.Sums.{vector, tabulate}
 use Rattle.integers.proofs.Machine.{getD-tabulate}
 use Rattle.integers.proofs.Booleans.{and-true}
-use Rattle.arrays.proofs.Tests.{Zeros, Small, zeroOutside-of}
+use Rattle.arrays.proofs.Tests.{allBetween-at, Zeros, Small, zeroOutside-of}
 use Rattle.stepping.specs.Limits.{entryLimit}
 use Rattle.stepping.specs.Refusals.{dimensionOk}
 use Rattle.records.specs.Numbers.{signedAt}
@@ -74,17 +74,17 @@ module _ {place rows n steps : ℕ} {matrix : List ℤ} (f : FrameAt place rows 
       }
 
   -- one row more
-  pub frame-row : (body : List ℕ) → place ≡ 1 → within entryLimit (sixAt n body 1) ≡ true → FrameAt (rowPlace (rows + 1) n) (rows + 1) n steps (putRow matrix rows (sixAt n body 1))
-  frame-row body e small =
+  pub frame-row : (six : List ℤ) → place ≡ 1 → ((i : ℕ) → i < 6 → natAbs (vector six i) ≤ entryLimit) → ((i : ℕ) → n ≤ i → vector six i ≡ pos 0) → FrameAt (rowPlace (rows + 1) n) (rows + 1) n steps (putRow matrix rows six)
+  frame-row six e small beyond =
       let room : 6 * rows + 6 ≤ length matrix = omega (arith, f .few e, n-most n (f .dimension (omega arith)), f .matrix-length) in
       record {
         dimension = λ l. f .dimension (omega arith);
         steps-ok = λ l. f .steps-ok (omega arith);
         few = λ p. left (ltb (rows + 1) n) refl p;
         all = λ p. full (ltb (rows + 1) n) refl p;
-        matrix-length = length-putRow rows (sixAt n body 1) matrix ∙ f .matrix-length;
-        matrix-zeros = zeros-putRow n matrix rows (sixAt n body 1) room (λ i h. sixAt-beyond n body 1 i h) (f .matrix-zeros);
-        matrix-small = small-putRow entryLimit matrix rows (sixAt n body 1) room small (f .matrix-small);
+        matrix-length = length-putRow rows six matrix ∙ f .matrix-length;
+        matrix-zeros = zeros-putRow n matrix rows six room beyond (f .matrix-zeros);
+        matrix-small = small-putRow entryLimit matrix rows six room small (f .matrix-small);
       }
     where
       left : (b : Bool) → ltb (rows + 1) n ≡ b → _≡_ {A = ℕ} (cond b 0x01 0x02) 1 → rows + 1 < n
@@ -243,7 +243,7 @@ module _ {place n count : ℕ} {entries : List ℤ} (d : DirectionsAt place n co
       record {
         entries-length = length-putRow count (sixAt n body 0) entries ∙ d .entries-length;
         entries-zeros = zeros-putRow n entries count (sixAt n body 0) room (λ i l. sixAt-beyond n body 0 i l) (d .entries-zeros);
-        entries-small = small-putRow directionLimit entries count (sixAt n body 0) room (both .0) (d .entries-small);
+        entries-small = small-putRow directionLimit entries count (sixAt n body 0) room (λ i l. allBetween-at directionLimit (sixAt n body 0) (both .0) i) (d .entries-small);
         nonzero = nonzero-putRow entries count (sixAt n body 0) room (turned (allZero (sixAt n body 0) 0) (both .1)) (d .nonzero);
         few = omega arith;
         some = λ l. omega arith;

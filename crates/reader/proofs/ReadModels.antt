@@ -1,5 +1,5 @@
 -- Laws of `readModel`. In order: its number and offset; where a file is read, a state that the reader has reached; a model that was
--- read is accepted; an accepted file has at most 1,521 bytes; reading looks only at the first 2,048 bytes. Assumes nothing.
+-- read is accepted; an accepted file has at most 1,665 bytes; reading looks only at the first 2,048 bytes. Assumes nothing.
 use mathlib.Core.Path.{_≡_, refl, sym, ap, ap₂, subst, _∙_}
 use mathlib.Core.Bool.{Bool, true, false, cond, not, _&&_}
 use mathlib.Core.List.{List}
@@ -10,6 +10,7 @@ use borrow.Author.Tests.{le-leb, leb-true, eq-eqb, eqb-true, lt-ltb, le-ltb, ltb
 use lib.Dec.{eqb, ltb}
 use lib.ListN.{length, take, length-take}
 use lib.Seq.{take-all}
+use Rattle.coefficients.specs.Rows.{firstOf}
 use Rattle.records.specs.Records.{Record, recordAt, recordKind, recordBody}
 use Rattle.records.proofs.RecordAt.{whole-length, recordAt-take, reaches-of-le}
 use Rattle.arrays.proofs.Tests.{Zeros, zeroOutside-of, allBetween-of}
@@ -21,7 +22,7 @@ use Rattle.reader.specs.declared.Reading.{Reading}
 use Rattle.reader.specs.declared.state.State.{State}
 use Rattle.records.specs.Order.{mayFollow, partOf}
 use Rattle.reader.specs.Models.{blankModel, start}
-use Rattle.reader.specs.Refusals.{firstOf, refusal, stored}
+use Rattle.reader.specs.Refusals.{refusal, stored}
 use Rattle.reader.specs.Reading.{Stop, stopHere, goesOn, behind, storedRecord, stopFor, stopFrom, numberAt, offsetAt, refused, readAs, readingAt, readFrom, readModel, readNumber, readOffset, statusNumber, statusOffset, Reads}
 use Rattle.reader.proofs.order.KindNumbers.{kindNumber-zero}
 use Rattle.reader.proofs.ReadingOn.{firstOf-zero, refusal-zero, whole-of-refusal, GoesOn, goesOn-true, stopFor-ind, stopFor-enough, stopFor-stops}
@@ -160,7 +161,7 @@ readModel-accepted file e =
 
 -- ---- File 9
 
-pub readModel-length : (file : List ℕ) → readModel file .status ≡ Read → length file ≤ 1521
+pub readModel-length : (file : List ℕ) → readModel file .status ≡ Read → length file ≤ 1665
 readModel-length file e =
     let r = readModel-reached file e in
     omega (arith, r .length-le, r .reachable .within, used-le (r .last .state) (r .reachable .so-far))
@@ -172,7 +173,7 @@ module _ (file : List ℕ) where
   first = take 2048 file
 
   module _ (p : Stop) (r : Reachable p) where
-    small : p .at ≤ 1520
+    small : p .at ≤ 1664
     small = omega (arith, r .within, used-le (p .state) (r .so-far))
 
     same-record : recordAt first (p .at) ≡ recordAt file (p .at)

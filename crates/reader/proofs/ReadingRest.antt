@@ -11,13 +11,14 @@ use borrow.Author.Tests.{lt-ltb, le-ltb}
 use lib.Dec.{eqb, ltb}
 use lib.ListN.{length, take, length-append}
 use lib.Seq.{length-take-le}
+use Rattle.coefficients.specs.Rows.{firstOf}
 use Rattle.records.specs.Records.{Record, recordAt, recordKind, recordBody}
 use Rattle.records.proofs.RecordAt.{whole-of, recordAt-cons, Reaches, reaches-whole, recordAt-within}
 use Rattle.reader.specs.declared.Status.{Status}
 use Rattle.reader.specs.declared.Status.the-variants.{Read, Refused}
 use Rattle.reader.specs.declared.Reading.{Reading}
 use Rattle.reader.specs.declared.state.State.{State}
-use Rattle.reader.specs.Refusals.{firstOf, refusal}
+use Rattle.reader.specs.Refusals.{refusal}
 use Rattle.reader.specs.Reading.{Stop, stopHere, goesOn, behind, storedRecord, stopFor, numberAt, offsetAt, refused, readAs, readingAt, readFrom}
 use Rattle.reader.specs.NoInput.{movedStatus, moved}
 use Rattle.reader.proofs.ReadingOn.{goesOn-true, stopFor-forward, readFrom-next, readFrom-refused, readFrom-comes}

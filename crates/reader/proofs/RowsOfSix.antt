@@ -11,12 +11,11 @@ use borrow.Author.Tests.{lt-ltb, le-ltb, eq-eqb, le-leb}
 use lib.Dec.{eqb}
 use lib.ListN.{length, getD, set}
 use lib.Seq.{getD-set-same, getD-set-other}
-use lib.IntN.{ℤ, pos, negℤ, natAbs}
+use lib.IntN.{ℤ, pos, natAbs}
 use Rattle.integers.specs.Sums.{vector, matrix}
 use Rattle.integers.proofs.Sums.{allBelow-intro, allBelow-cong}
 use Rattle.integers.proofs.Machine.{getD-replicate-default}
-use Rattle.arrays.specs.Tests.{allBetween}
-use Rattle.arrays.proofs.Tests.{allBetween-at, Zeros, Small}
+use Rattle.arrays.proofs.Tests.{Zeros, Small}
 use Rattle.limits.specs.Limits.{allZero, someNonzero, guardOk, guardsOk}
 use Rattle.reader.specs.Models.{zeros, putRow}
 use Rattle.reader.proofs.store.PutRow.{putRow-other, putRow-same}
@@ -63,9 +62,9 @@ zeros-putRow n xs row six h beyond z =
 pub small-blank : (limit n : ℕ) → Small limit (zeros n)
 small-blank limit n = record { at = λ p i l. subst (λ (x : ℤ). natAbs x ≤ limit) (sym (vector-zeros n (6 * p + i))) (omega arith) }
 
-pub small-putRow : (limit : ℕ) (xs : List ℤ) (row : ℕ) (six : List ℤ) → 6 * row + 6 ≤ length xs → allBetween (negℤ (pos limit)) (pos limit) six ≡ true → Small limit xs → Small limit (putRow xs row six)
+pub small-putRow : (limit : ℕ) (xs : List ℤ) (row : ℕ) (six : List ℤ) → 6 * row + 6 ≤ length xs → ((i : ℕ) → i < 6 → natAbs (vector six i) ≤ limit) → Small limit xs → Small limit (putRow xs row six)
 small-putRow limit xs row six h new s =
-    record { at = matrix-putRow-ind xs row six (λ p i x. natAbs x ≤ limit) h (λ i l. allBetween-at limit six new i) (λ p i l ne. s .at p i l) }
+    record { at = matrix-putRow-ind xs row six (λ p i x. natAbs x ≤ limit) h new (λ p i l ne. s .at p i l) }
 
 -- ---- directions that are not zero
 

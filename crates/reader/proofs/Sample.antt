@@ -5,6 +5,8 @@ use Prim.Native.Nat.{ℕ}
 use lib.ListN.{length, replicate}
 use lib.IntN.{pos}
 use Rattle.integers.specs.Sums.{allBelow, sumℕ, maxℕ}
+use Rattle.coefficients.specs.Entries.{scaledEntry}
+use Rattle.coefficients.specs.Rows.{firstNumber}
 use Rattle.records.specs.Kinds.{bodyLength}
 use Rattle.records.specs.Records.{recordAt}
 use Rattle.records.specs.Numbers.{littleEndian}
@@ -13,7 +15,7 @@ use Rattle.reachability.specs.declared.model.Model.{Model}
 use Rattle.reader.specs.declared.Status.the-variants.{Read}
 use Rattle.records.specs.Order.{mayFollow, partOf}
 use Rattle.reader.specs.Models.{zeros, blankSet, blankModel, start, sixAt, putRow, withHead, withRow, withPoint, withSetPoint, withDirection, withGuard}
-use Rattle.reader.specs.Values.{rowOk, pointOk, directionOk}
+use Rattle.reader.specs.Values.{rowNumber, pointOk, directionOk}
 use Rattle.reader.specs.Refusals.{kindNumber, refusal, stored}
 use Rattle.reader.specs.Reading.{stopFor, numberAt, offsetAt, readingAt, readFrom, readModel, refused}
 
@@ -58,7 +60,7 @@ unfolding sample
 sample-length = refl
 
 pub sample-read : readModel sample ≡ record { status = Read; model = sampleModel }
-unfolding allBelow sumℕ maxℕ bodyLength recordAt littleEndian mayFollow partOf zeros blankSet blankModel start sixAt putRow withHead withRow withPoint withSetPoint withDirection withGuard rowOk pointOk directionOk kindNumber refusal stored stopFor numberAt offsetAt readingAt readFrom readModel sample sampleModel
+unfolding allBelow sumℕ maxℕ bodyLength recordAt littleEndian mayFollow partOf zeros blankSet blankModel start sixAt putRow withHead withRow withPoint withSetPoint withDirection withGuard scaledEntry firstNumber rowNumber pointOk directionOk kindNumber refusal stored stopFor numberAt offsetAt readingAt readFrom readModel sample sampleModel
 sample-read = refl
 
 -- Figures 14.

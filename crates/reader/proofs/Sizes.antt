@@ -29,7 +29,7 @@ use Rattle.reader.proofs.AcceptedSoFar.{AcceptedSoFar}
 
 unfoldable pub lengthOf : Part → ℕ
 lengthOf Head = 3
-lengthOf Row = 25
+lengthOf Row = 49
 lengthOf Initial = 24
 lengthOf Input = 24
 lengthOf Direction = 24
@@ -42,12 +42,12 @@ bodyLength-part kind n e = leb-true n (lengthOf (partOf kind)) (everyKind-at (λ
 
 -- ---- the count
 
--- At most 4 bytes for the head, 26 for a row, 25 for a point or a direction, 10 for a guard.
+-- At most 4 bytes for the head, 50 for a row, 25 for a point or a direction, 10 for a guard.
 abbrev started : ℕ → ℕ
 started place = cond (eqb place 0) 0 4
 
 unfoldable pub used : State → ℕ
-used s = started (s .last) + 26 * s .rows + 25 * (s .model .initial .count + s .model .input .count + s .model .directions) + 10 * s .model .guards
+used s = started (s .last) + 50 * s .rows + 25 * (s .model .initial .count + s .model .input .count + s .model .directions) + 10 * s .model .guards
 
 started-is : (place : ℕ) → 0 < place → started place ≡ 4
 started-is place h = ap (λ (b : Bool). cond b 0 4) (ne-eqb place 0 (λ e. omega arith))
@@ -78,7 +78,7 @@ module _ (s : State) (kind : ℕ) (body : List ℕ) (g : AcceptedSoFar s) (new :
   used-head e n = subst (λ (x : State). used x + (1 + length body) ≤ used (withHead x body)) (sym (g .first e)) (used-first n)
 
   module _ (late : 0 < s .last) where
-    used-row : length body ≤ 25 → used s + (1 + length body) ≤ used (withRow s body)
+    used-row : length body ≤ 49 → used s + (1 + length body) ≤ used (withRow s kind body)
     unfolding used withRow
     used-row n = omega (arith, started-row (s .rows + 1) (s .model .n), started-is (s .last) late)
 
@@ -133,7 +133,7 @@ started-le place = split (eqb place 0)
     split true = omega arith
     split false = omega arith
 
-pub used-le : (s : State) → AcceptedSoFar s → used s ≤ 1520
+pub used-le : (s : State) → AcceptedSoFar s → used s ≤ 1664
 unfolding used
 used-le s g =
     omega (arith, started-le (s .last), rows-le s g, g .initial .held .most, g .input .held .most, g .directions .few, g .guards .few)

@@ -1,4 +1,4 @@
--- File 3, 4, 7, 8 and 10: how far a file has been read, and what each record adds to the model. Definitions only. A record that a
+-- File 3, 4, 5, 7, 8 and 10: how far a file has been read, and what each record adds to the model. Definitions only. A record that a
 -- block has no room for changes nothing in it; none such is ever let in. Assumes nothing.
 use mathlib.Core.Bool.{Bool, true, cond}
 use mathlib.Core.List.{List}
@@ -7,6 +7,9 @@ use lib.Dec.{eqb, ltb}
 use lib.ListN.{getD, set, replicate}
 use lib.IntN.{ℤ, pos}
 use Rattle.integers.specs.Sums.{vector, tabulate}
+use Rattle.coefficients.specs.declared.EntryAnswer.{EntryAnswer}
+use Rattle.coefficients.specs.Entries.{entryOfBits, scaledEntry}
+use Rattle.coefficients.specs.Rows.{storedSix}
 use Rattle.records.specs.Numbers.{littleEndian, signedAt}
 use Rattle.reachability.specs.declared.sets.Shape.the-variants.{Box}
 use Rattle.reachability.specs.declared.sets.Set.{Set}
@@ -55,6 +58,17 @@ entryAt n body at i = cond (ltb i n) (signedAt 4 body (at + 4 * i)) (pos 0)
 
 unfoldable pub sixAt : ℕ → List ℕ → ℕ → List ℤ
 sixAt n body at = tabulate 6 (entryAt n body at)
+
+-- File 3: entry i of a scaled row, of 4 bytes, and the 64 bits of entry i of a fitted row. The row's number stands before them.
+abbrev pub scaledAt : List ℕ → ℕ → ℤ
+scaledAt body i = signedAt 4 body (1 + 4 * i)
+
+abbrev pub bitsAt : List ℕ → ℕ → ℕ
+bitsAt body i = littleEndian 8 body (1 + 8 * i)
+
+-- File 5: a row is scaled or, of kind 03, fitted. The answer to its entry i is what is stored, or the number it is refused by.
+abbrev pub rowAnswer : ℕ → List ℕ → ℕ → EntryAnswer
+rowAnswer kind body i = cond (eqb kind 0x03) (entryOfBits (bitsAt body i)) (scaledEntry (scaledAt body i))
 
 -- File 4.
 abbrev pub usualSteps : ℕ
@@ -122,11 +136,15 @@ withHead s body = stateOf 0x01 0 (setHead (s .model) (firstByte body) (defaultSt
 abbrev pub rowPlace : ℕ → ℕ → ℕ
 rowPlace rows n = cond (ltb rows n) 0x01 0x02
 
--- File 3, kind 02.
-unfoldable pub withRow : State → List ℕ → State
-withRow s body =
+-- One row more, of these six entries.
+abbrev pub rowStored : State → List ℤ → State
+rowStored s six =
     stateOf (rowPlace (s .rows + 1) (s .model .n)) (s .rows + 1)
-    (setMatrix (s .model) (putRow (s .model .matrix) (s .rows) (sixAt (s .model .n) body 1)))
+    (setMatrix (s .model) (putRow (s .model .matrix) (s .rows) six))
+
+-- File 3, kinds 02 and 03.
+unfoldable pub withRow : State → ℕ → List ℕ → State
+withRow s kind body = rowStored s (storedSix (s .model .n) (rowAnswer kind body))
 
 -- File 3, kinds 10 to 14, and File 8: one point more, behind those before it.
 unfoldable pub withPoint : ℕ → Set → ℕ → List ℕ → Set

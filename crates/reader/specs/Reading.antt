@@ -6,6 +6,7 @@ use mathlib.Core.List.{List}
 use Prim.Native.Nat.{ℕ, zero, suc, _+_, _-_, _<_}
 use lib.Dec.{eqb, ltb}
 use lib.ListN.{length}
+use Rattle.coefficients.specs.Rows.{firstOf}
 use Rattle.records.specs.Records.{Record, recordAt, recordKind, recordBody}
 use Rattle.reachability.specs.declared.model.Model.{Model}
 use Rattle.reader.specs.declared.Status.{Status}
@@ -13,7 +14,7 @@ use Rattle.reader.specs.declared.Status.the-variants.{Read, Refused}
 use Rattle.reader.specs.declared.Reading.{Reading}
 use Rattle.reader.specs.declared.state.State.{State}
 use Rattle.reader.specs.Models.{blankModel, start}
-use Rattle.reader.specs.Refusals.{firstOf, refusal, stored}
+use Rattle.reader.specs.Refusals.{refusal, stored}
 
 -- ---- where reading stops
 

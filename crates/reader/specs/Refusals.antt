@@ -2,7 +2,8 @@
 use mathlib.Core.Bool.{Bool, true, false, cond}
 use mathlib.Core.List.{List}
 use Prim.Native.Nat.{ℕ}
-use lib.Dec.{eqb, leb}
+use lib.Dec.{leb}
+use Rattle.coefficients.specs.Rows.{firstOf}
 use Rattle.records.specs.Records.{Record, whole, short, unknown, nothing}
 use Rattle.records.specs.declared.order.Part.{Part}
 use Rattle.records.specs.declared.order.Part.the-variants.{Head, Row, Initial, Input, Direction, Guard, End}
@@ -30,12 +31,8 @@ oneTooMany s kind = leb (mostOf kind) (countOf (partOf kind) s)
 unfoldable pub kindNumber : State → ℕ → ℕ
 kindNumber s kind = cond (mayFollow (s .last) kind) (cond (oneTooMany s kind) 9 0) 3
 
--- Reading 1: the first number that is not 0.
-abbrev pub firstOf : ℕ → ℕ → ℕ
-firstOf a b = cond (eqb a 0) b a
-
 -- Reading 1: the number of the record that stands at an offset, 0 where it is read. No byte (1); unknown (2); 3 and 9; a body that
--- is cut (1); 4 to 8.
+-- is cut (1); 4 to 8 and 15.
 unfoldable pub refusal : State → Record → ℕ
 refusal s nothing = 1
 refusal s (unknown kind) = 2
@@ -45,7 +42,7 @@ refusal s (whole kind body) = firstOf (kindNumber s kind) (valueNumber (partOf k
 -- File 3: what a record adds. The end adds nothing.
 abbrev pub storedIn : Part → State → ℕ → List ℕ → State
 storedIn Head s kind body = withHead s body
-storedIn Row s kind body = withRow s body
+storedIn Row s kind body = withRow s kind body
 storedIn Initial s kind body = withSetPoint false s kind body
 storedIn Input s kind body = withSetPoint true s kind body
 storedIn Direction s kind body = withDirection s kind body

@@ -1,12 +1,12 @@
--- Refusals 4 to 8: what a body may hold. Definitions only. Assumes nothing.
+-- Refusals 4 to 8 and 15: what a body may hold. Definitions only. Assumes nothing.
 use mathlib.Core.Bool.{Bool, true, false, cond, not, _&&_, _||_}
 use mathlib.Core.List.{List}
 use Prim.Native.Nat.{ℕ}
 use lib.Dec.{eqb, leb, ltb}
 use lib.IntN.{ℤ, pos, negℤ}
 use Rattle.arrays.specs.Tests.{allBetween}
-use Rattle.stepping.specs.Limits.{entryLimit}
 use Rattle.stepping.specs.Refusals.{dimensionOk}
+use Rattle.coefficients.specs.Rows.{firstOf, entriesNumber}
 use Rattle.records.specs.Numbers.{littleEndian}
 use Rattle.reachability.specs.Sets.{reachWithin}
 use Rattle.limits.specs.Limits.{directionLimit, allZero, cornersOrdered}
@@ -15,7 +15,7 @@ use Rattle.records.specs.declared.order.Part.{Part}
 use Rattle.records.specs.declared.order.Part.the-variants.{Head, Row, Initial, Input, Direction, Guard, End}
 use Rattle.reader.specs.declared.state.State.{State}
 use Rattle.reader.specs.Order.{isUpper}
-use Rattle.reader.specs.Models.{firstByte, sixAt, setOf, withPoint}
+use Rattle.reader.specs.Models.{firstByte, sixAt, rowAnswer, setOf, withPoint}
 
 -- Refusals 4 does not apply.
 abbrev pub headValuesOk : ℕ → ℕ → Bool
@@ -24,13 +24,9 @@ headValuesOk n steps = dimensionOk n && leb steps 256
 abbrev pub headOk : List ℕ → Bool
 headOk body = headValuesOk (firstByte body) (littleEndian 2 body 1)
 
--- Limits 3, Limits 5: numbers from minus the limit to the limit. Those beyond n are zero, so only the first n can fail.
+-- Limits 5: numbers from minus the limit to the limit. Those beyond n are zero, so only the first n can fail.
 abbrev pub within : ℕ → List ℤ → Bool
 within limit six = allBetween (negℤ (pos limit)) (pos limit) six
-
--- Refusals 5 does not apply.
-unfoldable pub rowOk : State → List ℕ → Bool
-rowOk s body = eqb (firstByte body) (s .rows) && within entryLimit (sixAt (s .model .n) body 1)
 
 -- Refusals 6 does not apply to the set with this point. The corners are compared at the upper one.
 unfoldable pub pointOk : ℕ → ℕ → Set → Bool
@@ -48,6 +44,10 @@ guardOk s body = ltb (firstByte body) (s .model .directions)
 abbrev pub unless : Bool → ℕ → ℕ
 unless ok number = cond ok 0 number
 
+-- Refusals 5, of the row number and then of the entries, or Refusals 15 of the entries.
+unfoldable pub rowNumber : State → ℕ → List ℕ → ℕ
+rowNumber s kind body = firstOf (unless (eqb (firstByte body) (s .rows)) 5) (entriesNumber (s .model .n) (rowAnswer kind body))
+
 -- The number of a point more of the initial set or, with `input`, of the input set.
 abbrev pub pointNumber : Bool → State → ℕ → List ℕ → ℕ
 pointNumber input s kind body = unless (pointOk (s .model .n) kind (withPoint (s .model .n) (setOf input (s .model)) kind body)) 6
@@ -55,7 +55,7 @@ pointNumber input s kind body = unless (pointOk (s .model .n) kind (withPoint (s
 -- The number of the value test of a record's part, 0 where the body passes. The end has no body.
 abbrev pub valueNumber : Part → State → ℕ → List ℕ → ℕ
 valueNumber Head s kind body = unless (headOk body) 4
-valueNumber Row s kind body = unless (rowOk s body) 5
+valueNumber Row s kind body = rowNumber s kind body
 valueNumber Initial s kind body = pointNumber false s kind body
 valueNumber Input s kind body = pointNumber true s kind body
 valueNumber Direction s kind body = unless (directionOk (s .model .n) body) 7

@@ -1,10 +1,12 @@
 // The numbers of a body, where they are stored, and the sets of a model.
 use crate::order::shape_of;
+use coefficients::rows::FittedRow;
 use reachability::model::Model;
 use reachability::sets::Set;
 use reachability::sets::Shape;
 ghost use mathlib.Core.Path.{_≡_};
 ghost use Prim.Native.Nat.{_≤_, _<_};
+ghost use Rattle.reader.specs.Inner.{fittedAt, heldRow};
 ghost use Rattle.reader.specs.Models.{firstByte, entryAt, sixAt, putRow, setOf, setSet, withPoint, inputAt};
 
 // The byte that a body starts with.
@@ -41,6 +43,29 @@ pub(crate) fn six_at(n: usize, body: &[u8], at: usize) -> [i32; 6]
     let e = entry_at(n, body, at, 4);
     let f = entry_at(n, body, at, 5);
     [a, b, c, d, e, f]
+}
+
+// Fitted entry i of a body.
+fn fitted_at(body: &[u8], i: usize) -> f64
+    requires { ⌜ i < 6 ⌝ }
+    ensures { λ r. ⌜ r ≡ fittedAt (now (body .entry)) i ⌝ }
+{
+    coefficients::value_of(records::u64_at(body, 1 + 8 * i))
+}
+
+// The fitted row of a body.
+pub(crate) fn fitted_row(body: &[u8]) -> FittedRow
+    ensures { λ r. ⌜ r ≡ heldRow (now (body .entry)) ⌝ }
+{
+    let number = first_byte(body);
+    let a = fitted_at(body, 0);
+    let b = fitted_at(body, 1);
+    let c = fitted_at(body, 2);
+    let d = fitted_at(body, 3);
+    let e = fitted_at(body, 4);
+    let f = fitted_at(body, 5);
+    let values = [a, b, c, d, e, f];
+    FittedRow { number, values }
 }
 
 // Six numbers stored as one row of rows of six. There is no row beyond the end.

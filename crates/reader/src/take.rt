@@ -1,21 +1,28 @@
-// Taking a whole record: its value test, Refusals 4 to 8, and the state behind it.
+// Taking a whole record: its value test, Refusals 4 to 8 and 15, and the state behind it.
 use crate::state::State;
 use crate::store::first_byte;
+use crate::store::fitted_row;
 use crate::store::input_at;
 use crate::store::put_row;
 use crate::store::set_of;
 use crate::store::six_at;
 use crate::store::with_point;
 use crate::store::with_set;
+use coefficients::rows::RowEntries;
+use coefficients::rows::first_of;
+use coefficients::rows::fitted_entries;
+use coefficients::rows::scaled_entries;
 use reachability::sets::Set;
 use records::order::Part;
 use records::order::part_of;
 ghost use mathlib.Core.Path.{_≡_};
 ghost use mathlib.Core.Bool.{false};
 ghost use Prim.Native.Nat.{_<_};
+ghost use lib.Dec.{eqb};
 ghost use Rattle.records.specs.Order.{partOf};
-ghost use Rattle.reader.specs.Models.{withHead, withRow, setOf, withSetPoint, withDirection, withGuard};
-ghost use Rattle.reader.specs.Values.{headOk, rowOk, pointOk, directionOk, guardOk, unless, pointNumber, valueNumber};
+ghost use Rattle.coefficients.specs.Rows.{firstOf};
+ghost use Rattle.reader.specs.Models.{withHead, rowStored, withRow, setOf, withSetPoint, withDirection, withGuard};
+ghost use Rattle.reader.specs.Values.{headOk, rowNumber, pointOk, directionOk, guardOk, unless, pointNumber, valueNumber};
 ghost use Rattle.reader.specs.Refusals.{oneTooMany, stored};
 ghost use Rattle.reader.specs.Inner.{Takes};
 
@@ -54,20 +61,20 @@ fn take_head(state: State, body: &[u8]) -> Taken
     }
 }
 
-fn take_row(state: State, body: &[u8]) -> Taken
-    ensures { λ r. ⌜ Takes (unless (rowOk state (now (body .entry))) 5) (withRow state (now (body .entry))) r ⌝ }
+// One row more, where its number is that of the next row and no entry is refused.
+fn store_row(state: State, row: usize, entries: RowEntries) -> Taken
+    requires { ⌜ row < 256 ⌝ }
+    ensures { λ r. ⌜ Takes (firstOf (unless (eqb row (state .rows)) 5) (entries .number)) (rowStored state (entries .six)) r ⌝ }
 {
     let rows = state.rows;
-    let row = first_byte(body);
-    if row != rows {
-        return Taken { number: 5, state };
+    let misplaced: u8 = if row == rows { 0 } else { 5 };
+    let number = first_of(misplaced, entries.number);
+    if number != 0 {
+        return Taken { number, state };
     }
     let mut model = state.model;
     let n = model.n;
-    let six = six_at(n, body, 1);
-    if !arrays::all_between(-131072, 131072, &six) {
-        return Taken { number: 5, state };
-    }
+    let six = entries.six;
     let mut matrix = model.matrix;
     put_row(&mut matrix, row, &six);
     model.matrix = matrix;
@@ -81,6 +88,22 @@ fn take_row(state: State, body: &[u8]) -> Taken
             model,
         },
     }
+}
+
+// A row, scaled or fitted. The row's number stands above its entries.
+fn take_row(state: State, kind: u8, body: &[u8]) -> Taken
+    ensures { λ r. ⌜ Takes (rowNumber state kind (now (body .entry))) (withRow state kind (now (body .entry))) r ⌝ }
+{
+    let model = state.model;
+    let n = model.n;
+    if kind == 0x03 {
+        let held = fitted_row(body);
+        let entries = fitted_entries(n, held);
+        return store_row(state, held.number, entries);
+    }
+    let six = six_at(6, body, 1);
+    let entries = scaled_entries(n, six);
+    store_row(state, first_byte(body), entries)
 }
 
 // The reach of the set so far is within its limit, and a box's corners, once both are read, are in order.
@@ -187,7 +210,7 @@ pub(crate) fn take(state: State, kind: u8, body: &[u8]) -> Taken
     let part = part_of(kind);
     match part {
         Part::Head => take_head(state, body),
-        Part::Row => take_row(state, body),
+        Part::Row => take_row(state, kind, body),
         Part::Initial => take_point(state, false, kind, body),
         Part::Input => take_point(state, true, kind, body),
         Part::Direction => take_direction(state, kind, body),

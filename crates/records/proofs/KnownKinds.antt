@@ -1,5 +1,5 @@
 -- Laws of `bodyLength`: a test of every known kind, which antt computes; with it, that every kind is a byte other than 0 and
--- no body is longer than 25 bytes. Assumes nothing.
+-- no body is longer than 49 bytes. Assumes nothing.
 use mathlib.Core.Path.{_≡_, refl, sym, ap, _∙_}
 use mathlib.Core.Bool.{Bool, true}
 use Prim.Native.Nat.{ℕ, _≤_, _<_}
@@ -20,6 +20,7 @@ bodyLength-beyond kind h =
     simp (
       ne-eqb kind 0x01 (λ e. omega arith),
       ne-eqb kind 0x02 (λ e. omega arith),
+      ne-eqb kind 0x03 (λ e. omega arith),
       le-leb 0x10 kind (omega arith),
       lt-leb kind 0x14 (omega arith),
       le-leb 0x20 kind (omega arith),
@@ -52,6 +53,6 @@ pub kind-above-zero : (kind n : ℕ) → bodyLength kind ≡ Bytes n → 0 < kin
 unfolding allBelow everyKind bodyLength
 kind-above-zero kind n e = leb-true 1 kind (everyKind-at (λ k m. leb 1 k) refl kind n e)
 
-pub bodyLength-le : (kind n : ℕ) → bodyLength kind ≡ Bytes n → n ≤ 25
+pub bodyLength-le : (kind n : ℕ) → bodyLength kind ≡ Bytes n → n ≤ 49
 unfolding allBelow everyKind bodyLength
-bodyLength-le kind n e = leb-true n 25 (everyKind-at (λ k m. leb m 25) refl kind n e)
+bodyLength-le kind n e = leb-true n 49 (everyKind-at (λ k m. leb m 49) refl kind n e)

@@ -147,8 +147,8 @@ pub record Reaches (m : ℕ) (file : List ℕ) (at : ℕ) : Type 0 where
   pub kind-reached : at < m
   pub body-reached : (n : ℕ) → bodyLength (getD file at 0) ≡ Bytes n → at + 1 + n ≤ m
 
--- No record is longer than 26 bytes, its kind and the longest body.
-pub reaches-of-le : (m : ℕ) (file : List ℕ) (at : ℕ) → at + 26 ≤ m → Reaches m file at
+-- No record is longer than 50 bytes, its kind and the longest body.
+pub reaches-of-le : (m : ℕ) (file : List ℕ) (at : ℕ) → at + 50 ≤ m → Reaches m file at
 reaches-of-le m file at h = record { kind-reached = omega arith; body-reached = λ n known. omega (arith, bodyLength-le _ n known) }
 
 -- What they hold at the offset is what the file holds there.

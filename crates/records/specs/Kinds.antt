@@ -15,8 +15,9 @@ unfoldable pub bodyLength : ℕ → BodyLength
 bodyLength kind =
     cond (eqb kind 0x01) (Bytes 3)
     (cond (eqb kind 0x02) (Bytes 25)
+    (cond (eqb kind 0x03) (Bytes 49)
     (cond (kindFrom 0x10 0x14 kind) (Bytes 24)
     (cond (kindFrom 0x20 0x24 kind) (Bytes 24)
     (cond (eqb kind 0x30) (Bytes 24)
     (cond (eqb kind 0x40) (Bytes 9)
-    (cond (eqb kind 0xFF) (Bytes 0) Unknown))))))
+    (cond (eqb kind 0xFF) (Bytes 0) Unknown)))))))

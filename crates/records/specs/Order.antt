@@ -12,7 +12,7 @@ use Rattle.records.specs.declared.order.Part.the-variants.{Head, Row, In
 abbrev pub order : List (ℕ × ℕ)
 order =
     (0x00, 0x01)
-    ∷ (0x01, 0x02)
+    ∷ (0x01, 0x02) ∷ (0x01, 0x03)
     ∷ (0x02, 0x10) ∷ (0x02, 0x12) ∷ (0x02, 0x14)
     ∷ (0x10, 0x11)
     ∷ (0x11, 0x20) ∷ (0x11, 0x22) ∷ (0x11, 0x24) ∷ (0x11, 0x30)
@@ -39,7 +39,7 @@ mayFollow place kind = listed place kind order
 unfoldable pub partOf : ℕ → Part
 partOf kind =
     cond (leb kind 0x01) Head
-    (cond (leb kind 0x02) Row
+    (cond (leb kind 0x03) Row
     (cond (leb kind 0x14) Initial
     (cond (leb kind 0x24) Input
     (cond (leb kind 0x30) Direction

@@ -11,6 +11,7 @@ use kinds::BodyLength;
 pub use numbers::i32_at;
 pub use numbers::i64_at;
 pub use numbers::u16_at;
+pub use numbers::u64_at;
 ghost use Rattle.records.specs.Records.{RecordStep};
 
 // Routines 12. The record whose kind byte is at the offset `at`. It returns the body, which lies in the file, and leaves:

@@ -51,6 +51,13 @@ pub fn u16_at(bytes: &[u8], at: usize) -> u16
     unsigned_at(bytes, at, 2) as u16
 }
 
+// Routines 13. The number of eight bytes at the offset `at`.
+pub fn u64_at(bytes: &[u8], at: usize) -> u64
+    ensures { λ r. ⌜ r ≡ littleEndian 8 (now (bytes .entry)) at ⌝ }
+{
+    unsigned_at(bytes, at, 8)
+}
+
 // Routines 13. The signed number of four bytes at the offset `at`.
 pub fn i32_at(bytes: &[u8], at: usize) -> i32
     ensures { λ r. ⌜ r ≡ signedAt 4 (now (bytes .entry)) at ⌝ }

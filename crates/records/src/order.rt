@@ -17,9 +17,10 @@ pub enum Part {
 // rows are in.
 struct Pair(u8, u8);
 
-const ORDER: [Pair; 33] = [
+const ORDER: [Pair; 34] = [
     Pair(0x00, 0x01),
     Pair(0x01, 0x02),
+    Pair(0x01, 0x03),
     Pair(0x02, 0x10),
     Pair(0x02, 0x12),
     Pair(0x02, 0x14),
@@ -59,7 +60,7 @@ pub fn may_follow(place: u8, kind: u8) -> bool
 {
     let table = ORDER;
     let mut i: usize = 0;
-    while i < 33 {
+    while i < 34 {
         let pair = table[i];
         if pair.0 == place {
             if pair.1 == kind {
@@ -78,7 +79,7 @@ pub fn part_of(kind: u8) -> Part
     if kind <= 0x01 {
         return Part::Head;
     }
-    if kind <= 0x02 {
+    if kind <= 0x03 {
         return Part::Row;
     }
     if kind <= 0x14 {

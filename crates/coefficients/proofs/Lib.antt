@@ -1,0 +1,6 @@
+pub mod NearestEven
+pub mod Values
+pub mod Fitting
+pub mod FittedLaws
+pub mod RowLaws
+pub mod WorkedEntries

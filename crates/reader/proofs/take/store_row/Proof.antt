@@ -1,0 +1,75 @@
+-- `reader::take::store_row` meets its contract: the row's number first, then that of its entries. Assumes nothing.
+use Rattle.integers.proofs.Basics.{_≡_, refl, sym, ap, ap₂, _∙_, ℕ, _+_, ℤ, arith, needs}
+use mathlib.Core.Bool.{Bool, true, false}
+use mathlib.Core.Logic.{⊎-elim}
+use mathlib.Core.List.{List}
+use borrow.Author.Tests.{eqb-true, eq-eqb, ne-eqb, lt-ltb, le-ltb}
+use lib.Dec.{eqb}
+use Rattle.coefficients.specs.Rows.{firstOf}
+use Rattle.coefficients.specs.declared.rows.RowEntries.{RowEntries}
+use Rattle.reader.specs.declared.state.State.{State}
+use Rattle.reader.specs.Models.{setMatrix, rowPlace, putRow, stateOf, rowStored}
+use Rattle.reader.specs.Values.{unless}
+use Rattle.reader.specs.Inner.{Takes}
+use Rattle.reader.proofs.ReadingOn.{firstOf-zero}
+use Rattle.reader.proofs.take.Taking.{takenAs, takes-stopped, takes-stored}
+use Rattle.reader.proofs.take.store_row.Statement.{statement}
+use Rattle.reader.proofs.take.store_row.Tie as tie
+
+-- behind the two numbers
+module _ (c : tie.After-first-of) where
+  abbrev s : State
+  s = c .before .before .args .state
+
+  abbrev row : ℕ
+  row = c .before .before .args .row
+
+  abbrev entries : RowEntries
+  entries = c .before .before .args .entries
+
+  misplaced-is : c .before .if1 .misplaced ≡ unless (eqb row (s .rows)) 5
+  misplaced-is = ⊎-elim (λ w. rw (eq-eqb row (s .rows) (w .0 .taken)) (w .1)) (λ w. rw (ne-eqb row (s .rows) (w .0 .left)) (w .1)) (c .before .if1 .came)
+
+  number-is : c .first-of .result ≡ firstOf (unless (eqb row (s .rows)) 5) (entries .number)
+  number-is = c .first-of .ensures ∙ ap (λ (k : ℕ). firstOf k (entries .number)) misplaced-is
+
+  -- no number: the row is the next one
+  next : c .first-of .result ≡ 0 → row ≡ s .rows
+  next z = split (eqb row (s .rows)) refl (firstOf-zero (unless (eqb row (s .rows)) 5) (entries .number) (sym number-is ∙ z) .0)
+    where
+      split : (b : Bool) → eqb row (s .rows) ≡ b → unless b 5 ≡ 0 → row ≡ s .rows
+      split true e n = eqb-true row (s .rows) e
+      split false e n = absurd (omega (arith, n))
+
+returns : tie.Need-returns
+returns c = takes-stopped (number-is (c .before)) (c .if2 .taken)
+
+-- once the row is stored, whatever the place in the order
+module _ (c : tie.After-matrix3) where
+  abbrev at-number : tie.After-first-of
+  at-number = c .before .before .before .before .before .before .before .before
+
+  takes : {last : ℕ} → last ≡ rowPlace (row at-number + 1) (s at-number .model .n) → Takes (firstOf (unless (eqb (row at-number) (s at-number .rows)) 5) (entries at-number .number)) (rowStored (s at-number) (entries at-number .six)) (takenAs (stateOf last (row at-number + 1) (setMatrix (s at-number .model) (c .before .put-row .last .0))))
+  takes e =
+      let none = c .before .before .before .before .before .before .before .if2 .left in
+      takes-stored (sym (number-is at-number) ∙ none)
+      (ap₂ (λ (l : ℕ) (xs : List ℤ). takenAs (stateOf l (row at-number + 1) (setMatrix (s at-number .model) xs))) e (c .before .put-row .ensures)
+      ∙ ap (λ (k : ℕ). takenAs (stateOf (rowPlace (k + 1) (s at-number .model .n)) (k + 1) (setMatrix (s at-number .model) (putRow (s at-number .model .matrix) k (entries at-number .six))))) (next at-number none))
+
+returns-2 : tie.Need-returns-2
+returns-2 c = takes (c .before) (rw (lt-ltb _ _ (c .if3 .taken)) refl)
+
+returns-3 : tie.Need-returns-3
+returns-3 c = takes (c .before) (rw (le-ltb _ _ (c .if3 .left)) refl)
+
+pub store-row-spec : {M : Type 1} → statement M
+store-row-spec =
+    tie.close
+    (tie.spec
+    (λ c κs. search needs)
+    returns
+    (λ c. search needs)
+    (λ c κs. search needs)
+    (λ c. search needs)
+    returns-2
+    returns-3)
