@@ -1,7 +1,8 @@
-/* The C interface in use. Makes the specification's sample file (Listing 8), sweeps its direction, judges its guards, makes two
- * steps of Figures 5 and two of Figures 17, lists the sample in one call, and shows refusals: two files, a direction with growth
- * (Figures 8), calls that ask for what isn't there, and a buffer that is too small. What it writes is compared with expected.txt.
- * Returns 1 where a call is refused that should not be, or finishes that should not. */
+/* The C interface in use. Makes the specification's sample file (Listing 8), sweeps its direction, judges its guards, sweeps the
+ * same model with a fitted row, makes two steps of Figures 5 and two of Figures 17, lists the sample in one call, and shows
+ * refusals: three files, a direction with growth (Figures 8), calls that ask for what isn't there, and a buffer that is too small.
+ * What it writes is compared with expected.txt. Returns 1 where a call is refused that should not be, or finishes that should
+ * not. */
 #include "pepperscarp.h"
 
 #include <inttypes.h>
@@ -40,26 +41,48 @@ static void put_record(struct file *f, uint8_t kind, int32_t first)
     put_six(f, first);
 }
 
-/* Head, row, the boxes [low, high] of the initial and the input set, and direction 1. Without an input set its records are left
- * out, and the input is zero. */
-static struct file model(int steps, int32_t entry, const int32_t initial[2], const int32_t input[2])
+static struct file model(int steps)
 {
     struct file f;
     f.length = 0;
     put(&f, 0x01, 1);
     put(&f, 1, 1);
     put(&f, steps, 2);
-    put(&f, 0x02, 1);
-    put(&f, 0, 1);
-    put_six(&f, entry);
-    put_record(&f, 0x10, initial[0]);
-    put_record(&f, 0x11, initial[1]);
-    if (input != NULL) {
-        put_record(&f, 0x20, input[0]);
-        put_record(&f, 0x21, input[1]);
-    }
-    put_record(&f, 0x30, 1);
     return f;
+}
+
+/* The row in whole numbers of 1/65,536. */
+static void put_scaled(struct file *f, int32_t entry)
+{
+    put(f, 0x02, 1);
+    put(f, 0, 1);
+    put_six(f, entry);
+}
+
+/* The row in numbers of binary64, which a double is here. */
+static void put_fitted(struct file *f, double entry)
+{
+    int64_t bits;
+    int i;
+    memcpy(&bits, &entry, sizeof bits);
+    put(f, 0x03, 1);
+    put(f, 0, 1);
+    put(f, bits, 8);
+    for (i = 1; i < 6; i++)
+        put(f, 0, 8);
+}
+
+/* The boxes [low, high] of the initial and the input set, and direction 1. Without an input set its records are left out, and the
+ * input is zero. */
+static void put_sets(struct file *f, const int32_t initial[2], const int32_t input[2])
+{
+    put_record(f, 0x10, initial[0]);
+    put_record(f, 0x11, initial[1]);
+    if (input != NULL) {
+        put_record(f, 0x20, input[0]);
+        put_record(f, 0x21, input[1]);
+    }
+    put_record(f, 0x30, 1);
 }
 
 static void put_guard(struct file *f, int64_t level)
@@ -187,13 +210,22 @@ int main(void)
     static const int32_t halving[36] = {32};
     int64_t r[6] = {1048576};
     int64_t e[6] = {0};
-    struct file sample = model(3, 32768, none, to_one);
-    struct file growing = model(11, 131072, none, NULL);
+    struct file sample = model(3), fitted = model(3), beyond = model(3), growing = model(11);
     int64_t level;
 
+    put_scaled(&sample, 32768);
+    put_sets(&sample, none, to_one);
+    put_fitted(&fitted, 0.5);
+    put_sets(&fitted, none, to_one);
+    put_fitted(&beyond, 2.5);
+    put_sets(&beyond, none, to_one);
+    put_scaled(&growing, 131072);
+    put_sets(&growing, none, NULL);
     for (level = 1; level <= 3; level++)
         put_guard(&sample, level);
     put_end(&sample);
+    put_end(&fitted);
+    put_end(&beyond);
     put_end(&growing);
 
     printf("sample %zu bytes\n", sample.length);
@@ -201,6 +233,9 @@ int main(void)
     judge(&sample, 0, 4, PEPPERSCARP_FINISHED);
     judge(&sample, 1, 4, PEPPERSCARP_FINISHED);
     judge(&sample, 2, 4, PEPPERSCARP_FINISHED);
+
+    printf("fitted %zu bytes\n", fitted.length);
+    sweep(&fitted, fitted.length, 0, 4, PEPPERSCARP_FINISHED);
 
     step(1, fading, r, e, PEPPERSCARP_FINISHED);
     step(1, fading, r, e, PEPPERSCARP_FINISHED);
@@ -218,6 +253,7 @@ int main(void)
     memset(slacks, 255, sizeof slacks);
     sweep(&sample, 0, 0, 4, 1);
     sweep(&sample, 185, 0, 4, 1);
+    sweep(&beyond, beyond.length, 0, 4, 15);
     sweep(&sample, sample.length, 1, 4, PEPPERSCARP_NOT_THERE);
     sweep(&sample, sample.length, 0, 3, PEPPERSCARP_WRONG_LENGTH);
     judge(&sample, 3, 4, PEPPERSCARP_NOT_THERE);

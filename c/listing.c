@@ -94,7 +94,7 @@ int main(int count, char **words)
     rows = steps() + 1;
 
     answer = pepperscarp_sweep(file, length, 0, bounds, rows, slacks, rows);
-    if (1 <= PEPPERSCARP_NUMBER(answer) && PEPPERSCARP_NUMBER(answer) <= 10) {
+    if (PEPPERSCARP_FILE_REFUSED(answer)) {
         printf("refused %u at %" PRIu64 "\n", PEPPERSCARP_NUMBER(answer), PEPPERSCARP_FIGURE(answer));
         return 0;
     }

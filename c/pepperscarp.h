@@ -1,6 +1,6 @@
 /* Pepperscarp: envelopes of stepped linear models, from C and C++. docs/SPECIFICATION.md says what the figures are.
  *
- * Answers. Every call is answered, whatever the values. A refusal by step, sweep or judge has a number, 1 to 14 (the
+ * Answers. Every call is answered, whatever the values. A refusal by step, sweep or judge has a number, 1 to 15 (the
  * specification's "Refusals" says what each means), and leaves the lent memory as it was.
  *
  * Memory. Pointers must not be null, not even for a list of no elements; each must lead to as many elements as its length says;
@@ -14,8 +14,10 @@
  *
  * Linking. libpepperscarp.a is for x86-64 and the System V calling convention, in ELF: Linux, not Windows. It needs memcpy and
  * memset and nothing else: no start-up, no allocation, no system call. The stack pointer is a multiple of 16 at the call, as the
- * convention has it. The code stores nothing below the stack pointer (no red zone). It uses xmm registers (SSE2) for moves and
- * whole numbers; a kernel has to save these around a call. It does no floating-point arithmetic.
+ * convention has it. The code stores nothing below the stack pointer (no red zone). It uses xmm registers (SSE2) for moves, whole
+ * numbers and, in fitted rows, binary64 numbers; a kernel has to save these around a call. There is no other floating-point
+ * arithmetic, and neither the rounding mode nor the flushing of subnormal numbers makes a difference to what is answered.
+ * Floating-point exceptions have to be masked, as they are when a program starts: a file may hold NaNs.
  *
  * Another processor. There is no archive for one, and `rt staticlib` makes none. Either take finished tables along: list or sweep
  * the models on an x86-64 computer. Or run tools/exact.py there, which is slow, and tested and not proved. Or write the step anew
@@ -38,13 +40,17 @@ extern "C" {
 #define PEPPERSCARP_VERDICT(answer) ((unsigned)(((uint64_t)(answer) >> 8) & 255u))
 #define PEPPERSCARP_FIGURE(answer) ((uint64_t)(answer) >> 16)
 
-/* Numbers. 1 to 10 refuse the file, and the figure is the offset of the record at fault; for 10, of the first byte behind the
- * end; the file's length where no byte is left. */
+/* Numbers. 1 to 10 and 15 refuse the file, and the figure is the offset of the record at fault; for 10, of the first byte behind
+ * the end; the file's length where no byte is left. 15 is for a fitted row alone: one of its first n entries is not finite, or is
+ * beyond 2 in magnitude. */
 #define PEPPERSCARP_FINISHED 0u
 #define PEPPERSCARP_INVALID 11u      /* a step's values break a rule */
 #define PEPPERSCARP_NOT_THERE 12u    /* no such direction, or no such guard */
 #define PEPPERSCARP_WRONG_LENGTH 13u /* a list has other than K + 1 elements */
 #define PEPPERSCARP_GROWTH 14u       /* growth; the figure is the first such step */
+
+/* Whether an answer refuses the file. */
+#define PEPPERSCARP_FILE_REFUSED(answer) (PEPPERSCARP_NUMBER(answer) - 1u < 10u || PEPPERSCARP_NUMBER(answer) == 15u)
 
 /* Verdicts of a judge that finished. */
 #define PEPPERSCARP_HIT 1u     /* some run reaches the level at the step that the figure names, the first that is certain */
@@ -81,15 +87,15 @@ uint64_t pepperscarp_step(size_t n, const int32_t matrix[36], int64_t r[6], int6
  * PEPPERSCARP_STEPS_DEFAULT where they say 0.
  * Number 0: the lists have the bound and the slack of steps 0 to K, and the figure is the spare figure, 0 to 10. No run of the
  * model passes a bound, and some run comes within its slack.
- * Numbers 1 to 10: the file is refused. 12: it has no such direction. 13: a list has other than K + 1 elements. 14: growth. The
- * first that applies is answered, in this order. 11 never comes: the model of a file that is read breaks no rule. */
+ * Numbers 1 to 10 and 15: the file is refused. 12: it has no such direction. 13: a list has other than K + 1 elements. 14: growth.
+ * The first that applies is answered, in this order. 11 never comes: the model of a file that is read breaks no rule. */
 uint64_t pepperscarp_sweep(const uint8_t *file, size_t file_length, size_t direction, int64_t *bounds, size_t bounds_length,
                            int64_t *slacks, size_t slacks_length);
 
 /* The judge of one guard of a model file. Takes the guard's number from 0, the rest as for the sweep.
  * Number 0, with a verdict: HIT or UNKNOWN with its step as the figure, or CLEAR with figure 0. The lists have the sweep of the
  * guard's direction.
- * Numbers 1 to 10, 13 and 14: as for the sweep. 12: the file has no such guard. */
+ * Numbers 1 to 10 and 13 to 15: as for the sweep. 12: the file has no such guard. */
 uint64_t pepperscarp_judge(const uint8_t *file, size_t file_length, size_t guard, int64_t *bounds, size_t bounds_length,
                            int64_t *slacks, size_t slacks_length);
 

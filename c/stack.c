@@ -3,9 +3,9 @@
  * does nothing, whose need is its return address, is taken off. Everything is done with two paints, since a call may store a word
  * that looks like one of them.
  *
- * The calls: steps that are accepted and steps that are refused; the files that the arguments name; the largest models with every
- * pair of kinds of sets, and those with two of a kind cut at every length and with every third byte changed; growth; directions and
- * guards that aren't there, and lists and buffers of a wrong length.
+ * The calls: steps that are accepted and steps that are refused; the files that the arguments name; the largest models with scaled
+ * and with fitted rows and every pair of kinds of sets, and those with two of a kind cut at every length and with every third byte
+ * changed; growth; directions and guards that aren't there, and lists and buffers of a wrong length.
  *
  * What is measured is how far the stack pointer went: each deepest path ends in a function that pushes registers.
  * Returns 1 where a need is above its figure, or a figure above twice the need, or a call isn't answered as it should be. */
@@ -262,21 +262,27 @@ static void put_set(struct model *m, int first_kind, int set)
 }
 
 #define NO_INPUT 3
+#define SCALED 0x02
+#define FITTED 0x03
 
-/* The largest model: 6 coordinates, 256 steps, 16 directions, 16 guards. An input set of NO_INPUT has no records. */
-static struct model largest(int32_t entry, int initial, int input)
+/* The largest model: 6 coordinates, 256 steps, 16 directions, 16 guards. Its rows are of this kind, and all entries are the same.
+ * An input set of NO_INPUT has no records. */
+static struct model largest(int kind, int32_t entry, int initial, int input)
 {
     struct model m;
+    double factor = entry / 65536.0;
+    int64_t bits;
     int i, k;
+    memcpy(&bits, &factor, sizeof bits);
     m.length = 0;
     put(&m, 0x01, 1);
     put(&m, 6, 1);
     put(&m, PEPPERSCARP_STEPS_MOST, 2);
     for (i = 0; i < 6; i++) {
-        put(&m, 0x02, 1);
+        put(&m, kind, 1);
         put(&m, i, 1);
         for (k = 0; k < 6; k++)
-            put(&m, entry, 4);
+            put(&m, kind == FITTED ? bits : entry, kind == FITTED ? 8 : 4);
     }
     put_set(&m, 0x10, initial);
     if (input != NO_INPUT)
@@ -292,14 +298,14 @@ static struct model largest(int32_t entry, int initial, int input)
     return m;
 }
 
-static void models(void)
+static void models(int kind)
 {
     int initial, input;
     size_t i;
     struct model m, changed;
     for (initial = 0; initial < 3; initial++)
         for (input = 0; input <= NO_INPUT; input++) {
-            m = largest(10000, initial, input);
+            m = largest(kind, 10000, initial, input);
             if (all_calls(m.bytes, m.length) != PEPPERSCARP_FINISHED)
                 wrong = 1;
             for (i = 0; initial == input && i < m.length; i++) {
@@ -311,7 +317,7 @@ static void models(void)
                 changed.bytes[i] = (uint8_t)~changed.bytes[i];
                 plain_calls(changed.bytes, changed.length);
             }
-            m = largest(131072, initial, input);
+            m = largest(kind, 131072, initial, input);
             if (all_calls(m.bytes, m.length) != PEPPERSCARP_GROWTH)
                 wrong = 1;
         }
@@ -333,7 +339,7 @@ int main(int count, char **words)
     static const size_t figures[FUNCTIONS] = {PEPPERSCARP_STEP_STACK, PEPPERSCARP_SWEEP_STACK, PEPPERSCARP_JUDGE_STACK,
                                               PEPPERSCARP_LISTING_STACK};
     static uint8_t read[4096];
-    struct model m = largest(10000, 0, 0);
+    struct model m = largest(SCALED, 10000, 0, 0);
     FILE *in;
     size_t got;
     int i;
@@ -342,7 +348,8 @@ int main(int count, char **words)
     pepperscarp_listing(m.bytes, m.length, text, sizeof text);
     measure_idle();
     steps();
-    models();
+    models(SCALED);
+    models(FITTED);
     for (i = 1; i < count; i++) {
         in = fopen(words[i], "rb");
         if (in == NULL) {

@@ -16,6 +16,7 @@ import os
 import random
 import re
 import socket
+import struct
 import subprocess
 import sys
 import tempfile
@@ -40,8 +41,8 @@ import listings  # noqa: E402
 import models  # noqa: E402
 import readerfiles  # noqa: E402
 from layout import (  # noqa: E402
-    BOX, MAX_DIRECTION_ENTRY, MAX_DIRECTIONS, MAX_GUARDS, MAX_N, MAX_POINTS, MAX_REACH, MAX_STEPS,
-    MIN_POINTS, VERTICES, ZONOTOPE, Model, Set, Vector, encode, zero_box,
+    BOX, LONGEST_FILE, MAX_DIRECTION_ENTRY, MAX_DIRECTIONS, MAX_GUARDS, MAX_N, MAX_POINTS,
+    MAX_REACH, MAX_STEPS, MIN_POINTS, VERTICES, ZONOTOPE, Model, Set, Vector, encode, zero_box,
 )
 
 
@@ -125,7 +126,7 @@ class Text(unittest.TestCase):
                 )
                 self.assertEqual(none, said, path.name)
                 replies.add(none.split(b"\n")[0].split(b" at ")[0])
-        refused = {f"refused {number}".encode() for number in range(1, 11)}
+        refused = {f"refused {number}".encode() for number in (*range(1, 11), 15)}
         self.assertLessEqual({b"model 1 120", b"model 6 120", *refused}, replies)
 
     def test_every_other_head_says_its_own_steps(self) -> None:
@@ -236,6 +237,17 @@ class Text(unittest.TestCase):
         refused = {f"refused {number}" for number in (1, 3, 7, 8, 9, 10)}
         self.assertLessEqual({"model 1 1", "model 1 120", "model 6 256", *refused}, replies)
 
+    def test_the_longest_file_is_listed_and_a_byte_more_is_refused(self) -> None:
+        vertices = Set(VERTICES, tuple((k,) * MAX_N for k in range(16)))
+        directions = tuple((d + 1,) * MAX_N for d in range(MAX_DIRECTIONS))
+        guards = tuple((d, 1_000) for d in range(MAX_GUARDS))
+        matrix = ((9_000, -9_000) * 3,) * MAX_N
+        model = Model(MAX_N, MAX_STEPS, matrix, vertices, vertices, directions, guards)
+        data = encode(model, fitted_rows=readerfiles.fitted_rows(model))
+        self.assertEqual(len(data), LONGEST_FILE)
+        self.assertEqual(reply(data).decode(), exact.listing(encode(model)))
+        self.assertEqual(reply(data + b"\xff"), b"refused 10 at 1665\n")
+
     def test_an_empty_file_is_refused_by_1_at_0(self) -> None:
         self.assertEqual(reply(b""), b"refused 1 at 0\n")
 
@@ -245,6 +257,67 @@ class Text(unittest.TestCase):
     def test_what_lies_behind_2048_bytes_makes_no_difference(self) -> None:
         self.assertEqual(reply(SAMPLE + bytes(4000)), b"refused 10 at 186\n")
         self.assertEqual(reply((SAMPLE + bytes(4000))[:2048]), b"refused 10 at 186\n")
+
+
+class Fitted(unittest.TestCase):
+    """Fitted rows by their bytes. `rounding.py` tries what very many entries become."""
+
+    def file(self, *rows: str) -> bytes:
+        """A model with these rows, in hexadecimal; its vertex is 65,536 in every coordinate."""
+        n = len(rows)
+        vertex = struct.pack("<B6i", 0x14, *[65_536] * n, *[0] * (6 - n))
+        asked = (struct.pack("<B6i", 0x30, *(int(i == p) for i in range(6))) for p in range(n))
+        head = bytes([1, n, 1, 0])
+        return b"".join([head, *map(bytes.fromhex, rows), vertex, *asked, b"\xff"])
+
+    def sums(self, *rows: str) -> list[int]:
+        """The sum of the entries of each row, which is the bound of step 1."""
+        told = listings.parse(reply(self.file(*rows)).decode())
+        self.assertEqual({swept.slacks for swept in told.directions}, {(0, 0)})
+        return [swept.bounds[1] for swept in told.directions]
+
+    REST = "00" * 40
+    NAN = "000000000000F87F"
+    TWO, MORE = "0000000000000040", "0100000000000040"
+
+    def test_figures_23(self) -> None:
+        for bits, entry in (
+            ("000000000000F83E", 2), ("000000000000043F", 2),  # 1.5 and 2.5 over 65,536
+            ("000000000000F8BE", -2), ("00000000000004BF", -2),
+            (self.TWO, 131_072), ("00000000000000C0", -131_072),
+            ("0100000000000000", 0), ("0100000000000080", 0), ("0000000000000080", 0),
+        ):
+            self.assertEqual(self.sums(f"03 00 {bits} {self.REST}"), [entry], bits)
+        for bits in (self.MORE, "01000000000000C0"):
+            self.assertEqual(reply(self.file(f"03 00 {bits} {self.REST}")), b"refused 15 at 4\n")
+
+    def test_scaled_and_fitted_rows_in_every_mixture(self) -> None:
+        # Row i has i + 1 in its last column; fitted, it is 0.25 less, so rounding makes it whole.
+        for kinds in itertools.product((2, 3), repeat=3):
+            rows = []
+            for i, kind in enumerate(kinds):
+                entry = (i + 1).to_bytes(4, "little").hex()
+                bits = struct.pack("<d", (i + 0.75) / 65_536).hex()
+                last = entry + "00" * 12 if kind == 2 else bits + "00" * 24
+                rows.append(f"0{kind} 0{i} {'00' * (8 if kind == 2 else 16)} {last}")
+            self.assertEqual(self.sums(*rows), [1, 2, 3])
+
+    def test_bits_beyond_n_are_not_looked_at(self) -> None:
+        self.assertEqual(self.sums(f"03 00 {self.TWO} {'FF' * 40}"), [131_072])
+        self.assertEqual(self.sums(f"03 00 {self.TWO} {self.NAN * 5}"), [131_072])
+
+    def test_body_then_number_then_entries(self) -> None:
+        start = bytes([1, 1, 1, 0])
+        wrong = bytes.fromhex(f"03 01 {self.NAN} {self.REST}")
+        for length in (1, 2, 10, 26, 49):
+            self.assertEqual(reply(start + wrong[:length]), b"refused 1 at 4\n")
+        self.assertEqual(reply(start + wrong), b"refused 5 at 4\n")
+        self.assertEqual(reply(start + b"\x03\0" + wrong[2:]), b"refused 15 at 4\n")
+        self.assertEqual(reply(self.file(f"02 00 {'00' * 24}", f"03 02 {self.NAN} {self.REST}")),
+                         b"refused 5 at 30\n")
+        self.assertEqual(reply(self.file(f"02 00 {'00' * 24}", f"03 01 {self.NAN} {self.REST}")),
+                         b"refused 15 at 30\n")
+        self.assertEqual(reply(wrong), b"refused 3 at 0\n")
 
 
 class OnePointMore(unittest.TestCase):

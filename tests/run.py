@@ -278,7 +278,8 @@ class Words(Clone):
             self.assertEqual((done.returncode, done.stderr), (0, b""))
             for part in (b"usage: ./run [--quiet] MODEL", b"--version", b"tools/pack.py", b"  0  ", b"  1  ", b"  2  "):
                 self.assertIn(part, done.stdout)
-            self.assertRegex(done.stdout, rb"rounded \(~\) .* no input set, where it has none;[^.]*--quiet")
+            told = rb"rounded \(~[^)]*\) .* no input set, where it has none;[^.]*--quiet"
+            self.assertRegex(done.stdout, told)
 
     def test_the_examples_of_help_work(self) -> None:
         (self.clone / "examples").symlink_to(EXAMPLES)
@@ -318,6 +319,24 @@ class Words(Clone):
         self.assertRegex(done.stderr, rb"^\S*: \d+ entries were rounded .*\n\S*: no input set: .*\n$")
         self.assert_done(self.run_on("--quiet", text), 0, listing, b"")
         self.assert_done(self.run_on(EXAMPLES / "cooling.bin"), 0, listing, b"")
+
+    def test_the_example_with_fitted_rows_is_listed(self) -> None:
+        text, listing = EXAMPLES / "fitted.model", (EXAMPLES / "fitted.listing").read_bytes()
+        done = self.run_on(text)
+        self.assert_done(done, 0, listing)
+        note = rb"^\S*fitted\.model: 6 entries were rounded \(fitted\); .*\n$"
+        self.assertRegex(done.stderr, note)
+        self.assert_done(self.run_on("--quiet", text), 0, listing, b"")
+        self.assert_done(self.run_on(EXAMPLES / "fitted.bin"), 0, listing, b"")
+
+    def test_why_a_fitted_row_is_refused_is_told_in_words(self) -> None:
+        # The first entry of the example's first row, at offset 6, becomes infinite.
+        data = (EXAMPLES / "fitted.bin").read_bytes()
+        infinite = data[:6] + (0x7FF << 52).to_bytes(8, "little") + data[14:]
+        done = self.run_on("-", data=infinite)
+        self.assert_done(done, 1, b"refused 15 at 4\n")
+        told = rb"fitted row 0 \(the first\): entry inf in column 0 .* from -2 to 2\n$"
+        self.assertRegex(done.stderr, told)
 
     def test_the_version_is_that_of_the_bindings(self) -> None:
         (version,) = re.findall(rb'^version = "(.*)"$', (ROOT / "rust" / "Cargo.toml").read_bytes(), re.MULTILINE)

@@ -38,6 +38,7 @@ MAX_SPARE = 10  # Recurrence 9
 READ_LIMIT = 2_048  # Reading 4
 LONGEST_FILE = 1_665  # File 9
 HEAD, ROW, FITTED, DIRECTION, GUARD, END = 0x01, 0x02, 0x03, 0x30, 0x40, 0xFF  # File 3
+ROW_KINDS = (ROW, FITTED)
 INITIAL, INPUT = 0x10, 0x20  # the kinds of a set's points are one of these plus one of the next
 LOWER, UPPER, CENTRE, GENERATOR, VERTEX = 0, 1, 2, 3, 4
 BODY_LENGTHS = {
@@ -103,6 +104,11 @@ def fitted(number: int, patterns: Sequence[int]) -> bytes:
 def pattern(value: float) -> int:
     """The 64 bits of a number of binary64."""
     return int.from_bytes(struct.pack("<d", value), "little")
+
+
+def float_of(bits: int) -> float:
+    """The number of binary64 that has these 64 bits."""
+    return struct.unpack("<d", bits.to_bytes(8, "little"))[0]
 
 
 def point(kind: int, entries: Sequence[int]) -> bytes:

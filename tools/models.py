@@ -1,9 +1,9 @@
 #!/usr/bin/env python3
 """Random models and files, the same for the same seed.
 
-In order: the parts of an accepted model; guards near the model's own bounds; values beyond a
-limit; damaged files; points for tests that build a set point by point. Most models have few steps
-and directions, so that checking them is quick.
+In order: the parts of an accepted model; guards near the model's own bounds; fitted rows that
+become those of the model; values beyond a limit; damaged files; points for tests that build a set
+point by point. Most models have few steps and directions, so that checking them is quick.
 
     models.py SEED NUMBER    write file NUMBER of that seed to standard output
 """
@@ -20,14 +20,26 @@ from typing import Iterator
 import exact
 import files
 from layout import (
-    BODY_LENGTHS, BOX, DIRECTION, END, GUARD, HEAD, INITIAL, INPUT, LONGEST_FILE, MATRIX_UNIT,
-    MAX_DIRECTION_ENTRY, MAX_DIRECTIONS, MAX_ENTRY, MAX_GUARDS, MAX_LEVEL, MAX_N, MAX_POINTS,
-    MAX_REACH, MAX_STEPS, MIN_LEVEL, READ_LIMIT, ROW, VERTICES, ZONOTOPE, Model, Set, Vector, guard,
-    head, zero_box, point, records,
+    BODY_LENGTHS, BOX, DIRECTION, END, FITTED, GUARD, HEAD, INITIAL, INPUT, LONGEST_FILE,
+    MATRIX_UNIT, MAX_DIRECTION_ENTRY, MAX_DIRECTIONS, MAX_ENTRY, MAX_GUARDS, MAX_LEVEL, MAX_N,
+    MAX_POINTS, MAX_REACH, MAX_STEPS, MIN_LEVEL, READ_LIMIT, ROW, ROW_KINDS, VERTICES, ZONOTOPE,
+    Model, Set, Vector, guard, head, zero_box, pattern, point, records,
 )
 from listings import Growth
 
 I32_EXTREMES = (-(2**31), 2**31 - 1)
+SIGN = 1 << 63  # of 64 bits
+# Numbers of 64 bits that no fitted row may hold (Refusals 15), here without their sign.
+NO_ENTRIES = {
+    "the next above 2": pattern(2.0) + 1,
+    "4": pattern(4.0),
+    "the largest": 0x7FEF_FFFF_FFFF_FFFF,
+    "infinity": 0x7FF0_0000_0000_0000,
+    "the first signalling NaN": 0x7FF0_0000_0000_0001,
+    "the last signalling NaN": 0x7FF7_FFFF_FFFF_FFFF,
+    "the first quiet NaN": 0x7FF8_0000_0000_0000,
+    "the last quiet NaN": 0x7FFF_FFFF_FFFF_FFFF,
+}
 
 # Matrix entry, direction entry and step at which two sums lie on two sides of the growth limit, or
 # of that limit halved several times, where the spare figure changes.
@@ -209,10 +221,40 @@ def _guards(rng: random.Random, model: Model) -> tuple[tuple[int, int], ...]:
 # Files of accepted models
 
 
+def becoming(rng: random.Random, entry: int) -> int:
+    """The 64 bits of a fitted value that becomes this entry: at it, near it, at a tie or beside."""
+    if entry == 0 and rng.random() < 0.4:
+        tiny = (0, 0, 1, 2**52 - 1, 2**52, rng.getrandbits(52), rng.randrange(pattern(2.0**-17)))
+        return rng.choice(tiny) | rng.choice((0, SIGN))
+    side = rng.choice((1, -1))
+    if abs(entry) == MAX_ENTRY:
+        side = -1 if entry > 0 else 1
+    how = rng.choice(("at", "near", "near", "tie", "beside"))
+    if how == "at":
+        return pattern(entry / MATRIX_UNIT)
+    if how == "near":
+        return pattern((entry + side * rng.uniform(0, 0.4999)) / MATRIX_UNIT)
+    tie = (entry + side * 0.5) / MATRIX_UNIT
+    if how == "tie" and entry % 2 == 0:
+        return pattern(tie)
+    # One bit nearer to the entry, which is toward 0 where tie and side have the same sign.
+    return pattern(tie) + (-1 if tie * side > 0 else 1)
+
+
+def _fitted_rows(rng: random.Random, model: Model) -> dict[int, Vector]:
+    """Fitted rows that become those of the model: none in half of the models, some or all."""
+    share = rng.choice((0, 0, 0.5, 1))
+    return {
+        number: tuple(becoming(rng, entry) for entry in entries)
+        for number, entries in enumerate(model.matrix)
+        if rng.random() < share
+    }
+
+
 def _records(rng: random.Random, model: Model, stated_steps: int | None = None) -> list[bytes]:
     """The records of a model, most of the time without those of an input set that is zero."""
     left_out = model.input == zero_box(model.n) and rng.random() < 0.8
-    return records(model, stated_steps, input_stated=not left_out)
+    return records(model, stated_steps, not left_out, _fitted_rows(rng, model))
 
 
 def _stated(rng: random.Random, model: Model) -> list[bytes]:
@@ -229,20 +271,31 @@ def _put(record: bytes, offset: int, form: str, value: int) -> bytes:
     return bytes(data)
 
 
-def _first_entry(record: bytes) -> int | None:
-    """The offset of the first of six entries in a record that has them, told by its length."""
-    return {1 + BODY_LENGTHS[ROW]: 2, 1 + BODY_LENGTHS[DIRECTION]: 1}.get(len(record))
+def _entries(record: bytes) -> list[int]:
+    """The offsets of the six entries in a record that has them, told by its length."""
+    lengths = {1 + BODY_LENGTHS[kind]: kind for kind in (ROW, FITTED, DIRECTION)}
+    kind = lengths.get(len(record))
+    if kind is None:
+        return []
+    first, size = (1 if kind == DIRECTION else 2), (8 if kind == FITTED else 4)
+    return [first + size * i for i in range(MAX_N)]
+
+
+def _no_entry(rng: random.Random) -> int:
+    """The 64 bits of what is no fitted entry, of either sign."""
+    return rng.choice(list(NO_ENTRIES.values())) | rng.choice((0, SIGN))
 
 
 def _with_rubbish(rng: random.Random, parts: list[bytes], n: int) -> list[bytes]:
     """The records with any numbers in the entries beyond n, which the reader ignores."""
     result = []
     for record in parts:
-        first = _first_entry(record)
-        if first is not None:
-            for i in range(n, MAX_N):
+        for at in _entries(record)[n:]:
+            if len(record) == 1 + BODY_LENGTHS[FITTED]:
+                record = _put(record, at, "Q", rng.choice((_no_entry(rng), rng.getrandbits(64))))
+            else:
                 value = rng.choice((*I32_EXTREMES, rng.randint(*I32_EXTREMES)))
-                record = _put(record, first + 4 * i, "i", value)
+                record = _put(record, at, "i", value)
         result.append(record)
     return result
 
@@ -255,24 +308,33 @@ def _around(limit: int) -> tuple[int, ...]:
 
 
 def _strained(rng: random.Random, model: Model) -> list[bytes]:
-    """The records of a model with one value at its limit, beyond it by one, or far beyond."""
+    """The records of a model with one value at its limit, beyond it by one, or far beyond.
+
+    Of a fitted row an entry and the number may both be wrong.
+    """
     parts = _records(rng, model)
-    index = rng.choice((0, rng.randrange(len(parts) - 1), rng.randrange(len(parts) - 1)))
+    fitted = [i for i, record in enumerate(parts) if record[0] == FITTED]
+    anywhere = range(len(parts) - 1)
+    index = rng.choice((0, *rng.choices(anywhere, k=2), *rng.choices(fitted or anywhere, k=2)))
     record = parts[index]
-    kind, first = record[0], _first_entry(record)
-    entry = None if first is None else first + 4 * rng.randrange(model.n)
+    kind = record[0]
+    at = rng.choice(_entries(record)[: model.n] or [0])
+    if kind == FITTED and rng.random() < 0.9:
+        two = pattern(2.0) | rng.choice((0, SIGN))
+        bits = rng.choice((two, two - 1, rng.getrandbits(64), *(_no_entry(rng) for _ in range(4))))
+        parts[index] = record = _put(record, at, "Q", bits)
     if kind == HEAD:
         n = rng.choice((0, 1, MAX_N, MAX_N + 1, 255, model.n))
         parts[0] = head(n, rng.choice((0, 1, MAX_STEPS, MAX_STEPS + 1, 2**16 - 1, 3)))
     elif kind == GUARD:
         parts[index] = _put(record, 1, "B", rng.choice((len(model.directions), 255, 0)))
-    elif kind == ROW and rng.random() < 0.3:
+    elif kind in ROW_KINDS and rng.random() < 0.3:
         parts[index] = _put(record, 1, "B", rng.choice((record[1] + 1, record[1] - 1 & 255, 255)))
     elif kind == DIRECTION and rng.random() < 0.3:
         parts[index] = point(kind, ())
-    else:
+    elif kind != FITTED:
         limit = {ROW: MAX_ENTRY, DIRECTION: MAX_DIRECTION_ENTRY}.get(kind, MAX_REACH)
-        parts[index] = _put(record, entry, "i", rng.choice(_around(limit)))
+        parts[index] = _put(record, at, "i", rng.choice(_around(limit)))
     return parts
 
 

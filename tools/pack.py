@@ -11,6 +11,7 @@ A text has one statement in a row, and `#` starts a comment:
     time NUMBER UNIT              how long a step takes, as in `time 1.25 ms`; may be left out
     row [NAME] ENTRY ..           a row of the matrix, in the order of the coordinates
     scaled [NAME] ENTRY ..        the same, in whole numbers of 1/65,536
+    fitted [NAME] ENTRY ..        the same, in numbers of binary64, as a fitting tool exports them
     initial FORM                  the initial set; FORM is box, zonotope or vertices, and below it:
       lower .., upper ..          the two corners of a box
       centre .., generator ..     the centre of a zonotope and its 1 to 8 generators
@@ -23,13 +24,16 @@ A text has one statement in a row, and `#` starts a comment:
 
 An ENTRY of a `row` is a decimal from -2 to 2. It must be a multiple of 1/65,536, as 0.5 is;
 `~0.97` stands for the nearest multiple (of two equally near the even one), so that all rounding
-shows in the text. `pack` says on standard error how much was rounded, and that there is no input
-set where there is none, unless it is to be quiet. Points and levels are whole counts. What the
-reader would refuse is refused here: all mistakes, up to twenty, are told with the text's name, or
-NAME, and the row.
+shows in the text. An ENTRY of a `fitted` row, from -2 to 2 as well, is a decimal of any length, as
+0.97 or -9.7e-3, or a hexadecimal float, as -0x1.8p-3. The file has the nearest number of binary64,
+bit by bit, and the reader rounds that one to the nearest multiple, in the same way and without a
+`~`. `pack` says on standard error how much was rounded, and that there is no input set where there
+is none, unless it is to be quiet. Points and levels are whole counts. What the reader would refuse
+is refused here: all mistakes, up to twenty, are told with the text's name, or NAME, and the row.
 
 A file has no names, units or time. Unpacked, its coordinates are x0, x1, .. and its directions d0,
-d1, .., or all of these are those of the text that `--names` gives.
+d1, .., or all of these are those of the text that `--names` gives. Fitted rows stay so: each entry
+is the shortest decimal that gives its 64 bits again.
 """
 
 from __future__ import annotations
@@ -39,14 +43,14 @@ import dataclasses
 import math
 import sys
 from fractions import Fraction
-from typing import Sequence
+from typing import Iterable
 
 import exact
 import files
 import refusal
-from layout import DEFAULT_STEPS, HEAD, MAX_N, ROW, states_input
+from layout import DEFAULT_STEPS, HEAD, MAX_N, ROW_KINDS, fitted_rows_of, states_input
 from listings import Refusal
-from spelling import decimal_text
+from spelling import decimal_text, float_text
 from textform import POINT_WORDS, Source, parse
 
 
@@ -62,12 +66,14 @@ def read_source(data: bytes, name: str = "file") -> Source:
         tuple(f"x{i}" for i in range(model.n)),
         tuple(f"d{i}" for i in range(len(model.directions))),
         (None,) * len(model.directions),
+        fitted=fitted_rows_of(data, model.n),
     )
 
 
 def looks_packed(data: bytes) -> bool:
     """Whether bytes are those of a packed model, whose first byte may be wrong."""
-    return data[:1] == bytes([HEAD]) or (data[4:5] == bytes([ROW]) and 1 <= data[1] <= MAX_N)
+    starts = len(data) > 4 and data[4] in ROW_KINDS and 1 <= data[1] <= MAX_N
+    return data[:1] == bytes([HEAD]) or starts
 
 
 def starts_as_text(data: bytes) -> bool:
@@ -109,7 +115,7 @@ def renamed(source: Source, by: Source, name: str, by_name: str) -> Source:
 def write_text(source: Source) -> str:
     """A text of a model; packed again it gives the same file."""
 
-    def statement(word: str, entries: Sequence[int]) -> str:
+    def statement(word: str, entries: Iterable[object]) -> str:
         return " ".join([word, *map(str, entries)])
 
     model, names = source.model, source.coordinates
@@ -120,8 +126,11 @@ def write_text(source: Source) -> str:
     if source.time is not None:
         rows.append(f"time {decimal_text(source.time[0])} {source.time[1]}")
     rows.append("")
-    for name, entries in zip(names, model.matrix):
-        rows.append(statement("scaled" if made_up else f"scaled {name}", entries))
+    for number, (name, entries) in enumerate(zip(names, model.matrix)):
+        fitted = source.fitted.get(number)
+        word = "scaled" if fitted is None else "fitted"
+        written = entries if fitted is None else map(float_text, fitted)
+        rows.append(statement(word if made_up else f"{word} {name}", written))
     inputs = [("input", model.input)] if source.input_stated else []
     for which, set_ in [("initial", model.initial), *inputs]:
         rows += ["", f"{which} {set_.form}"]
@@ -155,11 +164,14 @@ def rounding(source: Source) -> str | None:
         return None
     count = len(source.rounded)
     told = "1 entry was" if count == 1 else f"{count} entries were"
+    marked = [entry.word.startswith("~") for entry in source.rounded]
+    how = " and ".join(["~"] * any(marked) + ["fitted"] * (not all(marked)))
     most = max(source.rounded, key=lambda entry: entry.change)
     of = f"{most.word} in row {most.row!r}"
+    told += f" rounded ({how}); the largest relative change is"
     if most.change == 1:
-        return f"{told} rounded (~); the largest relative change is 100 %: {of} becomes 0"
-    return f"{told} rounded (~); the largest relative change is {percent(most.change)}, of {of}"
+        return f"{told} 100 %: {of} becomes 0"
+    return f"{told} {percent(most.change)}, of {of}"
 
 
 def notes(source: Source) -> list[str]:

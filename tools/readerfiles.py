@@ -19,13 +19,14 @@ from typing import Iterator
 import exact
 import files
 from layout import (
-    BODY_LENGTHS, BOX, CENTRE, DEFAULT_STEPS, DIRECTION, END, GENERATOR, GUARD, HEAD, INITIAL,
-    INPUT, LOWER, MAX_DIRECTION_ENTRY, MAX_DIRECTIONS, MAX_ENTRY, MAX_GUARDS, MAX_LEVEL, MAX_N,
-    MAX_POINTS, MAX_REACH, MAX_STEPS, MIN_POINTS, MIN_LEVEL, POINT_KINDS, READ_LIMIT, ROW, UPPER,
-    VERTEX, VERTICES, ZONOTOPE, Model, Set, direction, encode, guard, head, zero_box, offsets,
-    point, records, row, set_records,
+    BODY_LENGTHS, BOX, CENTRE, DEFAULT_STEPS, DIRECTION, END, FITTED, GENERATOR, GUARD, HEAD,
+    INITIAL, INPUT, LOWER, MATRIX_UNIT, MAX_DIRECTION_ENTRY, MAX_DIRECTIONS, MAX_ENTRY, MAX_GUARDS,
+    MAX_LEVEL, MAX_N, MAX_POINTS, MAX_REACH, MAX_STEPS, MIN_POINTS, MIN_LEVEL, POINT_KINDS,
+    READ_LIMIT, ROW, ROW_KINDS, UPPER, VERTEX, VERTICES, ZONOTOPE, Model, Set, direction, encode,
+    fitted, guard, head, zero_box, offsets, pattern, point, records, row, set_records,
 )
 from listings import Refusal
+from models import NO_ENTRIES, SIGN
 
 File = tuple[str, bytes]  # what it is, and its bytes
 
@@ -70,6 +71,8 @@ ROWS = head(2, 3) + row(0, [32_768, 1]) + row(1, [0, 16_384])
 ASKED = direction([1, -1])
 # For the entries beyond n, where n is 1.
 RUBBISH = [2**31 - 1, -(2**31), 1, -1, 0x01020304]
+HALF = pattern(0.5)
+NAN = NO_ENTRIES["the first quiet NaN"]
 
 
 def places() -> dict[int, bytes]:
@@ -85,6 +88,11 @@ def places() -> dict[int, bytes]:
     found[DIRECTION] = found[INPUT + UPPER] + direction([1])
     found[GUARD] = found[DIRECTION] + guard(0, 2)
     return found
+
+
+def behind(place: int) -> str:
+    """Where the next record of a start stands, in words."""
+    return f"after {place:02X}" if place else "at the start"
 
 
 def with_zero_corners(data: bytes) -> tuple[int, bytes] | None:
@@ -134,15 +142,15 @@ def accepted_files() -> Iterator[File]:
 
 
 def order_files() -> Iterator[File]:
-    """Numbers 1, 2 and 3 at every place, each kind as its kind byte alone."""
-    unknown = (0x00, 0x03, 0x15, 0x25, 0x31, 0x41, 0xFE)
+    """Numbers 1, 2 and 3 at every place, each kind but that of fitted rows by its byte alone."""
+    unknown = (0x00, 0x04, 0x15, 0x25, 0x31, 0x41, 0xFE)
+    known = [kind for kind in BODY_LENGTHS if kind != FITTED]
     for index, (place, start) in enumerate(places().items()):
-        behind = f"after {place:02X}" if place else "at the start"
         if place:
             yield f"{place:02X} without its last byte", start[:-1]
-        yield f"{behind}: no byte", start
-        for kind in (unknown[index % len(unknown)], *BODY_LENGTHS):
-            yield f"{behind}: kind {kind:02X} alone", start + bytes([kind])
+        yield f"{behind(place)}: no byte", start
+        for kind in (unknown[index % len(unknown)], *known):
+            yield f"{behind(place)}: kind {kind:02X} alone", start + bytes([kind])
     yield "after all rows: row n + 1", places()[ROW] + row(1, [0])
     yield "after 11: a second upper corner", places()[INITIAL + UPPER] + point(INITIAL + UPPER, [9])
     yield "a whole model after a head", head(1, 3) + encode(SAMPLE)
@@ -311,11 +319,117 @@ def no_input_files() -> Iterator[File]:
     yield "no input set: the longest file, then a byte", longest + b"\0"
 
 
+def fitted_rows(model: Model) -> dict[int, list[int]]:
+    """Fitted rows that become those of a model, each entry a quarter of 1/65,536 above its own."""
+    return {
+        number: [pattern((entry + 0.25) / MATRIX_UNIT) for entry in entries]
+        for number, entries in enumerate(model.matrix)
+    }
+
+
+def fitted_place_files() -> Iterator[File]:
+    """Kind 03 at every place, and every kind behind a fitted row, each by its byte alone."""
+    for place, start in places().items():
+        yield f"{behind(place)}: kind 03 alone", start + bytes([FITTED])
+    rows = head(1, 3) + fitted(0, [HALF])
+    yield "03 without its last byte", rows[:-1]
+    yield "after 03: no byte", rows
+    for kind in (0x00, *BODY_LENGTHS):
+        yield f"after 03: kind {kind:02X} alone", rows + bytes([kind])
+    for first in (row(0, [0, 0]), fitted(0, [0, 0])):
+        for kind in (*ROW_KINDS, INITIAL + LOWER, DIRECTION, END):
+            what = f"after {first[0]:02X} of 2 rows: kind {kind:02X}"
+            yield what, head(2, 3) + first + bytes([kind])
+    yield "a fitted row before the head", fitted(0, [HALF]) + encode(SAMPLE)
+    yield "after all rows: fitted row n + 1", places()[ROW] + fitted(1, [HALF])
+    yield "after all fitted rows: row n + 1", rows + row(1, [0])
+    yield "after all fitted rows: fitted row n + 1", rows + fitted(1, [HALF])
+
+
+def mixed_files() -> Iterator[File]:
+    """Scaled and fitted rows in every mixture of three, each n, and any bits beyond n."""
+    model = made_model(BOX, n=3)
+    for kinds in itertools.product(ROW_KINDS, repeat=3):
+        chosen = {i: bits for i, bits in fitted_rows(model).items() if kinds[i] == FITTED}
+        told = " ".join(f"{kind:02X}" for kind in kinds)
+        yield f"rows {told}", encode(model, fitted_rows=chosen)
+    for n in range(1, MAX_N + 1):
+        whole = made_model(FORMS[n % 3], n)
+        yield f"fitted rows, n {n}", encode(whole, fitted_rows=fitted_rows(whole))
+    rubbish = [bits | sign for bits in NO_ENTRIES.values() for sign in (0, SIGN)]
+    for n in range(1, MAX_N):
+        some = rubbish[n:] + rubbish[:n]
+        rows = {i: bits + some[: MAX_N - n] for i, bits in fitted_rows(made_model(BOX, n)).items()}
+        yield f"fitted rows, any bits beyond n {n}", encode(made_model(BOX, n), fitted_rows=rows)
+
+
+def fitted_value_files() -> Iterator[File]:
+    """Entries and numbers of fitted rows: 15, and 1 and 5 before it."""
+    signs = {"": 0, "minus ": SIGN}
+    for (sign, bit), (what, bits) in itertools.product(signs.items(), NO_ENTRIES.items()):
+        yield f"fitted entry: {sign}{what}", encode(SAMPLE, fitted_rows={0: [bits | bit]})
+    wrong = itertools.cycle(bits | bit for bits in NO_ENTRIES.values() for bit in signs.values())
+    for n in (2, 3, MAX_N):
+        for i in range(n):
+            model = made_model(VERTICES, n)
+            rows = fitted_rows(model)
+            rows[n - 1][i] = next(wrong)
+            yield f"wrong fitted entry {i} of {n}", encode(model, fitted_rows=rows)
+
+    ties = [pattern((k + 0.5) / MATRIX_UNIT) for k in (0, 1, 2, 3, MAX_ENTRY - 2, MAX_ENTRY - 1)]
+    two, normal = pattern(2.0), 2**52
+    right = {
+        "2, the next below it, 1": [two, two - 1, pattern(1.0)],
+        "0, the smallest, the next": [0, 1, 2],
+        "the largest below the normal ones, the smallest normal one": [normal - 1, normal],
+        "ties": ties,
+        "the next below ties": [bits - 1 for bits in ties],
+        "the next above ties": [bits + 1 for bits in ties],
+    }
+    for (sign, bit), (what, patterns) in itertools.product(signs.items(), right.items()):
+        rows = {0: [bits | bit for bits in patterns]}
+        yield f"fitted entries: {sign}{what}", encode(made_model(BOX, MAX_N), fitted_rows=rows)
+
+    for number, (what, bits) in itertools.product((1, 255), (("", HALF), (", wrong entry", NAN))):
+        yield f"first fitted row is number {number}{what}", head(1, 3) + fitted(number, [bits])
+    for number in (0, 2):
+        for first, second in ((row, fitted), (fitted, row), (fitted, fitted)):
+            start, record = head(2, 3) + first(0, [0, 0]), second(number, [0, 0])
+            kinds = f"{start[4]:02X} then {record[0]:02X}"
+            yield f"second row is number {number}, {kinds}", start + record
+        both = head(2, 3) + fitted(0, [0, 0]) + fitted(number, [0, NAN])
+        yield f"second row is number {number}, wrong entry", both
+
+    yield "a wrong fitted row without its last byte", head(1, 3) + fitted(1, [NAN])[:-1]
+    yield "a fitted row of the length of a scaled one", head(1, 3) + fitted(0, [HALF])[:26]
+    yield "a scaled row with kind 03", encode(SAMPLE).replace(b"\x02", b"\x03", 1)
+    changed = encode(SAMPLE, fitted_rows={0: [HALF]})
+    yield "a fitted row with kind 02", changed.replace(b"\x03\0\x03", b"\x03\0\x02", 1)
+    for offset in range(4, 14):
+        what = f"a fitted row, all bits changed of byte {offset}"
+        yield what, bytes(255 - byte if i == offset else byte for i, byte in enumerate(changed))
+
+
+def fitted_length_files() -> Iterator[File]:
+    """The longest files (File 9), and what comes behind the longest of all."""
+    for form in FORMS:
+        model = made_model(form, MAX_N, full=True)
+        rows = fitted_rows(model)
+        yield f"longest with {form} and fitted rows", encode(model, fitted_rows=rows)
+    longest = encode(model, fitted_rows=rows)
+    yield "the longest file with fitted rows, then a byte", longest + b"\0"
+    yield "the longest file with fitted rows without its end", longest[:-1]
+    yield "no input set: longest with fitted rows", encode(
+        model, input_stated=False, fitted_rows=rows
+    )
+
+
 def all_files() -> list[File]:
     """All files, in their order."""
     makers = (
         accepted_files, order_files, count_files, value_files, spoilt_files, steps_files,
-        behind_initial_files, no_input_files,
+        behind_initial_files, no_input_files, fitted_place_files, mixed_files, fitted_value_files,
+        fitted_length_files,
     )
     return [file for maker in makers for file in maker()]
 

@@ -18,10 +18,10 @@ import sys
 import exact
 import files
 from layout import (
-    BODY_LENGTHS, BOX, CENTRE, DEFAULT_STEPS, DIRECTION, END, GENERATOR, GUARD, HEAD, INITIAL,
-    INPUT, LOWER, MATRIX_UNIT, MAX_DIRECTION_ENTRY, MAX_DIRECTIONS, MAX_ENTRY, MAX_GENERATORS,
-    MAX_GUARDS, MAX_N, MAX_REACH, MAX_STEPS, MAX_VERTICES, POINT_KINDS, ROW, UPPER, VERTEX,
-    Set, Vector,
+    BODY_LENGTHS, BOX, CENTRE, DEFAULT_STEPS, DIRECTION, END, FITTED, GENERATOR, GUARD, HEAD,
+    INITIAL, INPUT, LOWER, MATRIX_UNIT, MAX_DIRECTION_ENTRY, MAX_DIRECTIONS, MAX_ENTRY, MAX_FACTOR,
+    MAX_GENERATORS, MAX_GUARDS, MAX_N, MAX_REACH, MAX_STEPS, MAX_VERTICES, POINT_KINDS, ROW,
+    ROW_KINDS, UPPER, VERTEX, Set, Vector,
 )
 from listings import Refusal
 
@@ -50,7 +50,10 @@ def counted(what: str, number: int) -> str:
 
 def kind_name(kind: int) -> str:
     """A kind of record, with its byte."""
-    names = {HEAD: "the head", ROW: "a row", DIRECTION: "a direction", GUARD: "a guard"}
+    names = {
+        HEAD: "the head", ROW: "a row", FITTED: "a fitted row", DIRECTION: "a direction",
+        GUARD: "a guard",
+    }
     if kind in SET_KINDS:
         part, point = kind & 0xF0, kind & 0x0F
         article = "a" if point in (GENERATOR, VERTEX) else "the"
@@ -96,14 +99,15 @@ class Place:
 
     @property
     def name(self) -> str:
-        """The record, with its number among those of its kind."""
-        count = len(self.bodies(self.kind))
+        """The record, with its number among those of its kind; rows of both kinds count alike."""
+        kinds = ROW_KINDS if self.kind in ROW_KINDS else (self.kind,)
+        count = len(self.bodies(*kinds))
         if self.kind in SET_KINDS:
             point, which = self.kind & 0x0F, f"of the {PARTS[self.kind & 0xF0]} set"
             if point in (GENERATOR, VERTEX):
                 return f"{counted(POINT_NAMES[point], count)} {which}"
             return f"the {POINT_NAMES[point]} {which}"
-        names = {ROW: "row", DIRECTION: "direction", GUARD: "guard"}
+        names = {ROW: "row", FITTED: "fitted row", DIRECTION: "direction", GUARD: "guard"}
         return counted(names[self.kind], count) if self.kind in names else "the head"
 
     # What is wrong, by the number of the refusal
@@ -162,12 +166,22 @@ class Place:
             if abs(entry) > limit
         ]
 
+    def beyond_fitted(self) -> list[str]:
+        """What is wrong with the entries of a fitted row: beyond their limit, or no numbers."""
+        values = struct.unpack("<6d", self.body[1:])[: self.n]
+        return [
+            f"entry {value!r} in {counted('column', column)}"
+            f" must be a number from {-MAX_FACTOR} to {MAX_FACTOR}"
+            for column, value in enumerate(values)
+            if not abs(value) <= MAX_FACTOR  # which is so of a NaN
+        ]
+
     def row(self) -> str:
-        number = len(self.bodies(ROW))
-        told = self.beyond(self.vector(self.body[1:]), MAX_ENTRY)
-        if told:
-            limit = MAX_ENTRY // MATRIX_UNIT
-            told[-1] += f" in 1/{MATRIX_UNIT:,}, which is {-limit} to {limit}"
+        number = len(self.bodies(*ROW_KINDS))
+        if self.kind == FITTED:
+            told = self.beyond_fitted()
+        elif told := self.beyond(self.vector(self.body[1:]), MAX_ENTRY):
+            told[-1] += f" in 1/{MATRIX_UNIT:,}, which is {-MAX_FACTOR} to {MAX_FACTOR}"
         if self.body[0] != number:
             told.insert(0, f"it says number {self.body[0]} and must say {number}")
         return f"{self.name}: {'; '.join(told)}"
@@ -218,6 +232,7 @@ class Place:
 WORDS = {
     1: Place.ends, 2: Place.unknown, 3: Place.not_here, 4: Place.head, 5: Place.row,
     6: Place.points, 7: Place.direction, 8: Place.guard, 9: Place.too_many, 10: Place.behind_end,
+    15: Place.row,
 }
 
 

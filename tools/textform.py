@@ -10,16 +10,20 @@ from __future__ import annotations
 import re
 from dataclasses import dataclass, field
 from fractions import Fraction
+from functools import partial
 from typing import Callable, NoReturn, TypeVar
 
 import exact
 import files
 from layout import (
-    BOX, DEFAULT_STEPS, MATRIX_UNIT, MAX_DIRECTION_ENTRY, MAX_DIRECTIONS, MAX_ENTRY,
+    BOX, DEFAULT_STEPS, MATRIX_UNIT, MAX_DIRECTION_ENTRY, MAX_DIRECTIONS, MAX_ENTRY, MAX_FACTOR,
     MAX_GENERATORS, MAX_GUARDS, MAX_LEVEL, MAX_N, MAX_POINTS, MAX_REACH, MAX_STEPS, MAX_VERTICES,
-    MIN_LEVEL, MIN_POINTS, VERTICES, ZONOTOPE, Model, Set, encode, zero_box,
+    MIN_LEVEL, MIN_POINTS, VERTICES, ZONOTOPE, Model, Set, Vector, encode, zero_box,
 )
-from spelling import DECIMAL, ENDLESS, WHOLE, plain, quoted, suggestion, two_readings
+from spelling import (
+    CALLED, DECIMAL, ENDLESS, FLOAT, NOT_FINITE, WHOLE, binary64, cut, plain, quoted, suggestion,
+    two_readings,
+)
 
 MOST_TOLD = 20
 LONGEST_UNIT = 12
@@ -39,13 +43,16 @@ SET_LIMITS = {
 }
 NAME = re.compile(r"[^\W\d][\w.-]*")
 NAME_FORM = "a letter, then letters, digits, '_', '.' or '-'"
+# The statements of a row, and the form of its entries.
+ROW_FORMS = {"row": DECIMAL, "scaled": WHOLE, "fitted": FLOAT}
 MARK = "~ marks entries of a 'row' only"
+LIMIT = f"{-MAX_FACTOR} to {MAX_FACTOR}"
 Number = TypeVar("Number", int, Fraction)
 
 
 @dataclass(frozen=True)
 class Rounded:
-    """An entry that `~` changed: as it was written, its row, and the change relative to it."""
+    """A `~` or fitted entry that rounding changed: as written, its row, and the relative change."""
 
     word: str
     row: str
@@ -63,11 +70,12 @@ class Source:
     directions: tuple[str, ...]
     units: tuple[tuple[str, int] | None, ...]  # of each direction: the unit, and counts in one
     time: tuple[Fraction, str] | None = None  # how long a step takes, and in which unit
+    fitted: dict[int, Vector] = field(default_factory=dict)  # the fitted rows, by their numbers
     rounded: tuple[Rounded, ...] = ()
 
     @property
     def data(self) -> bytes:
-        return encode(self.model, self.stated_steps, self.input_stated)
+        return encode(self.model, self.stated_steps, self.input_stated, self.fitted)
 
 
 class _Wrong(Exception):
@@ -76,6 +84,14 @@ class _Wrong(Exception):
 
 def _fail(message: str) -> NoReturn:
     raise _Wrong(message)
+
+
+def _value(word: str, form: re.Pattern[str]) -> Fraction | None:
+    """The exact value of an entry, of a fitted one that of its 64 bits; None of one too large."""
+    if form is FLOAT:
+        bits = binary64(word)
+        return None if bits is None else exact.binary64(bits)
+    return Fraction(word.lstrip("~"))
 
 
 def _limited(
@@ -126,6 +142,7 @@ class _Parser:
         self.out_of_turn: list[tuple[int, int, str]] = []  # where, the row that was due, message
         self.second_rows: list[tuple[int, str]] = []  # where, and whose row
         self.surplus: list[tuple[int, str]] = []  # rows behind the last: where, message
+        self.fitted: dict[int, list[str]] = {}  # the entries of each fitted row
         self.rounded: list[Rounded] = []
         self.sets: dict[str, _SetText] = {}
         self.open: _SetText | None = None  # the set that points belong to
@@ -138,8 +155,7 @@ class _Parser:
             "coordinates": self.take_coordinates,
             "steps": self.take_steps,
             "time": self.take_time,
-            "row": lambda words: self.take_row(words, whole=False),
-            "scaled": lambda words: self.take_row(words, whole=True),
+            **{word: partial(self.take_row, form) for word, form in ROW_FORMS.items()},
             "initial": lambda words: self.take_set("initial", words),
             "input": lambda words: self.take_set("input", words),
             "direction": self.take_direction,
@@ -163,23 +179,24 @@ class _Parser:
     # Numbers
 
     def number(
-        self, word: str, read: Callable[[str], Number], whole: bool = True
+        self, word: str, read: Callable[[str], Number], form: re.Pattern[str] = WHOLE
     ) -> Number | None:
         """What `read` makes of a number; a wrong one is told, with a spelling that is right."""
-        form, what = (WHOLE, "whole number") if whole else (DECIMAL, "decimal number")
         value = None
         try:
             if form.fullmatch(word):
                 return read(word)
-            told = f"{quoted(word)} is no {what}"
-            spelled, readings = plain(word, whole), two_readings(word) if whole else []
-            if ENDLESS.fullmatch(word) and not whole:
+            told = f"{quoted(word)} is no {CALLED[form]}"
+            spelled, readings = plain(word, form), two_readings(word) if form is WHOLE else []
+            if ENDLESS.fullmatch(word) and form is DECIMAL:
                 told = f"{quoted(word)} has more than 40 digits before or behind the point"
+            elif NOT_FINITE.fullmatch(word) and form is FLOAT:
+                told = f"{quoted(word)} is no finite number; an entry is {LIMIT}"
             elif readings and all(self.advice([each], read)[1] is not None for each in readings):
                 told += f"; write {' or '.join(readings)}"
             elif spelled is not None and form.fullmatch(spelled):
                 marked = word.startswith("~")
-                written = [spelled] * (not marked) + ["~" + spelled] * (not whole)
+                written = [spelled] * (not marked) + ["~" + spelled] * (form is DECIMAL)
                 advice, value = self.advice(written, read)
                 told += "; " + advice
         except _Wrong as wrong:
@@ -201,33 +218,61 @@ class _Parser:
         return (reasons[0] if reasons else MARK), None
 
     def entries(
-        self, words: list[str], reader: Callable[[int], Callable[[str], int]], whole: bool = True
+        self,
+        words: list[str],
+        reader: Callable[[int], Callable[[str], int]],
+        form: re.Pattern[str] = WHOLE,
     ) -> list[int | None]:
         """One number for each coordinate, None for a wrong one; `reader` is that of a column."""
         n = len(self.coordinates)
         if len(words) == n:
             self.counted = True
-            return [self.number(word, reader(i), whole) for i, word in enumerate(words)]
+            return [self.number(word, reader(i), form) for i, word in enumerate(words)]
         told = f"expected {n} numbers, one for each coordinate" if n > 1 else "expected 1 number"
         hint = "; numbers stand apart by blanks" if "," in "".join(words) else ""
-        hint = "; ~ stands right before its number" if "~" in words else hint
+        if "~" in words:
+            hint = "; ~ stands right before its number" if form is DECIMAL else f"; {MARK}"
         self.miscounted.append((self.at, len(words), f"{told}, found {len(words)}{hint}"))
         return [None] * n
 
+    def beyond(self, column: int, word: str) -> NoReturn:
+        _fail(f"entry {cut(word)} in column {self.coordinates[column]!r} is beyond {LIMIT}")
+
+    def fitted_entry(self, column: int, word: str) -> int:
+        """A number of binary64 in units of 1/65,536."""
+        value = _value(word, FLOAT)
+        if value is None or abs(value) > MAX_FACTOR:
+            self.beyond(column, word)
+        return exact.fitted_entry(value)
+
     def row_entry(self, column: int, word: str) -> int:
         """A decimal in units of 1/65,536."""
-        scaled = MATRIX_UNIT * Fraction(word.lstrip("~"))
-        nearest = round(scaled)
+        scaled = MATRIX_UNIT * _value(word, DECIMAL)
+        nearest = exact.nearest(scaled)
         if abs(nearest) > MAX_ENTRY:
-            limit = MAX_ENTRY // MATRIX_UNIT
-            name = self.coordinates[column]
-            _fail(f"entry {word} in column {name!r} is beyond {-limit} to {limit}")
+            self.beyond(column, word)
         if not word.startswith("~") and nearest != scaled:
             _fail(
                 f"{word} is no multiple of 1/{MATRIX_UNIT:,};"
                 f" write ~{word} for the nearest, which is {nearest}/{MATRIX_UNIT}"
             )
         return nearest
+
+    def entries_of_row(
+        self, row: str, form: re.Pattern[str], words: list[str]
+    ) -> list[int | None]:
+        """The entries of a row in units of 1/65,536; those that rounding changes are noted."""
+        if form is WHOLE:
+            return self.entries(words, self.column_limit(MAX_ENTRY, "entry"))
+        read = self.fitted_entry if form is FLOAT else self.row_entry
+        entries = self.entries(words, lambda column: partial(read, column), form)
+        for word, entry in zip(words, entries):
+            if entry is not None and form.fullmatch(word):
+                scaled = MATRIX_UNIT * _value(word, form)
+                if entry != scaled:
+                    change = abs(entry - scaled) / abs(scaled)
+                    self.rounded.append(Rounded(cut(word), row, change))
+        return entries
 
     def column_limit(self, limit: int, what: str) -> Callable[[int], Callable[[str], int]]:
         """The reader of each column for numbers up to a limit, of either sign."""
@@ -268,7 +313,7 @@ class _Parser:
         elif known in POINTS:
             self.take_point(known, rest)
         else:
-            if known in ("row", "scaled"):
+            if known in ROW_FORMS:
                 self.behind = 0
             elif known not in ("coordinates", "steps", "time"):
                 self.behind = self.behind or at
@@ -292,7 +337,7 @@ class _Parser:
         elif set_ is not None and set_.which:
             return list(POINTS)
         words += [word for word in ("steps", "time") if word not in self.seen]
-        words += ["row", "scaled"] if None in self.matrix else []
+        words += ROW_FORMS if None in self.matrix else []
         words += [which for which in ("initial", "input") if which not in self.sets]
         words += ["direction"] if len(self.directions) < MAX_DIRECTIONS else []
         words += ["unit"] if len(self.units) < len(self.directions) else []
@@ -329,6 +374,8 @@ class _Parser:
         elif count == n + 1 and all(map(DECIMAL.fullmatch, words[1:])):
             named = words[0] in self.coordinates and "row" in allowed
             fitting = ("row",) if named else ("direction",) if NAME.fullmatch(words[0]) else ()
+        elif all(map(FLOAT.fullmatch, words[-n:])) and count - n == (words[0] in self.coordinates):
+            fitting = ("fitted",)
         else:
             fitting = ()
         return next((each for each in allowed if each in fitting), None)
@@ -350,7 +397,7 @@ class _Parser:
         self.tell(f"no direction named {quoted(name)} above this {what}{there}")
 
     def test_unit(self, unit: str) -> None:
-        if len(unit) > LONGEST_UNIT or not unit.isprintable() or plain(unit, False) is not None:
+        if len(unit) > LONGEST_UNIT or not unit.isprintable() or plain(unit, DECIMAL) is not None:
             self.tell(
                 f"{quoted(unit)} is no unit: one word of 1 to {LONGEST_UNIT} characters"
                 " that is no number, such as mV"
@@ -362,7 +409,7 @@ class _Parser:
         self.once("coordinates")
         self.named = self.at
         self.stopped = True  # unless it is known how many columns there are
-        if len(words) == 1 and plain(words[0], True) is not None:
+        if len(words) == 1 and plain(words[0], WHOLE) is not None:
             count = self.number(words[0], _limited(1, MAX_N, "coordinates"))
             if count is None:
                 return
@@ -401,11 +448,11 @@ class _Parser:
             value = Fraction(word)
             return value if value > 0 else _fail(f"time {word} is not above 0")
 
-        value = self.number(words[0], above_zero, whole=False)
+        value = self.number(words[0], above_zero, DECIMAL)
         self.test_unit(words[1])
         self.time = (value or Fraction(1), words[1])
 
-    def take_row(self, words: list[str], whole: bool) -> None:
+    def take_row(self, form: re.Pattern[str], words: list[str]) -> None:
         n = len(self.coordinates)
         missing = [number for number, entries in enumerate(self.matrix) if entries is None]
         if not missing:
@@ -426,19 +473,9 @@ class _Parser:
             elif name != due and self.sure_names:
                 self.tell(told)
         self.last_row = number
-        if whole:
-            self.matrix[number] = self.entries(words, self.column_limit(MAX_ENTRY, "entry"))
-            return
-        entries = self.entries(
-            words, lambda column: lambda word: self.row_entry(column, word), whole=False
-        )
-        self.matrix[number] = entries
-        for word, entry in zip(words, entries):
-            if entry is not None and DECIMAL.fullmatch(word):
-                scaled = MATRIX_UNIT * Fraction(word.lstrip("~"))
-                if scaled != entry:
-                    change = abs(entry - scaled) / abs(scaled)
-                    self.rounded.append(Rounded(word, self.coordinates[number], change))
+        self.matrix[number] = self.entries_of_row(self.coordinates[number], form, words)
+        if form is FLOAT:
+            self.fitted[number] = words
 
     def take_set(self, which: str, words: list[str]) -> None:
         forms = list(POINT_WORDS)
@@ -581,6 +618,7 @@ class _Parser:
             names,
             tuple(self.units.get(name) for name in names),
             self.time,
+            {number: tuple(map(binary64, words)) for number, words in self.fitted.items()},
             tuple(self.rounded),
         )
 

@@ -56,9 +56,9 @@ pub enum Verdict {
 /// Why a call was refused. What it was lent is as it was.
 #[derive(Clone, Copy, PartialEq, Eq, Hash, Debug)]
 pub enum Refusal {
-    /// The bytes are no model: the number that says why (Refusals 1 to 10), and the offset that goes with it (Reading 2).
+    /// The bytes are no model: the number that says why (Refusals 1 to 10 and 15), and the offset that goes with it (Reading 2).
     File {
-        /// The number, 1 to 10.
+        /// The number, 1 to 10 or 15.
         number: u8,
         /// Where the record at fault begins; for 10, where the bytes behind the end begin; the length where no byte is left.
         offset: usize,
@@ -74,7 +74,7 @@ pub enum Refusal {
 }
 
 impl Refusal {
-    /// The number of the refusal, 1 to 14, by the clauses "Refusals" of the specification.
+    /// The number of the refusal, 1 to 15, by the clauses "Refusals" of the specification.
     pub fn number(self) -> u8 {
         match self {
             Refusal::File { number, .. } => number,
@@ -93,12 +93,13 @@ fn reason(number: u8) -> &'static str {
         2 => "a kind is unknown",
         3 => "a record of this kind may not stand here",
         4 => "n or the steps are out of range",
-        5 => "a row is out of turn, or one of its entries too large",
+        5 => "a row is out of turn, or an entry of a scaled row too large",
         6 => "a set reaches too far, or its upper corner is below its lower",
         7 => "an entry of a direction is too large, or all are zero",
         8 => "a guard is on a direction that is not there",
         9 => "there is one generator, vertex, direction or guard too many",
         10 => "bytes follow the end",
+        15 => "an entry of a fitted row is not finite, or beyond 2 in magnitude",
         _ => "the file is no model",
     }
 }
@@ -153,7 +154,7 @@ fn unpack(answer: u64) -> Result<(u8, u64), Refusal> {
     let figure = answer >> 16;
     match number {
         0 => Ok((verdict, figure)),
-        1..=10 => Err(Refusal::File { number, offset: figure as usize }),
+        1..=10 | 15 => Err(Refusal::File { number, offset: figure as usize }),
         11 => Err(Refusal::Invalid),
         12 => Err(Refusal::NoSuchNumber),
         13 => Err(Refusal::WrongLength),

@@ -9,7 +9,7 @@ from helpers import TOOLS, FolderTest, run_tool
 
 import exact
 import models
-from layout import states_input
+from layout import FITTED, offsets, states_input
 
 
 class Compare(FolderTest):
@@ -34,14 +34,18 @@ class Compare(FolderTest):
         accepted = sum(reply.startswith("model") for reply in replies)
         self.assertTrue(out.startswith(b"12 files of seed 3 agree: %d accepted" % accepted), out)
 
-    def test_models_without_input_are_counted(self):
+    def test_models_without_input_and_with_fitted_rows_are_counted(self):
         files = list(models.stream(3, 40))
         accepted = [data for data in files if exact.listing(data).startswith("model")]
         without = sum(not states_input(data) for data in accepted)
-        self.assertTrue(0 < without < len(accepted) / 4, without)
+        self.assertTrue(0 < without < len(accepted) / 2, without)
         self.assertLess(without, sum(not states_input(data) for data in files))
+        fitted = sum(any(data[at] == FITTED for at in offsets(data)) for data in accepted)
+        self.assertTrue(len(accepted) / 4 < fitted < len(accepted) * 3 / 4, fitted)
         out = self.compare("sys.stdout.write(text)", "--count", 40, "--seed", 3)[0]
-        self.assertIn(f", without input:{without}), refused 1:".encode(), out)
+        told = f", with fitted rows:{fitted} without input:{without}), refused 1:"
+        self.assertIn(told.encode(), out)
+        self.assertRegex(out, rb" 10:\d+ 15:\d+; directions")
 
     def test_wrong_output(self):
         number = next(n for n in range(99) if "guard" in exact.listing(models.file_of(4, n)))

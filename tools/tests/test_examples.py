@@ -12,7 +12,7 @@ import examples
 import files
 import listings
 import pack
-from layout import VERTICES, ZONOTOPE
+from layout import VERTICES, ZONOTOPE, encode
 
 
 def source_of(name):
@@ -29,7 +29,7 @@ class Examples(unittest.TestCase):
 
     def test_up_to_date(self):
         self.assertEqual(examples.stale(), [])
-        self.assertGreaterEqual(len(self.names), 8)
+        self.assertGreaterEqual(len(self.names), 9)
 
     def test_stale_is_seen(self):
         with tempfile.TemporaryDirectory() as name:
@@ -52,7 +52,7 @@ class Examples(unittest.TestCase):
 
     def test_what_each_shows(self):
         said = {name: {verdict.word for verdict in listing_of(name).guards} for name in self.names}
-        for name in ("verdicts", "head", "rail", "roller"):
+        for name in ("verdicts", "head", "rail", "roller", "fitted"):
             self.assertLessEqual({"HIT", "UNKNOWN", "CLEAR"}, said[name])
         self.assertEqual(listing_of("runaway").directions[0], listings.Growth(32))
         self.assertIn("GROWTH", said["runaway"])
@@ -60,6 +60,8 @@ class Examples(unittest.TestCase):
         self.assertEqual(unnamed, ["receipt"])
         still = [name for name in self.names if not source_of(name).input_stated]
         self.assertEqual(still, ["cooling"])
+        fitted = {name: sorted(source_of(name).fitted) for name in self.names}
+        self.assertEqual(fitted, {**dict.fromkeys(self.names, []), "fitted": [0, 1]})
         self.assertEqual((listing_of("receipt").steps, listing_of("cooling").steps), (120, 60))
         self.assertEqual(source_of("budget").model.input.form, VERTICES)
         self.assertEqual(source_of("head").model.initial.form, ZONOTOPE)
@@ -118,6 +120,31 @@ class Examples(unittest.TestCase):
             self.assertEqual(made[name], here[name])
         self.assertEqual(len(made["cooling.bin"]), len(here["cooling.bin"]) + 50)
         self.assertEqual(exact.read_model(made["cooling.bin"]), source_of("cooling").model)
+
+    def test_fitted_is_rounded_as_its_texts_say(self):
+        """Its text tells the largest change, also for milliwatts; `examples/README.md` the note."""
+        text = (examples.FOLDER / "fitted.model").read_text()
+        note = pack.rounding(pack.parse(text))
+        self.assertIn("the largest relative change is 0.49 %,", note)
+        self.assertIn("tells how much that changes, 0.49 % at most", text)
+        readme = (examples.FOLDER / "README.md").read_text()
+        self.assertIn(f"    examples/fitted.model: {note}\n", readme)
+        for old, new in (
+            (" 0.2464", " 0.002464"), (" 0.0011347562846483198", " 1.1347562846483198e-05"),
+            (" 54\n", " 5400\n"), (" 60\n", " 6000\n"),
+        ):
+            self.assertEqual(text.count(old), 1)
+            text = text.replace(old, new)
+        self.assertIn("largest relative change is 34 %, of 1.1347562846483198e-05",
+                      pack.rounding(pack.parse(text)))
+
+    def test_fitted_as_scaled_rows(self):
+        """The listing is that of the rounded matrix."""
+        source = source_of("fitted")
+        self.assertEqual(exact.listing_of(source.model), listing_of("fitted"))
+        scaled = encode(source.model)
+        self.assertEqual(len(scaled), len(source.data) - 2 * 24)
+        self.assertEqual(exact.listing(scaled), exact.listing(source.data))
 
     def test_budget_as_a_box(self):
         """Its text says that the guard on `both` is HIT with the box around the vertices."""

@@ -2,15 +2,20 @@
 
 import collections
 import itertools
+import math
+import random
+import struct
 import types
 import unittest
+from fractions import Fraction
 
 from helpers import BEYOND_BY_HALF, HALVED_ONCE, single
 
 import exact
 import models
 from layout import (
-    BOX, GROWTH_LIMIT, READ_LIMIT, VERTICES, ZONOTOPE, encode, zero_box, states_input,
+    BOX, FITTED, GROWTH_LIMIT, READ_LIMIT, VERTICES, ZONOTOPE, encode, fitted_rows_of, offsets,
+    pattern, zero_box, states_input,
 )
 from listings import Growth, Refusal
 
@@ -18,6 +23,9 @@ SEED, COUNT = 1, 1_500
 
 NEAREST = "(total + MATRIX_UNIT // 2) // MATRIX_UNIT"
 HALF_OF_T = "up(dot(e, initial_reach) + input_errors, 2)"
+SCALED = "nearest(MATRIX_UNIT * value)"
+TIE = "(rest == Fraction(1, 2) and below % 2 == 1)"
+WITHIN = "value is not None and abs(value) <= MAX_FACTOR"
 GENERATORS = "sum(abs(dot(generator, r)) for generator in generators)"
 LARGEST = "max(dot(vertex, r) for vertex in set_.points)"
 
@@ -79,7 +87,35 @@ EDITS = (
     ("zero_steps_kept", "DEFAULT_STEPS if stated_steps == 0 else stated_steps", "stated_steps"),
     ("old_default", "DEFAULT_STEPS if stated_steps == 0", "60 if stated_steps == 0"),
     ("default_for_one_step", "if stated_steps == 0 else", "if stated_steps <= 1 else"),
-    ("row_number_untested", "body[0] == len(matrix) and in_limits", "in_limits"),
+    ("row_number_untested", "file.require(body[0] == number, 5)", "pass"),
+    ("row_number_of_fitted_rows_untested", "file.require(body[0] == number, 5)",
+     "file.require(kind == FITTED or body[0] == number, 5)"),
+    ("no_fitted_rows", "file.kind({ROW, FITTED})", "file.kind({ROW})"),
+    ("fitted_row_first_alone", "file.kind({ROW, FITTED})",
+     "file.kind({ROW, FITTED} if number == 0 else {ROW})"),
+    ("fitted_tie_goes_up", TIE, "rest == Fraction(1, 2)"),
+    ("fitted_tie_goes_down", TIE, "False"),
+    ("fitted_tie_goes_away_from_zero", TIE, "(rest == Fraction(1, 2) and below >= 0)"),
+    ("fitted_tie_goes_toward_zero", TIE, "(rest == Fraction(1, 2) and below < 0)"),
+    ("fitted_tie_goes_to_odd", TIE, "(rest == Fraction(1, 2) and below % 2 == 0)"),
+    ("fitted_last_bits_lost", "rest > Fraction(1, 2)", "rest > Fraction(2**35 + 1, 2**36)"),
+    ("fitted_entry_rounded_down", SCALED, "math.floor(MATRIX_UNIT * value)"),
+    ("fitted_entry_rounded_toward_zero", SCALED, "int(MATRIX_UNIT * value)"),
+    ("fitted_entry_not_scaled", SCALED, "nearest(value)"),
+    ("fitted_sign_lost", "(-1) ** sign * significand", "significand"),
+    ("fitted_leading_one_lost", "else 2**52 + fraction", "else fraction"),
+    ("fitted_exponent_off_by_one", "- 1075)", "- 1074)"),
+    ("fitted_big_endian", '8 * i + 8], "little")', '8 * i + 8], "big")'),
+    ("fitted_entries_as_one_another", "data[8 * i : 8 * i + 8]", "data[4 * i : 4 * i + 8]"),
+    ("fitted_2_refused", WITHIN, "value is not None and abs(value) < MAX_FACTOR"),
+    ("fitted_minus_2_refused", WITHIN, "value is not None and -MAX_FACTOR < value <= MAX_FACTOR"),
+    ("fitted_limit_of_the_rounded_entry", WITHIN,
+     "value is not None and abs(fitted_entry(value)) <= MAX_ENTRY"),
+    ("fitted_no_number_as_zero", "if exponent == 0x7FF:\n        return None",
+     "if exponent == 0x7FF:\n        return Fraction(0)"),
+    ("fitted_entries_beyond_n_tested", '8], "little")) for i in range(n)]',
+     '8], "little")) for i in range(6)]'),
+    ("fitted_entries_refused_by_5", "for value in values), 15)", "for value in values), 5)"),
     ("reach_of_one_point", "reach(Set(form, tuple(points))", "reach(Set(form, (points[-1],))"),
     ("corners_crossed", "in_reach and in_order", "in_reach"),
     ("big_endian", 'int.from_bytes(data, "little", signed=True)',
@@ -109,6 +145,12 @@ EDITS = (
 )
 # The same with several changes.
 LARGER_EDITS = (
+    ("fitted_entries_before_the_number", (
+        ("file.require(body[0] == number, 5)",
+         "file.require(kind == FITTED or body[0] == number, 5)"),
+        ("return tuple(map(fitted_entry, values))",
+         "file.require(body[0] == number, 5)\n    return tuple(map(fitted_entry, values))"),
+    )),
     ("old_recurrence", (
         (NEAREST, "total // MATRIX_UNIT"),
         ("abs(x) + up(y, 2)", "abs(x) + y"),
@@ -205,7 +247,7 @@ class Stream(unittest.TestCase):
         replies = [exact.read_model(data) for data in files]
         accepted = [reply for reply in replies if not isinstance(reply, Refusal)]
         refused = {reply.number for reply in replies if isinstance(reply, Refusal)}
-        self.assertEqual(refused, set(range(1, 11)))
+        self.assertEqual(refused, {*range(1, 11), 15})
         forms = {(model.initial.form, model.input.form) for model in accepted}
         self.assertEqual(forms, set(itertools.product((BOX, ZONOTOPE, VERTICES), repeat=2)))
         self.assertEqual({model.n for model in accepted}, set(range(1, 7)))
@@ -228,7 +270,38 @@ class Stream(unittest.TestCase):
         refused = {
             reply.number for stated, reply in replies if isinstance(reply, Refusal) and not stated
         }
-        self.assertEqual(refused, set(range(1, 11)))
+        self.assertEqual(refused, {*range(1, 11), 15})
+
+    def test_fitted_rows(self):
+        """Models with and without them and with both sorts; entries of every sort; 5 before 15."""
+        seen = collections.Counter()
+        for data in models.stream(SEED, 2_000):
+            model = exact.read_model(data)
+            if isinstance(model, Refusal):
+                if model.number in (5, 15):
+                    seen[model.number, has_no_entry(data[model.offset :], n=data[1])] += 1
+                continue
+            rows = fitted_rows_of(data, model.n)
+            seen["all" if len(rows) == model.n else "some" if rows else "none"] += 1
+            for at in offsets(data):
+                if data[at] == FITTED:
+                    beyond = struct.unpack_from("<6Q", data, at + 2)[model.n :]
+                    seen["beyond n"] += any(map(no_entry, beyond))
+            seen.update(itertools.chain(*(map(sort_of, patterns) for patterns in rows.values())))
+        for what in ("none", "some", "all", "beyond n", "zero", "zero, -", "tiny", "tiny, -", "tie",
+                     "tie, -", "one bit from a tie", "one bit from a tie, -", "2", "2, -"):
+            self.assertGreater(seen[what], 10, (what, seen))
+        for number, wrong in ((15, True), (5, True), (5, False)):
+            self.assertGreater(seen[number, wrong], 5, seen)
+
+    def test_patterns_that_become_an_entry(self):
+        rng = random.Random(6)
+        for entry in (0, 1, -1, 2, -2, 131_072, -131_072, 131_071, -131_071, 9_999, -65_536) * 200:
+            bits = models.becoming(rng, entry)
+            self.assertEqual(exact.fitted_entry(exact.binary64(bits)), entry, hex(bits))
+            self.assertFalse(no_entry(bits))
+        for bits in models.NO_ENTRIES.values():
+            self.assertTrue(no_entry(bits) and no_entry(bits | models.SIGN))
 
     def test_halves(self):
         """Some of a hundred models round a half, of both signs; in many a T is odd."""
@@ -242,6 +315,30 @@ class Stream(unittest.TestCase):
             seen.update(halves_of(model))
         for what, share in (("above 0", 0.02), ("below 0", 0.02), ("odd T", 0.3)):
             self.assertGreater(seen[what] / accepted, share, seen)
+
+
+def no_entry(bits):
+    """Whether 64 bits are no fitted entry."""
+    value = exact.binary64(bits)
+    return value is None or abs(value) > 2
+
+
+def has_no_entry(record, n):
+    """Whether a record is a fitted row, and one of its first n entries is none."""
+    return record[0] == FITTED and any(map(no_entry, struct.unpack_from(f"<{n}Q", record, 2)))
+
+
+def sort_of(bits):
+    """What is special about the pattern of a fitted entry, with its sign."""
+    value = abs(exact.binary64(bits)) * 65_536
+    tie, unit = math.floor(value) + Fraction(1, 2), bits & models.SIGN
+    near = abs(bits - unit - pattern(float(tie / 65_536))) <= 1
+    sorts = {
+        "zero": value == 0, "tiny": 0 < value < Fraction(1, 2**40), "tie": value == tie,
+        "one bit from a tie": near and value != tie, "2": value == 131_072,
+    }
+    sign = ", -" if unit else ""
+    return next((what + sign for what, so in sorts.items() if so), "other")
 
 
 def halves_of(model):

@@ -1,5 +1,6 @@
 """Texts and packed files: the same bytes again, limits in words, and messages with their place."""
 
+import math
 import random
 import re
 import unittest
@@ -12,7 +13,11 @@ import exact
 import files
 import models
 import pack
-from layout import VERTICES, ZONOTOPE, Model, Set, encode, guard, states_input
+import spelling
+from layout import (
+    FITTED, VERTICES, ZONOTOPE, Model, Set, encode, fitted_rows_of, float_of, guard, offsets,
+    pattern, states_input,
+)
 from listings import Refusal
 
 GOOD = """\
@@ -36,6 +41,8 @@ INPUT = "input vertices\n  vertex 0 0\n  vertex 5 -6\n"
 ZERO = "input box\n  lower 0 0\n  upper 0 0\n"
 NO_INPUT = GOOD.replace(INPUT, "")
 NO_INPUT_NOTE = "no input set: the input is zero in every coordinate"
+# Row 0 in decimals, row 1 in whole numbers.
+FIRST, SECOND = "row hot 0.5 -0.25   # decimals", "scaled 1 -131072"
 
 
 class Pack(unittest.TestCase):
@@ -173,6 +180,120 @@ class Pack(unittest.TestCase):
         self.assertEqual(pack.parse(pack.unpack(data)).data, data)
 
 
+class Fitted(unittest.TestCase):
+    """Rows of numbers of binary64: the bits in the file, and the same text and bits again."""
+
+    def row_of(self, words, name=""):
+        """Source of the text with these entries in a fitted first row."""
+        return pack.parse(GOOD.replace(FIRST, f"fitted {name} {words}"))
+
+    def test_by_hand(self):
+        for words in ("0.3 -0.25", "3e-1 -25E-2", "+.3 -0x1p-2", "0x1.3333333333333p-2 -0X.4P0"):
+            source = self.row_of(words, "hot")
+            self.assertEqual(source.model.matrix, ((19_661, -16_384), (1, -131_072)))
+            self.assertEqual(source.fitted, {0: (0x3FD3_3333_3333_3333, 0xBFD0_0000_0000_0000)})
+            at = 4  # behind the head
+            self.assertEqual(source.data[at : at + 18].hex(),
+                             "03 00 333333333333d33f 000000000000d0bf".replace(" ", ""))
+            self.assertEqual(source.data[at + 18 : at + 50], bytes(32))
+            self.assertEqual(source.data[at + 50], 0x02)
+            self.assertEqual(len(source.data), len(pack.parse(GOOD).data) + 24)
+
+    def test_either_row_or_both_with_and_without_names(self):
+        """0.5 -0.25 and 1 -131072 over 65,536, in each way."""
+        second = "0.0000152587890625 -2"
+        texts = [GOOD]
+        for name in ("", "hot"):
+            texts.append(GOOD.replace(FIRST, f"fitted {name} 0.5 -0.25"))
+            texts.append(texts[-1].replace(SECOND, f"fitted {second}"))
+        texts.append(GOOD.replace(SECOND, f"fitted cold {second}"))
+        sources = [pack.parse(text) for text in texts]
+        self.assertEqual({source.model for source in sources}, {sources[0].model})
+        self.assertEqual([sorted(source.fitted) for source in sources],
+                         [[], [0], [0, 1], [0], [0, 1], [1]])
+        for source in sources:
+            self.assertEqual(exact.listing(source.data), exact.listing(sources[0].data))
+            self.assertEqual(source.rounded, ())
+
+    def test_the_nearest_number_of_binary64_is_taken(self):
+        for word, bits in (
+            ("0.1", 0x3FB9_9999_9999_999A),
+            # Half of a bit above 1, to even; a little more; and one bit and a half.
+            ("1.00000000000000011102230246251565404236316680908203125", 0x3FF0_0000_0000_0000),
+            ("1.00000000000000011102230246251565404236316680908203126", 0x3FF0_0000_0000_0001),
+            ("0x1.00000000000018p0", 0x3FF0_0000_0000_0002),
+            ("2.0000000000000002", 0x4000_0000_0000_0000),  # less than half of a bit above 2
+            ("5e-324", 1), ("2e-324", 0), ("-1e-999", 1 << 63), ("-0", 1 << 63), ("0", 0),
+            ("-0x0p+0", 1 << 63), ("0x1p-1074", 1), ("0x1p-99999", 0),
+            ("2", 0x4000_0000_0000_0000), ("-2.000", 0xC000_0000_0000_0000),
+            ("0." + "9" * 5_000, 0x3FF0_0000_0000_0000),
+        ):
+            self.assertEqual(self.row_of(f"{word} 0").fitted[0], (bits, 0), word[:40])
+
+    def test_spelled_and_read_again(self):
+        rng = random.Random(9)
+        some = [rng.choice((0, 1 << 63)) | rng.randrange(pattern(2.0) + 1) for _ in range(3_000)]
+        for bits in (0, 1 << 63, 1, 1 << 52, pattern(2.0), pattern(-2.0), *some):
+            decimal, value = spelling.float_text(bits), float_of(bits)
+            self.assertLess(len(decimal), 26)
+            hexadecimal = value.hex()
+            for word in (decimal, f"{value:.17g}", f"{value:+.20e}", hexadecimal,
+                         hexadecimal.upper()):
+                self.assertTrue(spelling.FLOAT.fullmatch(word), word)
+                self.assertEqual(spelling.binary64(word), bits, word)
+
+    def test_unpacked_again(self):
+        words = "-0.0 1.9999999999999998"
+        source = self.row_of(words)
+        text = pack.unpack(source.data)
+        self.assertIn(f"\nfitted {words}\nscaled 1 -131072\n", text)
+        self.assertEqual(pack.parse(text).data, source.data)
+        named = pack.write_text(self.row_of("0x1p-1074 1e-5"))
+        self.assertIn("\nfitted hot 5e-324 1e-05\nscaled cold 1 -131072\n", named)
+
+    def test_random_files(self):
+        seen = 0
+        for data in models.stream(12, 200):
+            model = exact.read_model(data)
+            rows = {} if isinstance(model, Refusal) else fitted_rows_of(data, model.n)
+            if rows:
+                source = pack.parse(pack.unpack(data))
+                self.assertEqual((source.fitted, source.model), (rows, model))
+                kinds = [[file[at] for at in offsets(file)] for file in (data, source.data)]
+                self.assertEqual(*kinds)
+                seen += 1
+        self.assertGreater(seen, 40)
+
+    def test_what_rounding_changes(self):
+        most = "the largest relative change is"
+        for words, told in (
+            ("0.5 -0.25", None),
+            ("-0.0 0x1p-16", None),
+            ("0.97 -0.25", f"1 entry was rounded (fitted); {most} 0.00013 %, of 0.97 in row 'hot'"),
+            ("0x1.f0a3d70a3d70ap-1 -0.25",
+             f"1 entry was rounded (fitted); {most} 0.00013 %, of 0x1.f0a3d70a3d70ap-1 in row"
+             " 'hot'"),
+            ("0.97 -1e-4",
+             f"2 entries were rounded (fitted); {most} 6.8 %, of -1e-4 in row 'hot'"),
+            ("0.97 5e-324",
+             f"2 entries were rounded (fitted); {most} 100 %: 5e-324 in row 'hot' becomes 0"),
+        ):
+            self.assertEqual(pack.rounding(self.row_of(words)), told)
+        both = GOOD.replace(FIRST, "fitted 0.97 0").replace(SECOND, "row ~0.0001 0")
+        self.assertEqual(
+            pack.rounding(pack.parse(both)),
+            f"2 entries were rounded (~ and fitted); {most} 6.8 %, of ~0.0001 in row 'cold'",
+        )
+        long = pack.rounding(self.row_of("0." + "3" * 90 + " 0"))
+        self.assertTrue(long.endswith(f", of 0.{'3' * 48}.. in row 'hot'"), long)
+
+    def test_the_change_is_that_of_the_number_in_the_file(self):
+        (entry,) = self.row_of("0.3 0").rounded
+        scaled = 65_536 * Fraction(0.3)
+        self.assertEqual(entry.change, (19_661 - scaled) / scaled)
+        self.assertTrue(math.isclose(entry.change, 0.2 / 19_660.8))
+
+
 def mistakes(text):
     """What is told of a text, by row and in words; with a count of more at the end."""
     with unittest.TestCase().assertRaises(files.Failure) as caught:
@@ -264,6 +385,45 @@ class Messages(unittest.TestCase):
             with self.subTest(new[:40]):
                 self.refused(old, new, place, message)
 
+    def test_fitted_rows(self):
+        binary = "no decimal or hexadecimal number"
+        for words, place, message in (
+            ("hot half 0", 4, f"'half' is {binary}"),
+            ("hot 0.5e 0", 4, f"'0.5e' is {binary}"),
+            ("hot 0x 0", 4, f"'0x' is {binary}"),
+            ("hot 0x1.8q3 0", 4, f"'0x1.8q3' is {binary}"),
+            ("hot 1.8p-3 0", 4, f"'1.8p-3' is {binary}"),
+            ("hot 0,5 0", 4, f"'0,5' is {binary}; write 0.5"),
+            ("hot \u22120x1p-3 0", 4, f"'\u22120x1p-3' is {binary}; write -0x1p-3"),
+            ("hot 2,5 0", 4, f"'2,5' is {binary}; entry 2.5 in column 'hot' is beyond -2 to 2"),
+            ("hot ~0.97 0", 4, f"'~0.97' is {binary}; ~ marks entries of a 'row' only"),
+            ("hot ~0x1p-3 0", 4, f"'~0x1p-3' is {binary}; ~ marks entries of a 'row' only"),
+            ("hot ~ 0.97 0", 4, "found 3; ~ marks entries of a 'row' only"),
+            ("hot inf 0", 4, "'inf' is no finite number; an entry is -2 to 2"),
+            ("hot 0 -Infinity", 4, "'-Infinity' is no finite number; an entry is -2 to 2"),
+            ("hot nan 0", 4, "'nan' is no finite number; an entry is -2 to 2"),
+            ("hot 0 -NaN(0x1)", 4, "'-NaN(0x1)' is no finite number; an entry is -2 to 2"),
+            ("hot 2.0000000000000004 0", 4,
+             "entry 2.0000000000000004 in column 'hot' is beyond -2 to 2"),
+            ("hot 0 -0x1.0000000000001p1", 4,
+             "entry -0x1.0000000000001p1 in column 'cold' is beyond -2 to 2"),
+            ("hot 1e400 0", 4, "entry 1e400 in column 'hot' is beyond -2 to 2"),
+            ("hot 0 -0x1p99999", 4, "entry -0x1p99999 in column 'cold' is beyond -2 to 2"),
+            (f"hot {'9' * 400} 0", 4, f"entry {'9' * 50}.. in column 'hot' is beyond -2 to 2"),
+            ("hot 0.5", 4, "expected 2 numbers, one for each coordinate, found 1"),
+            ("hot 0.5 0 0x1p-3", 4, "expected 2 numbers, one for each coordinate, found 3"),
+            ("cold 0.5 0", 4, "row 'cold' comes where row 'hot' is due"),
+            ("0.5 0\nfitted hot 0.5 0", 5, "a second row 'hot', where row 'cold' is due"),
+            ("0.5 0\nfitted 0.5 0", 6, "one row too many"),
+        ):
+            with self.subTest(words[:40]):
+                old = f"{FIRST}\n{SECOND}" if "\nfitted hot" in words else FIRST
+                self.refused(old, f"fitted {words}", place, message)
+
+    def test_fitted_is_meant(self):
+        for row in ("0x1p-3 0.5", "hot 0x1p-3 0.5", "hot 0.5 1e-3", "1e-3 -0x1p-9"):
+            self.refused(FIRST, row, 4, f"did you mean 'fitted {row.split()[0]} ..'?")
+
     def test_no_input_set(self):
         """Its absence is no mistake, and none is told beside what may have been meant for it."""
         for old, new, place, message in (
@@ -297,10 +457,13 @@ class Messages(unittest.TestCase):
             ("centre", "mid", 7, "centre", "centre"),
             ("vertex 5", "point 5", 11, "vertex", "vertex, time, direction"),
             ("row hot", "matrix hot", 4, "row",
-             "time, row, scaled, initial, input, direction"),
-            ("row hot", "Row hot", 4, "row", "time, row, scaled, initial, input, direction"),
+             "time, row, scaled, fitted, initial, input, direction"),
+            ("row hot", "Row hot", 4, "row",
+             "time, row, scaled, fitted, initial, input, direction"),
+            ("row hot", "fit hot", 4, "fitted",
+             "time, row, scaled, fitted, initial, input, direction"),
             ("steps 7", "stops 7", 3, "steps",
-             "steps, time, row, scaled, initial, input, direction"),
+             "steps, time, row, scaled, fitted, initial, input, direction"),
             ("initial", "init", 6, "initial", "time, initial, input, direction"),
             ("input", "inputs", 9, "input", "generator, time, input, direction"),
             ("direction gap", "dir gap", 13, "direction", "time, direction, unit"),
@@ -513,13 +676,35 @@ class Command(helpers.FolderTest):
         self.assertIn("standard input: note: entries beyond n", said)
 
     def test_rounding_is_told_unless_quiet(self):
-        text = GOOD.replace("0.5", "~0.97").encode()
-        told = "1 entry was rounded (~); the largest relative change is 0.00013 %, of ~0.97 in row"
-        for options, name in (((), "standard input"), (("--name", "rail"), "rail")):
-            out, said, status = run_tool("pack.py", "pack", *options, "-", stdin=text)
-            self.assertEqual((said, status), (f"{name}: {told} 'hot'\n", 0))
-            self.assertEqual(out, pack.parse(text.decode()).data)
-        self.assertEqual(run_tool("pack.py", "pack", "--quiet", "-", stdin=text)[1], "")
+        for entry, how in (("row hot ~0.97", "~"), ("fitted hot 0.97", "fitted")):
+            text = GOOD.replace("row hot 0.5", entry).encode()
+            told = f"1 entry was rounded ({how}); the largest relative change is 0.00013 %,"
+            told += f" of {entry.split()[-1]} in row 'hot'"
+            for options, name in (((), "standard input"), (("--name", "rail"), "rail")):
+                out, said, status = run_tool("pack.py", "pack", *options, "-", stdin=text)
+                self.assertEqual((said, status), (f"{name}: {told}\n", 0))
+                self.assertEqual(out, pack.parse(text.decode()).data)
+            self.assertEqual(run_tool("pack.py", "pack", "--quiet", "-", stdin=text)[1], "")
+
+    def test_fitted_rows_are_packed_and_unpacked(self):
+        packed, again = self.folder / "fitted.bin", self.folder / "again.model"
+        text = self.write("fitted.model", GOOD.replace(FIRST, "fitted hot 0x1p-3 -2e-1"))
+        run_tool("pack.py", "pack", text, "-o", packed)
+        self.assertEqual(packed.read_bytes()[4], FITTED)
+        made = run_tool("pack.py", "unpack", packed, "--names", text, "-o", again)
+        self.assertEqual(made, (b"", "", 0))
+        self.assertIn("\nfitted hot 0.125 -0.2\n", again.read_text())
+        self.assertEqual(run_tool("pack.py", "pack", again)[0], packed.read_bytes())
+        # Entries beyond n, here a NaN, are left out with a note.
+        data = bytearray(packed.read_bytes())
+        data[4 + 2 + 2 * 8 : 4 + 2 + 3 * 8] = b"\xff" * 8
+        out, said, status = run_tool("pack.py", "unpack", "-", stdin=bytes(data))
+        self.assertEqual((status, pack.parse(out.decode()).data), (0, packed.read_bytes()))
+        self.assertIn("standard input: note: entries beyond n", said)
+        # With a wrong first byte it is still told from a text.
+        data[0] = 0
+        said = run_tool("pack.py", "pack", "-", stdin=bytes(data))[1]
+        self.assertIn("maybe a packed model whose first byte is 00", said)
 
     def test_no_input_set_is_told_unless_quiet(self):
         text = NO_INPUT.encode()
@@ -600,6 +785,7 @@ class Command(helpers.FolderTest):
             self.assertEqual(status, 0)
             self.assertIn(b"\n    direction NAME ENTRY ..       1 to 16, whole numbers\n", out)
             self.assertIn(b"\n    unit DIRECTION UNIT [COUNTS]  ", out)
+            self.assertIn(b"\n    fitted [NAME] ENTRY ..        the same, in numbers of", out)
             self.assertIn(b" set, in the same way; left out, the input is zero\n", out)
             self.assertIn(b" the file leaves them to the default, 120\n", out)
 

@@ -8,7 +8,7 @@ from helpers import run_tool
 
 import exact
 import readerfiles
-from layout import point, states_input
+from layout import LONGEST_FILE, offsets, point, states_input
 
 
 class ReaderFiles(unittest.TestCase):
@@ -81,13 +81,40 @@ class ReaderFiles(unittest.TestCase):
             ("no input set: a 17th direction", "refused 9 at 481"),  # 81 + 16 * 25
             ("no input set: guard on direction 1 of 1", "refused 8 at 106"),
             ("no input set: the longest file, then a byte", "refused 10 at 1121"),  # 1,521 - 400
+            ("at the start: kind 03 alone", "refused 3 at 0"),
+            ("after 01: kind 03 alone", "refused 1 at 4"),
+            ("after 01: kind 04 alone", "refused 2 at 4"),
+            ("after 02: kind 03 alone", "refused 3 at 30"),
+            ("after 40: kind 03 alone", "refused 3 at 140"),
+            ("03 without its last byte", "refused 1 at 4"),
+            ("after 03: kind 03 alone", "refused 3 at 54"),
+            ("after 03: kind 14 alone", "refused 1 at 54"),
+            ("after 03 of 2 rows: kind 02", "refused 1 at 54"),
+            ("after 03 of 2 rows: kind 10", "refused 3 at 54"),
+            ("rows 03 02 03", "model 3 1"),
+            ("fitted rows, any bits beyond n 1", "model 1 1"),
+            ("fitted entry: the next above 2", "refused 15 at 4"),
+            ("fitted entry: minus the first signalling NaN", "refused 15 at 4"),
+            ("wrong fitted entry 5 of 6", "refused 15 at 254"),  # 4 + 5 * 50
+            ("fitted entries: minus 2, the next below it, 1", "model 6 1"),
+            ("first fitted row is number 1", "refused 5 at 4"),
+            ("first fitted row is number 1, wrong entry", "refused 5 at 4"),
+            ("second row is number 2, 02 then 03", "refused 5 at 30"),
+            ("second row is number 0, wrong entry", "refused 5 at 54"),
+            ("a wrong fitted row without its last byte", "refused 1 at 4"),
+            ("a scaled row with kind 03", "refused 2 at 54"),  # in zeros of the lower corner
+            ("a fitted row with kind 02", "refused 2 at 30"),
+            ("a fitted row, all bits changed of byte 5", "refused 5 at 4"),
+            ("a fitted row, all bits changed of byte 13", "refused 15 at 4"),  # sign, exponent
+            ("longest with vertices and fitted rows", "model 6 256"),
+            ("the longest file with fitted rows, then a byte", "refused 10 at 1665"),
         ):
             self.assertEqual(self.replies.get(what), reply, what)
 
     def test_every_number(self):
         refused = [reply for reply in self.replies.values() if reply.startswith("refused")]
-        self.assertEqual({int(reply.split()[1]) for reply in refused}, set(range(1, 11)))
-        self.assertLess(len(self.files), 700)
+        self.assertEqual({int(reply.split()[1]) for reply in refused}, {*range(1, 11), 15})
+        self.assertLess(len(self.files), 850)
 
     def test_a_head_that_says_0_is_read_as_one_that_says_120(self):
         """File 4, of every file with a whole head, whatever it holds and wherever it is refused."""
@@ -99,16 +126,33 @@ class ReaderFiles(unittest.TestCase):
                 )
                 self.assertEqual(none, said, what)
                 replies.add(int(none.split()[1]) if none.startswith("refused") else none)
-        self.assertLessEqual({"model 1 120", "model 6 120", *range(1, 11)}, replies)
+        self.assertLessEqual({"model 1 120", "model 6 120", *range(1, 11), 15}, replies)
 
     def test_places(self):
-        """The start and behind each of 14 kinds; 33 pairs of a place and a kind are allowed."""
+        """The start and behind each of 15 kinds; 37 pairs of a place and a kind are allowed."""
         alone = [reply for what, reply in self.replies.items() if what.endswith(" alone")
                  and what.startswith(("at the start", "after"))]
         self.assertEqual(len(readerfiles.places()), 15)
-        self.assertEqual(len(alone), 15 * 16)
+        self.assertEqual(len(alone), 16 * 17)
         wrong = [reply for reply in alone if reply.startswith(("refused 2", "refused 3"))]
-        self.assertEqual(len(alone) - len(wrong), 33)
+        self.assertEqual(len(alone) - len(wrong), 37)
+
+    def test_mixtures(self):
+        """Rows of both kinds in each mixture are read as the scaled ones."""
+        files = dict(self.files)
+        mixed = [what for what in files if what.startswith("rows 0")]
+        self.assertEqual(len(mixed), 8)
+        for what in mixed:
+            data = files[what]
+            self.assertEqual(exact.read_model(data), exact.read_model(files["rows 02 02 02"]), what)
+            kinds = [f"{data[at]:02X}" for at in offsets(data)][1:4]
+            self.assertEqual(what, f"rows {' '.join(kinds)}")
+
+    def test_longest(self):
+        accepted = [file for file in self.files if self.replies[file[0]].startswith("model")]
+        longest = [what for what, data in accepted if len(data) >= LONGEST_FILE]
+        self.assertEqual(longest, ["longest with vertices and fitted rows"])
+        self.assertEqual(len(dict(accepted)[longest[0]]), LONGEST_FILE)
 
     def test_no_input_set(self):
         """Whole models without one are read as the same files with two corners of zeros."""

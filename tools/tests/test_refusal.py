@@ -6,7 +6,7 @@ from pathlib import Path
 from helpers import FolderTest, run_tool
 
 import refusal
-from layout import direction, guard, head, point, row
+from layout import direction, fitted, guard, head, pattern, point, row
 
 ROOT = Path(__file__).resolve().parents[2]
 ROWS = head(1, 3) + row(0, [5])
@@ -37,6 +37,9 @@ class Words(unittest.TestCase):
         self.told(ROWS, f"refused 1 at 30: the file ends where {FIRST_POINTS} should come")
         self.told(TWO[:-1], "refused 1 at 30: the file ends within row 1 (the second): 1 of its 26"
                             " bytes is missing; get the whole file")
+        self.told(head(1, 3), "the file ends where a row (02) or a fitted row (03) should come")
+        self.told(head(2, 3) + row(0, []) + fitted(1, [])[:-1],
+                  "refused 1 at 30: the file ends within fitted row 1 (the second): 1 of its 50")
         self.told(ASKED, "refused 1 at 105: the file ends where a direction (30), a guard (40) or"
                          " the end (FF) should come")
 
@@ -51,6 +54,10 @@ class Words(unittest.TestCase):
         self.told(b"\x02", "refused 3 at 0: a row (02) stands where only the head (01) may", START)
         self.told(ROWS + row(1, [5]),
                   f"refused 3 at 30: a row (02) stands where only {FIRST_POINTS} may stand")
+        self.told(ROWS + fitted(1, []),
+                  f"refused 3 at 30: a fitted row (03) stands where only {FIRST_POINTS} may stand")
+        self.told(head(2, 3) + fitted(0, []) + direction([1]),
+                  "a direction (30) stands where only a row (02) or a fitted row (03) may stand")
         self.told(ROWS + point(0x12, [1]) + point(0x24, [1]),
                   "refused 3 at 55: a vertex of the input set (24) stands where only a generator of"
                   " the initial set (13) may stand")
@@ -97,6 +104,12 @@ class Words(unittest.TestCase):
                   "refused 5 at 4: row 0 (the first): entry -131,073 in column 1 (the second) must"
                   " be -131,072 to 131,072 in 1/65,536, which is -2 to 2")
 
+        self.told(head(2, 3) + row(0, []) + fitted(0, [pattern(-2.5)]),
+                  "refused 5 at 30: fitted row 1 (the second): it says number 0 and must say 1;"
+                  " entry -2.5 in column 0 (the first) must be")
+        self.told(head(2, 3) + fitted(0, []) + row(2, []),
+                  "refused 5 at 54: row 1 (the second): it says number 2 and must say 1")
+
     def test_6_sets(self):
         self.told(TWO + point(0x10, [3, 2]) + point(0x11, [3, 1]),
                   "refused 6 at 81: the upper corner of the initial set: upper 1 is below lower 2"
@@ -135,6 +148,18 @@ class Words(unittest.TestCase):
         self.told(ASKED + b"\xff\xff", "refused 10 at 106: 1 byte follows the end (FF)")
         self.told(ASKED + b"\xff" + bytes(5_000), "refused 10 at 106: 5,000 bytes follow the end")
 
+    def test_15_fitted_rows(self):
+        for bits, shown in ((pattern(2.0) + 1, "2.0000000000000004"), (pattern(-1e300), "-1e+300"),
+                            (0x7FF0 << 48, "inf"), (0xFFF0 << 48, "-inf"), (0x7FF8 << 48, "nan"),
+                            (0xFFF0 << 48 | 1, "nan")):
+            self.told(head(2, 3) + row(0, []) + fitted(1, [0, bits]),
+                      f"refused 15 at 30: fitted row 1 (the second): entry {shown} in column 1 (the"
+                      " second) must be a number from -2 to 2")
+        wrong = fitted(0, [pattern(2.5), pattern(-3.0), pattern(9.0)])
+        said = refusal.message("rail", head(2, 3) + wrong)
+        self.assertEqual(said.count("must be a number"), 2)
+        self.assertNotIn("says number", said)
+
     def test_not_refused(self):
         self.assertEqual(refusal.message("rail", ASKED + b"\xff"),
                          "rail: not refused: a model with n 1 and 3 steps")
@@ -143,7 +168,7 @@ class Words(unittest.TestCase):
         """Number and offset are those of the replies, and no sentence serves two numbers."""
         numbers = {}
         replies = (ROOT / "crates" / "readings" / "stdout").read_text().splitlines()
-        self.assertEqual(len(replies), 686)
+        self.assertEqual(len(replies), 824)
         for name, reply in (line.split(": ") for line in replies):
             data = (ROOT / "crates" / "readings" / "data" / name).read_bytes()
             said = refusal.message("f", data)
@@ -153,7 +178,7 @@ class Words(unittest.TestCase):
             self.assertTrue(said.startswith(f"f: {reply}: "), said)
             numbers.setdefault(said.split(": ", 2)[2], set()).add(reply.split()[1])
         self.assertEqual({len(of_one) for of_one in numbers.values()}, {1})
-        self.assertEqual(set().union(*numbers.values()), {str(i) for i in range(1, 11)})
+        self.assertEqual(set().union(*numbers.values()), {str(i) for i in (*range(1, 11), 15)})
 
 
 class Command(FolderTest):

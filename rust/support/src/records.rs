@@ -14,6 +14,7 @@ pub fn body_length(kind: u8) -> Option<usize> {
     match kind {
         0x01 => Some(3),
         0x02 => Some(25),
+        0x03 => Some(49),
         0x10..=0x14 | 0x20..=0x24 | 0x30 => Some(24),
         0x40 => Some(9),
         0xFF => Some(0),
@@ -44,6 +45,13 @@ fn six(numbers: &[i32]) -> Vec<u8> {
 
 pub fn row(number: u8, entries: &[i32]) -> Record {
     Record { kind: 0x02, body: [vec![number], six(entries)].concat() }
+}
+
+/// A row of numbers of binary64, by the 64 bits of each: not every NaN keeps them as a float.
+pub fn fitted(number: u8, patterns: &[u64]) -> Record {
+    let mut all = [0; 6];
+    all[..patterns.len()].copy_from_slice(patterns);
+    Record { kind: 0x03, body: [vec![number], all.map(u64::to_le_bytes).concat()].concat() }
 }
 
 /// A point of a set or a direction.

@@ -7,6 +7,7 @@ use pepperscarp::Refusal;
 pub const ENTRY_LIMIT: i32 = 131_072;
 const REACH_LIMIT: i64 = 1_048_576;
 const DIRECTION_LIMIT: i32 = 1_000;
+const FITTED_LIMIT: f64 = 2.0;
 
 /// Numbers of six coordinates. What lies beyond n is zero.
 pub type Six = [i32; 6];
@@ -91,7 +92,7 @@ fn may_come(SoFar { model, rows }: &SoFar, kind: u8) -> bool {
     };
     match kind {
         0x01 => !head,
-        0x02 => head && !rows,
+        0x02 | 0x03 => head && !rows,
         0x10..=0x14 => point(&model.initial, rows && model.input.points.is_empty()),
         0x20..=0x24 => point(&model.input, model.initial.is_complete() && model.directions.is_empty()),
         // Without input records it stands straight after a complete initial set (File 10).
@@ -125,6 +126,23 @@ fn six(n: usize, bytes: &[u8]) -> Six {
     all
 }
 
+/// What a number of binary64 becomes in the matrix (File 12); `None` where it is not finite or beyond 2 (Refusals 15).
+///
+/// The product is exact, since 65,536 is a power of two and nothing here is large.
+pub fn fitted_entry(value: f64) -> Option<i32> {
+    // No comparison holds of a NaN.
+    (value.abs() <= FITTED_LIMIT).then(|| (value * 65_536.0).round_ties_even() as i32)
+}
+
+/// The entries that the first n of six numbers of binary64 become; those behind them are not looked at, and are zero here.
+fn fitted_six(n: usize, bytes: &[u8]) -> Option<Six> {
+    let mut all = [0; 6];
+    for (entry, eight) in all.iter_mut().zip(bytes.chunks_exact(8)).take(n) {
+        *entry = fitted_entry(f64::from_le_bytes(eight.try_into().expect("eight bytes")))?;
+    }
+    Some(all)
+}
+
 fn within(numbers: &Six, limit: i32) -> bool {
     numbers.iter().all(|number| (-limit..=limit).contains(number))
 }
@@ -141,7 +159,7 @@ fn take_point(set: &mut Set, n: usize, kind: u8, body: &[u8]) -> bool {
     in_reach && in_order
 }
 
-/// Stores a record; the number of the value test that it fails (Refusals 4 to 8), or 0.
+/// Stores a record; the number of the value test that it fails (Refusals 4 to 8 and 15), or 0.
 fn take(SoFar { model, rows }: &mut SoFar, kind: u8, body: &[u8]) -> u8 {
     match kind {
         0x01 => {
@@ -158,6 +176,16 @@ fn take(SoFar { model, rows }: &mut SoFar, kind: u8, body: &[u8]) -> u8 {
             if usize::from(body[0]) != *rows || !within(&row, ENTRY_LIMIT) {
                 return 5;
             }
+            model.matrix[*rows] = row;
+            *rows += 1;
+        }
+        0x03 => {
+            if usize::from(body[0]) != *rows {
+                return 5;
+            }
+            let Some(row) = fitted_six(model.n, &body[1..]) else {
+                return 15;
+            };
             model.matrix[*rows] = row;
             *rows += 1;
         }

@@ -1,10 +1,10 @@
-//! Figures 1 to 14 and 16 to 22 of the specification, as far as the interface shows them, its sample (Listing 8), and the listings
+//! Figures 1 to 14 and 16 to 23 of the specification, as far as the interface shows them, its sample (Listing 8), and the listings
 //! in examples/.
 
 use crate::sweeps::compare_sweep;
 use pepperscarp::{judge, list_length, step, sweep, Refusal, Verdict, LISTING_ROOM};
 use std::path::Path;
-use support::records::{end, file, guard, head, numbers, row, Record};
+use support::records::{end, file, fitted, guard, head, numbers, row, Record};
 use support::{calls, listing, specification};
 
 /// A model of one coordinate with boxes.
@@ -187,6 +187,23 @@ fn cases_21_and_22_supports_with_one_point_more() {
 }
 
 #[test]
+fn case_23_fitted_entries_become_the_nearest_and_of_two_the_even_one() {
+    let reply = |value: f64| {
+        let vertex = numbers(0x14, &[65_536]);
+        let bytes = file(&[head(1, 1), fitted(0, &[value.to_bits()]), vertex, numbers(0x30, &[1]), end()]);
+        swept(&bytes).map(|(_, bounds, _)| bounds[1])
+    };
+    let ties = [(1.5, 2), (2.5, 2), (-1.5, -2), (-2.5, -2)].map(|(units, entry)| (units / 65_536.0, entry));
+    let others = [(2.0, 131_072), (-2.0, -131_072), (f64::from_bits(1), 0), (-f64::from_bits(1), 0), (0.0, 0), (-0.0, 0)];
+    for (value, entry) in ties.into_iter().chain(others) {
+        assert_eq!(reply(value), Ok(entry), "{value:e}");
+    }
+    for beyond in [f64::from_bits(2f64.to_bits() + 1), -f64::from_bits(2f64.to_bits() + 1)] {
+        assert_eq!(reply(beyond), Err(Refusal::File { number: 15, offset: 4 }));
+    }
+}
+
+#[test]
 fn errors_are_rounded_up_and_the_slack_is_doubled() {
     let (_, bounds, slacks) = swept(&line(3, 3, [0, 1], [0, 0], 1, &[])).expect("calm");
     assert_eq!((bounds, slacks), (vec![1, 1, 1, 1], vec![0, 1, 2, 2]));
@@ -211,5 +228,5 @@ fn the_calls_and_the_listing_give_the_text_of_every_example() {
             seen += 1;
         }
     }
-    assert!(seen >= 7, "the examples are there");
+    assert!(seen >= 9, "the examples are there");
 }

@@ -4,6 +4,7 @@
 //! fixed seeds and assert that each kind of reply came often enough.
 
 mod figures;
+mod fitted;
 mod lent;
 mod listings;
 mod makers;

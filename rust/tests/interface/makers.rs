@@ -1,6 +1,6 @@
 //! Random models as records, and ways to damage them. The generator is fixed, so every run makes the same files.
 
-use support::records::{end, guard, head, numbers, row, Record};
+use support::records::{end, fitted, guard, head, numbers, row, Record};
 
 /// A small generator (splitmix64).
 pub struct Random(u64);
@@ -47,6 +47,54 @@ fn filled(random: &mut Random, n: usize, mut entries: [i32; 6]) -> [i32; 6] {
     entries
 }
 
+/// The sign of 64 bits.
+pub const SIGN: u64 = 1 << 63;
+
+/// Numbers of 64 bits that no fitted row may hold, without their sign: the next above 2, 4, the largest, infinity, NaNs.
+pub const NO_ENTRIES: [u64; 8] = [
+    0x4000_0000_0000_0001,
+    0x4010_0000_0000_0000,
+    0x7FEF_FFFF_FFFF_FFFF,
+    0x7FF0_0000_0000_0000,
+    0x7FF0_0000_0000_0001,
+    0x7FF7_FFFF_FFFF_FFFF,
+    0x7FF8_0000_0000_0000,
+    0x7FFF_FFFF_FFFF_FFFF,
+];
+
+/// The 64 bits of what is no fitted entry, of either sign.
+fn no_entry(random: &mut Random) -> u64 {
+    random.pick(&NO_ENTRIES) | random.pick(&[0, SIGN])
+}
+
+/// The 64 bits of a fitted value near a stored entry: at it, at a tie beside it, or anywhere up to there; of 0 also the tiniest.
+pub fn near(random: &mut Random, entry: i32) -> u64 {
+    if entry == 0 && random.one_in(3) {
+        let any = random.bits() >> random.pick(&[3, 12]);
+        let tiny = random.pick(&[0, 0, 1, (1 << 52) - 1, 1 << 52, any, any]);
+        return tiny.min(2f64.powi(-17).to_bits()) | random.pick(&[0, SIGN]);
+    }
+    let somewhere = random.between(-500, 500) as f64 / 1_000.0;
+    let beside = random.pick(&[0.0, 0.5, -0.5, somewhere, somewhere]);
+    let bits = ((f64::from(entry) + beside) / 65_536.0).clamp(-2.0, 2.0).to_bits();
+    // Toward 0 by one bit, which passes no limit.
+    bits - u64::from(bits & !SIGN > 0 && random.one_in(4))
+}
+
+/// A fitted row near these entries. Those beyond n, which a reader ignores, are sometimes filled.
+fn fitted_row(random: &mut Random, n: usize, number: u8, entries: &[i32; 6]) -> Record {
+    let mut patterns = [0; 6];
+    for (bits, entry) in patterns.iter_mut().zip(&entries[..n]) {
+        *bits = near(random, *entry);
+    }
+    if random.one_in(2) {
+        for bits in &mut patterns[n..] {
+            *bits = if random.one_in(2) { no_entry(random) } else { random.bits() };
+        }
+    }
+    fitted(number, &patterns)
+}
+
 /// How the entries of a matrix are drawn.
 #[derive(Clone, Copy, Debug)]
 enum Matrix {
@@ -60,6 +108,8 @@ enum Matrix {
 fn matrix_rows(random: &mut Random, n: usize) -> Vec<Record> {
     let style = random.pick(&[Matrix::Calm, Matrix::Calm, Matrix::Swinging, Matrix::Growing, Matrix::Extreme, Matrix::Sparse]);
     let share = 65_535 / n as i64;
+    // Of four matrices two have scaled rows, one has fitted rows, and one has both.
+    let fitted = random.pick(&[0, 0, 1, 2]);
     (0..n)
         .map(|number| {
             let mut entries = [0; 6];
@@ -73,6 +123,9 @@ fn matrix_rows(random: &mut Random, n: usize) -> Vec<Record> {
                     Matrix::Sparse if random.one_in(n) => random.between(-65_536, 65_536),
                     Matrix::Sparse => 0,
                 } as i32;
+            }
+            if fitted > 0 && random.below(2) < fitted {
+                return fitted_row(random, n, number as u8, &entries);
             }
             let entries = filled(random, n, entries);
             row(number as u8, &entries)
@@ -165,6 +218,11 @@ pub fn model(random: &mut Random) -> Vec<Record> {
     records
 }
 
+/// Whether this is the kind of a row, scaled or fitted.
+pub fn is_row(kind: u8) -> bool {
+    matches!(kind, 0x02 | 0x03)
+}
+
 /// The places of the records of a kind.
 fn places(records: &[Record], fits: impl Fn(u8) -> bool) -> Vec<usize> {
     (0..records.len()).filter(|place| fits(records[*place].kind)).collect()
@@ -196,17 +254,32 @@ pub fn damage_records(random: &mut Random, records: &mut Vec<Record>) {
                 records.insert(place, copy.clone());
             }
         }
-        4 => records[place].kind = random.pick(&[0x01, 0x02, 0x10, 0x11, 0x12, 0x13, 0x14, 0x20, 0x23, 0x24, 0x30, 0x40, 0xFF]),
+        4 => {
+            records[place].kind =
+                random.pick(&[0x01, 0x02, 0x03, 0x10, 0x11, 0x12, 0x13, 0x14, 0x20, 0x23, 0x24, 0x30, 0x40, 0xFF])
+        }
         5 => records[place].kind = random.bits() as u8,
         6 => records[0] = head(random.pick(&[0, 1, 6, 7, 255]), random.pick(&[0, 1, 256, 257, 512, 65_535])),
         7 => {
-            let place = random.pick(&places(records, |kind| kind == 0x02));
+            let place = random.pick(&places(records, is_row));
             put(&mut records[place], 0, &[random.pick(&[0, 1, 5, 6, 255])]);
         }
         8 => {
-            let place = random.pick(&places(records, |kind| kind == 0x02));
-            let entry: i32 = random.pick(&[131_073, -131_073, 131_072, -131_072, i32::MIN, i32::MAX]);
-            put(&mut records[place], 1 + 4 * random.below(n), &entry.to_le_bytes());
+            let place = random.pick(&places(records, is_row));
+            if records[place].kind == 0x03 {
+                let bits = match random.below(5) {
+                    0 => (2f64.to_bits() - random.below(2) as u64) | random.pick(&[0, SIGN]),
+                    1 => random.bits(),
+                    _ => no_entry(random),
+                };
+                put(&mut records[place], 1 + 8 * random.below(n), &bits.to_le_bytes());
+                if random.one_in(3) {
+                    put(&mut records[place], 0, &[random.pick(&[0, 1, 6])]);
+                }
+            } else {
+                let entry: i32 = random.pick(&[131_073, -131_073, 131_072, -131_072, i32::MIN, i32::MAX]);
+                put(&mut records[place], 1 + 4 * random.below(n), &entry.to_le_bytes());
+            }
         }
         9 | 10 => {
             let place = random.pick(&places(records, |kind| (0x10..0x30).contains(&kind)));

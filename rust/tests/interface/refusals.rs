@@ -1,10 +1,11 @@
 //! Refusals: the number, offset or step is the specification's, and no lent element changes.
 
 use crate::lent::Lent;
-use crate::makers::{damage_bytes, damage_records, model, open_model, Random};
+use crate::makers::{damage_bytes, damage_records, is_row, model, open_model, Random};
 use crate::sweeps::{compare_judge, compare_sweep};
 use pepperscarp::{judge, list_length, sweep, Refusal, LONGEST_LIST};
-use support::records::{body_length, end, file, guard, head, numbers, row, Record};
+use std::collections::BTreeMap;
+use support::records::{body_length, end, file, fitted, guard, head, numbers, row, Record};
 use support::recurrence;
 use support::specification;
 
@@ -59,21 +60,22 @@ fn a_file_cut_anywhere_is_refused_as_the_specification_says() {
 #[test]
 fn files_with_damaged_records_and_values_get_the_reply_of_the_specification() {
     let mut random = Random::new(12);
-    let mut seen = [0; 11];
+    let mut seen = BTreeMap::new();
     for _ in 0..40_000 {
         let mut records = model(&mut random);
         damage_records(&mut random, &mut records);
         if random.one_in(4) && records.first().is_some_and(|record| record.kind == 0x01 && (1..=6).contains(&record.body[0])) {
-            let whole = [0x02, 0x30].iter().all(|kind| records.iter().any(|record| record.kind == *kind));
-            let points = records.iter().any(|record| (0x10..0x30).contains(&record.kind));
-            if whole && points && records.iter().all(has_its_body) {
+            let any = |of_sort: fn(u8) -> bool| records.iter().any(|record| of_sort(record.kind));
+            let parts = [is_row, |kind| (0x10..0x30).contains(&kind), |kind| kind == 0x30];
+            if parts.into_iter().all(any) && records.iter().all(has_its_body) {
                 damage_records(&mut random, &mut records);
             }
         }
-        seen[usize::from(compare_file(&mut random, &file(&records)))] += 1;
+        *seen.entry(compare_file(&mut random, &file(&records))).or_insert(0) += 1;
     }
-    println!("accepted, then refused by 1 to 10: {seen:?}");
-    assert!(seen.iter().all(|count| *count > 20), "every number comes: {seen:?}");
+    println!("accepted (0), and refused by each number: {seen:?}");
+    assert!(seen.keys().copied().eq((0..=10).chain([15])), "every number comes: {seen:?}");
+    assert!(seen.values().all(|count| *count > 20), "often: {seen:?}");
 }
 
 /// The record's body is as long as its kind says, so that a second damage finds its place.
@@ -84,20 +86,22 @@ fn has_its_body(record: &Record) -> bool {
 #[test]
 fn files_with_damaged_bytes_get_the_reply_of_the_specification() {
     let mut random = Random::new(13);
-    let mut seen = [0; 11];
+    let mut seen = BTreeMap::new();
     for _ in 0..40_000 {
         let mut bytes = file(&model(&mut random));
         damage_bytes(&mut random, &mut bytes);
-        seen[usize::from(compare_file(&mut random, &bytes))] += 1;
+        *seen.entry(compare_file(&mut random, &bytes)).or_insert(0) += 1;
     }
-    println!("accepted, then refused by 1 to 10: {seen:?}");
-    assert!(seen.iter().enumerate().all(|(number, count)| *count > 20 || number == 9), "nearly every number comes: {seen:?}");
+    println!("accepted (0), and refused by each number: {seen:?}");
+    seen.remove(&9);
+    assert!(seen.keys().copied().eq((0..=8).chain([10, 15])), "every number but 9 comes: {seen:?}");
+    assert!(seen.values().all(|count| *count > 20), "often: {seen:?}");
 }
 
 #[test]
 fn bytes_that_were_never_a_model_get_the_reply_of_the_specification() {
     let mut random = Random::new(14);
-    let kinds = [0x01, 0x02, 0x10, 0x11, 0x12, 0x13, 0x14, 0x20, 0x21, 0x24, 0x30, 0x40, 0xFF];
+    let kinds = [0x01, 0x02, 0x03, 0x10, 0x11, 0x12, 0x13, 0x14, 0x20, 0x21, 0x24, 0x30, 0x40, 0xFF];
     for _ in 0..40_000 {
         let length = random.pick(&[0, 1, 3, 4, 5, 30, 90, 200, 2_048, 3_000]);
         let mut bytes: Vec<u8> = (0..length).map(|_| random.bits() as u8).collect();
@@ -234,21 +238,23 @@ fn one_more_of_anything_that_is_counted_is_refused_by_9_and_the_most_is_accepted
 #[test]
 fn the_longest_file_is_accepted_and_a_byte_more_is_refused_by_10() {
     let mut records = vec![head(6, 256)];
-    records.extend((0..6).map(|number| row(number, &[9_000, -9_000, 9_000, -9_000, 9_000, -9_000])));
+    let entries = [9_000.0, -9_000.0, 9_000.25, -9_000.25, 9_000.5, -9_000.5].map(|x: f64| (x / 65_536.0).to_bits());
+    records.extend((0..6).map(|number| fitted(number, &entries)));
     records.extend((0..16).map(|k| numbers(0x14, &[k, -k, k, -k, k, -k])));
     records.extend((0..16).map(|k| numbers(0x24, &[k, k, k, k, k, k])));
     records.extend((0..16).map(|k| numbers(0x30, &[k + 1, 2, 3, 4, 5, 6])));
     records.extend((0..16).map(|k| guard(k, 1_000)));
     records.push(end());
     let mut bytes = file(&records);
-    assert_eq!(bytes.len(), 1_521);
+    assert_eq!(bytes.len(), 1_665);
     let model = specification::read(&bytes).expect("a model");
+    assert_eq!(model.matrix, [[9_000, -9_000, 9_000, -9_000, 9_000, -9_000]; 6]);
     for number in 0..16 {
         compare_sweep(&bytes, &model, number);
         compare_judge(&bytes, &model, number).expect("calm");
     }
     bytes.push(0xFF);
-    assert_refused(&bytes, Refusal::File { number: 10, offset: 1_521 }, 0, (257, 257));
+    assert_refused(&bytes, Refusal::File { number: 10, offset: 1_665 }, 0, (257, 257));
 }
 
 #[test]

@@ -79,7 +79,7 @@ fn every_sweep_and_every_verdict_of_random_models_is_that_of_the_specification()
     let mut verdicts = [0; 4];
     let mut sizes = [0; 7];
     let mut forms = [0; 3];
-    let mut without_input = 0;
+    let (mut without_input, mut fitted, mut mixed) = (0, 0, 0);
     for _ in 0..6_000 {
         let mut records = open_model(&mut random);
         records.push(end());
@@ -92,6 +92,9 @@ fn every_sweep_and_every_verdict_of_random_models_is_that_of_the_specification()
         } else {
             without_input += 1;
         }
+        let has = |kind| records.iter().any(|record| record.kind == kind);
+        fitted += usize::from(has(0x03));
+        mixed += usize::from(has(0x02) && has(0x03));
         let envelopes: Vec<Option<Envelope>> =
             model.directions.iter().map(|direction| recurrence::sweep(&model, direction).ok()).collect();
         let guards = random.pick(&[0, 1, 3, 16]);
@@ -120,9 +123,11 @@ fn every_sweep_and_every_verdict_of_random_models_is_that_of_the_specification()
         }
     }
     println!("swept {swept}, grown {grown}, HIT UNKNOWN CLEAR growth {verdicts:?}, n {sizes:?}, forms {forms:?}, no input {without_input}");
+    println!("fitted rows in {fitted} models, beside scaled ones in {mixed}");
     assert!(swept > 10_000 && grown > 2_000, "both come often");
     assert!(verdicts.iter().all(|count| *count > 800), "each verdict comes often");
     assert!(sizes[1..].iter().all(|count| *count > 800) && forms.iter().all(|count| *count > 3_000) && without_input > 800);
+    assert!(fitted > 2_000 && mixed > 600, "fitted rows come often, alone and mixed");
 }
 
 #[test]
