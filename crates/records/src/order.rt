@@ -13,8 +13,8 @@ pub enum Part {
     End,
 }
 
-// A place, and a kind that may stand there. The place is the kind of the record read last: 00 at the start, and 01 until all n
-// rows are in.
+// A place, and a kind that may stand there. The place is the kind of the record read last, but 00 at the start, 01 until all n rows
+// are in, and 02 then, also behind a fitted row.
 struct Pair(u8, u8);
 
 const ORDER: [Pair; 34] = [
