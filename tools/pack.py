@@ -1,8 +1,9 @@
 #!/usr/bin/env python3
-"""Models as texts: packed into files, and files unpacked into texts.
+"""Models as texts: packed into files, and files unpacked into texts; and what rounding changes.
 
     pack.py pack [--name NAME] [--quiet] TEXT [-o FILE]
     pack.py unpack FILE [--names TEXT] [-o TEXT]
+    pack.py rounded MODEL
 
 A text has one statement in a row, and `#` starts a comment:
 
@@ -34,6 +35,12 @@ is refused here: all mistakes, up to twenty, are told with the text's name, or N
 A file has no names, units or time. Unpacked, its coordinates are x0, x1, .. and its directions d0,
 d1, .., or all of these are those of the text that `--names` gives. Fitted rows stay so: each entry
 is the shortest decimal that gives its 64 bits again.
+
+`rounded` prints how far the matrix of MODEL, a text or a file, is from what was written. For each
+entry that rounding changes: row, column, the entry (cut where it is long), the whole number of
+1/65,536 that is stored, 65,536 times the entry minus that number, and the relative change. A fitted
+entry counts as its number of binary64. The last line sums up. Of a file only fitted entries can be
+told, each as it is unpacked: it has nothing of a `~`.
 """
 
 from __future__ import annotations
@@ -48,10 +55,12 @@ from typing import Iterable
 import exact
 import files
 import refusal
-from layout import DEFAULT_STEPS, HEAD, MAX_N, ROW_KINDS, fitted_rows_of, states_input
+from layout import (
+    DEFAULT_STEPS, HEAD, MATRIX_UNIT, MAX_N, ROW_KINDS, fitted_rows_of, states_input,
+)
 from listings import Refusal
-from spelling import decimal_text, float_text
-from textform import POINT_WORDS, Source, parse
+from spelling import FLOAT, decimal_text, float_text
+from textform import POINT_WORDS, Source, parse, rounded_in
 
 
 def read_source(data: bytes, name: str = "file") -> Source:
@@ -59,6 +68,12 @@ def read_source(data: bytes, name: str = "file") -> Source:
     model = exact.read_model(data)
     if isinstance(model, Refusal):
         raise files.Failure(refusal.message(name, data))
+    fitted = fitted_rows_of(data, model.n)
+    rounded = [
+        entry
+        for number, row in fitted.items()
+        for entry in rounded_in(number, FLOAT, [*map(float_text, row)], model.matrix[number])
+    ]
     return Source(
         model,
         int.from_bytes(data[2:4], "little"),
@@ -66,7 +81,8 @@ def read_source(data: bytes, name: str = "file") -> Source:
         tuple(f"x{i}" for i in range(model.n)),
         tuple(f"d{i}" for i in range(len(model.directions))),
         (None,) * len(model.directions),
-        fitted=fitted_rows_of(data, model.n),
+        fitted=fitted,
+        rounded=tuple(rounded),
     )
 
 
@@ -167,11 +183,40 @@ def rounding(source: Source) -> str | None:
     marked = [entry.word.startswith("~") for entry in source.rounded]
     how = " and ".join(["~"] * any(marked) + ["fitted"] * (not all(marked)))
     most = max(source.rounded, key=lambda entry: entry.change)
-    of = f"{most.word} in row {most.row!r}"
+    of = f"{most.word} in row {source.coordinates[most.row]!r}"
     told += f" rounded ({how}); the largest relative change is"
     if most.change == 1:
         return f"{told} 100 %: {of} becomes 0"
     return f"{told} {percent(most.change)}, of {of}"
+
+
+def distance_text(distance: Fraction) -> str:
+    """A distance to four decimals, without its sign; one too small for these has an exponent."""
+    if abs(distance) < Fraction(1, 10_000):
+        return f"{float(abs(distance)):.1e}"
+    count = exact.nearest(10_000 * abs(distance))
+    return f"{count // 10_000}.{count % 10_000:04}"
+
+
+def rounded_entries(source: Source) -> str:
+    """What rounding changes: a line for each entry, and one that sums up."""
+    names, rounded = source.coordinates, source.rounded
+    cells = []
+    for entry in rounded:
+        place = (names[entry.row], names[entry.column])
+        distance = ("-" if entry.distance < 0 else "+") + distance_text(entry.distance)
+        cells.append((*place, entry.word, str(entry.stored), distance, percent(entry.change)))
+    sides = (str.ljust,) * 3 + (str.rjust,) * 3
+    widths = [max(map(len, column)) for column in zip(*cells)]
+    lines = [
+        "  ".join(side(cell, width) for side, cell, width in zip(sides, line, widths))
+        for line in cells
+    ]
+    told = f"entries changed by rounding: {len(rounded) or 'none'} of {source.model.n ** 2}"
+    if rounded:
+        most = distance_text(max(abs(entry.distance) for entry in rounded))
+        told += f"; the largest distance is {most} of 1/{MATRIX_UNIT:,}"
+    return "\n".join([*lines, told]) + "\n"
 
 
 def notes(source: Source) -> list[str]:
@@ -186,18 +231,24 @@ def main() -> None:
     parser = argparse.ArgumentParser(description=form, formatter_class=raw)
     commands = parser.add_subparsers(dest="command", required=True)
     subs = {}
-    for command, what, to in (("pack", "text", "file"), ("unpack", "file", "text")):
-        sub = commands.add_parser(
-            command, help=f"{what} to {to}", description=form, formatter_class=raw
-        )
-        sub.add_argument("source", metavar=what.upper(), help="- is standard input")
-        sub.add_argument("-o", dest="to", metavar=to.upper(), help="standard output without it")
+    for command, does, what, to in (
+        ("pack", "text to file", "TEXT", "FILE"),
+        ("unpack", "file to text", "FILE", "TEXT"),
+        ("rounded", "what rounding changes in a text or a file", "MODEL", None),
+    ):
+        sub = commands.add_parser(command, help=does, description=form, formatter_class=raw)
+        sub.add_argument("source", metavar=what, help="- is standard input")
+        if to is not None:
+            sub.add_argument("-o", dest="to", metavar=to, help="standard output without it")
         subs[command] = sub
     subs["pack"].add_argument("--name", help="what messages call the text")
     subs["pack"].add_argument("--quiet", action="store_true",
                               help="say nothing of rounding, or of an input set that is left out")
     subs["unpack"].add_argument("--names", metavar="TEXT", help="the names, units and time")
     options = parser.parse_args()
+    if options.command == "rounded":
+        files.write_bytes(None, rounded_entries(load(options.source)).encode("utf-8"))
+        return
     data, name = files.read_bytes(options.source), files.shown(options.source)
     if options.command == "pack":
         name = options.name or name

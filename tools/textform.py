@@ -11,7 +11,7 @@ import re
 from dataclasses import dataclass, field
 from fractions import Fraction
 from functools import partial
-from typing import Callable, NoReturn, TypeVar
+from typing import Callable, NoReturn, Sequence, TypeVar
 
 import exact
 import files
@@ -52,11 +52,23 @@ Number = TypeVar("Number", int, Fraction)
 
 @dataclass(frozen=True)
 class Rounded:
-    """A `~` or fitted entry that rounding changed: as written, its row, and the relative change."""
+    """A `~` or fitted entry that rounding changed: as written, its place, and what it became."""
 
     word: str
-    row: str
-    change: Fraction
+    row: int
+    column: int
+    scaled: Fraction  # 65,536 times the entry
+    stored: int  # the nearest to that
+
+    @property
+    def distance(self) -> Fraction:
+        """How far the entry is above what is stored, in 1/65,536; below, where it is negative."""
+        return self.scaled - self.stored
+
+    @property
+    def change(self) -> Fraction:
+        """The relative change."""
+        return abs(self.distance / self.scaled)
 
 
 @dataclass(frozen=True)
@@ -71,7 +83,7 @@ class Source:
     units: tuple[tuple[str, int] | None, ...]  # of each direction: the unit, and counts in one
     time: tuple[Fraction, str] | None = None  # how long a step takes, and in which unit
     fitted: dict[int, Vector] = field(default_factory=dict)  # the fitted rows, by their numbers
-    rounded: tuple[Rounded, ...] = ()
+    rounded: tuple[Rounded, ...] = ()  # in the order of the matrix
 
     @property
     def data(self) -> bytes:
@@ -92,6 +104,19 @@ def _value(word: str, form: re.Pattern[str]) -> Fraction | None:
         bits = binary64(word)
         return None if bits is None else exact.binary64(bits)
     return Fraction(word.lstrip("~"))
+
+
+def rounded_in(
+    row: int, form: re.Pattern[str], words: Sequence[str], entries: Sequence[int | None]
+) -> list[Rounded]:
+    """The entries of a row that rounding changed, in the order of their columns; no wrong ones."""
+    found = []
+    for column, (word, entry) in enumerate(zip(words, entries)):
+        if entry is not None and form.fullmatch(word):
+            scaled = MATRIX_UNIT * _value(word, form)
+            if entry != scaled:
+                found.append(Rounded(cut(word), row, column, scaled, entry))
+    return found
 
 
 def _limited(
@@ -259,19 +284,14 @@ class _Parser:
         return nearest
 
     def entries_of_row(
-        self, row: str, form: re.Pattern[str], words: list[str]
+        self, row: int, form: re.Pattern[str], words: list[str]
     ) -> list[int | None]:
         """The entries of a row in units of 1/65,536; those that rounding changes are noted."""
         if form is WHOLE:
             return self.entries(words, self.column_limit(MAX_ENTRY, "entry"))
         read = self.fitted_entry if form is FLOAT else self.row_entry
         entries = self.entries(words, lambda column: partial(read, column), form)
-        for word, entry in zip(words, entries):
-            if entry is not None and form.fullmatch(word):
-                scaled = MATRIX_UNIT * _value(word, form)
-                if entry != scaled:
-                    change = abs(entry - scaled) / abs(scaled)
-                    self.rounded.append(Rounded(cut(word), row, change))
+        self.rounded += rounded_in(row, form, words, entries)
         return entries
 
     def column_limit(self, limit: int, what: str) -> Callable[[int], Callable[[str], int]]:
@@ -473,7 +493,7 @@ class _Parser:
             elif name != due and self.sure_names:
                 self.tell(told)
         self.last_row = number
-        self.matrix[number] = self.entries_of_row(self.coordinates[number], form, words)
+        self.matrix[number] = self.entries_of_row(number, form, words)
         if form is FLOAT:
             self.fitted[number] = words
 

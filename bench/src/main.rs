@@ -16,7 +16,7 @@ use models::{calm, wordy, Sets};
 use pepperscarp::{Refusal, LISTING_ROOM};
 use std::hint::black_box;
 use std::process::exit;
-use support::records::{file, of_model};
+use support::records::{file, fitted, of_model, Record};
 use support::specification::Model;
 use support::{calls, listing};
 
@@ -35,6 +35,12 @@ impl Subject {
         let model = calm(SEED, n, steps, sets, directions);
         let bytes = file(&of_model(&model));
         Subject { model, bytes, bounds: vec![0; steps + 1], slacks: vec![0; steps + 1] }
+    }
+
+    /// The same with fitted rows, whose numbers are those of the scaled ones.
+    fn fitted(mut self) -> Subject {
+        self.bytes = file(&of_model(&self.model).into_iter().map(fitted_row).collect::<Vec<_>>());
+        self
     }
 
     /// One call that reads the file and sweeps.
@@ -56,6 +62,16 @@ impl Subject {
         let laid = tuned::lay(black_box(&self.model));
         tuned::sweep(&laid, black_box(direction), &mut self.bounds, &mut self.slacks)
     }
+}
+
+/// A scaled row as a fitted one; any other record as it is.
+fn fitted_row(record: Record) -> Record {
+    if record.kind != 0x02 {
+        return record;
+    }
+    let number = |entry: &[u8]| f64::from(i32::from_le_bytes(entry.try_into().expect("four bytes"))) / 65_536.0;
+    let patterns: Vec<u64> = record.body[1..].chunks(4).map(|entry| number(entry).to_bits()).collect();
+    fitted(record.body[0], &patterns)
 }
 
 /// A result that counts as used.
@@ -113,6 +129,7 @@ fn agreement() {
         for n in 1..=6 {
             for steps in [1, 32, 64, 128, 256] {
                 let mut subject = Subject::new(n, steps, sets, 16);
+                let mut with_fitted = Subject::new(n, steps, sets, 16).fitted();
                 let mut values = vec![0.0; steps + 1];
                 for direction in 0..16 {
                     let spare =
@@ -122,7 +139,9 @@ fn agreement() {
                     let same = (&subject.bounds, &subject.slacks) == (&bounds, &slacks);
                     let tuned = subject.tuned(direction);
                     let same = same && (&subject.bounds, &subject.slacks) == (&bounds, &slacks);
-                    if !same || plain != Ok(spare) || tuned != Ok(spare) {
+                    let read = with_fitted.call(direction);
+                    let same = same && (&with_fitted.bounds, &with_fitted.slacks) == (&bounds, &slacks);
+                    if !same || plain != Ok(spare) || tuned != Ok(spare) || read != Ok(spare) {
                         fail(&format!("results differ: n {n}, K {steps}, {}, direction {direction}", sets.name()));
                     }
                     if subject.refused(direction) != Err(Refusal::WrongLength) {
@@ -143,7 +162,8 @@ fn agreement() {
     }
     println!("## Agreement\n");
     println!(
-        "{compared} sweeps: bounds, slacks and spare figures of the C interface, plain and tuned Rust agree to the last number."
+        "{compared} sweeps: bounds, slacks and spare figures of the C interface, with scaled and with fitted rows, plain and tuned Rust agree \
+         to the last number."
     );
     println!(
         "The float version, without error terms, is at most {below:.1} counts below and {above:.6} above the bound; of its {figures} \
@@ -176,13 +196,15 @@ impl Size {
         Contender { name, units: repeats * self.directions, turn: Box::new(turn) }
     }
 
-    fn contenders(self) -> [Contender; 5] {
+    fn contenders(self) -> [Contender; 6] {
         let (mut call, mut refused, mut plain, mut tuned) = (self.subject(), self.subject(), self.subject(), self.subject());
+        let mut with_fitted = self.subject().fitted();
         let model = self.subject().model;
         let mut values = vec![0.0; self.steps + 1];
         [
             self.contender("call: reading, model test and sweep", move |d| spend(call.call(d))),
             self.contender("call refused by 13: reading and model test", move |d| spend(refused.refused(d))),
+            self.contender("the same with fitted rows", move |d| spend(with_fitted.refused(d))),
             self.contender("plain Rust", move |d| spend(plain.plain(d))),
             self.contender("tuned Rust", move |d| spend(tuned.tuned(d))),
             self.contender("float, without error terms", move |d| float_sweep(&model, d, &mut values)),
@@ -194,6 +216,7 @@ impl Size {
 struct Measured {
     call: Times,
     refused: Times,
+    fitted: Times,
     sweep: Times,
     plain: Times,
     tuned: Times,
@@ -204,13 +227,13 @@ struct Measured {
 fn times_of(sizes: &[Size], rounds: usize) -> Vec<Measured> {
     let mut contenders: Vec<Contender> = sizes.iter().flat_map(|size| size.contenders()).collect();
     let mut times = measure(&mut contenders, rounds).into_iter();
-    let mut next = || times.next().expect("five times for each size");
+    let mut next = || times.next().expect("six times for each size");
     sizes
         .iter()
         .map(|_| {
-            let (call, refused, plain, tuned, float) = (next(), next(), next(), next(), next());
+            let (call, refused, fitted, plain, tuned, float) = (next(), next(), next(), next(), next(), next());
             let sweep = call.less("sweep: the first less the second", &refused);
-            Measured { call, refused, sweep, plain, tuned, float }
+            Measured { call, refused, fitted, sweep, plain, tuned, float }
         })
         .collect()
 }
@@ -220,7 +243,7 @@ fn sweep_times(rounds: usize) {
     let both = [Sets::Boxes, Sets::Vertices];
     for (sets, times) in both.iter().zip(times_of(&both.map(|sets| Size { sets, ..Size::FULL }), rounds)) {
         println!("| {} | ns, median | quartiles | to tuned | to plain |\n|---|---|---|---|---|", sets.name());
-        for one in [&times.call, &times.refused, &times.sweep, &times.plain, &times.tuned, &times.float] {
+        for one in [&times.call, &times.refused, &times.fitted, &times.sweep, &times.plain, &times.tuned, &times.float] {
             let spread = one.spread();
             println!(
                 "| {} | {:.0} | {:.0} to {:.0} | {:.2} | {:.2} |",

@@ -5,7 +5,7 @@ import tempfile
 import unittest
 from pathlib import Path
 
-import helpers  # noqa: F401
+from helpers import run_tool
 
 import exact
 import examples
@@ -122,13 +122,13 @@ class Examples(unittest.TestCase):
         self.assertEqual(exact.read_model(made["cooling.bin"]), source_of("cooling").model)
 
     def test_fitted_is_rounded_as_its_texts_say(self):
-        """Its text tells the largest change, also for milliwatts; `examples/README.md` the note."""
+        """Its text tells the largest change, also for milliwatts; `examples/README.md` tells it."""
         text = (examples.FOLDER / "fitted.model").read_text()
         note = pack.rounding(pack.parse(text))
         self.assertIn("the largest relative change is 0.49 %,", note)
         self.assertIn("tells how much that changes, 0.49 % at most", text)
         readme = (examples.FOLDER / "README.md").read_text()
-        self.assertIn(f"    examples/fitted.model: {note}\n", readme)
+        self.assertIn("the largest relative change, here\n0.49 %.", readme)
         for old, new in (
             (" 0.2464", " 0.002464"), (" 0.0011347562846483198", " 1.1347562846483198e-05"),
             (" 54\n", " 5400\n"), (" 60\n", " 6000\n"),
@@ -137,6 +137,26 @@ class Examples(unittest.TestCase):
             text = text.replace(old, new)
         self.assertIn("largest relative change is 34 %, of 1.1347562846483198e-05",
                       pack.rounding(pack.parse(text)))
+
+    def test_fitted_entries_and_stored_ones(self):
+        """`examples/README.md` shows what is printed of them, whole and in one block."""
+        command = "pack.py rounded examples/fitted.model"
+        out, said, status = run_tool(*command.split(), cwd=examples.FOLDER.parent)
+        self.assertEqual((said, status), ("", 0))
+        block = "".join(f"    {line}\n" for line in out.decode().splitlines())
+        readme = (examples.FOLDER / "README.md").read_text()
+        _, after = readme.split(f"\n\n    python3 tools/{command}\n\n")
+        self.assertEqual(after.split("\n\n")[1] + "\n", block)
+        # All entries of the two fitted rows are there, none of the third.
+        source = source_of("fitted")
+        self.assertEqual([(entry.row, entry.column) for entry in source.rounded],
+                         [(row, column) for row in (0, 1) for column in range(3)])
+        for entry in source.rounded:
+            self.assertEqual(entry.stored, source.model.matrix[entry.row][entry.column])
+        # The packed file has the same numbers, by other names and in other spellings.
+        packed = pack.load(str(examples.FOLDER / "fitted.bin"))
+        self.assertEqual([(entry.scaled, entry.stored) for entry in packed.rounded],
+                         [(entry.scaled, entry.stored) for entry in source.rounded])
 
     def test_fitted_as_scaled_rows(self):
         """The listing is that of the rounded matrix."""

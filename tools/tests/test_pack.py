@@ -294,6 +294,166 @@ class Fitted(unittest.TestCase):
         self.assertTrue(math.isclose(entry.change, 0.2 / 19_660.8))
 
 
+class RoundedEntries(unittest.TestCase):
+    """What `rounded` prints: the entries that rounding changes, and how far they are."""
+
+    def told(self, first=FIRST, second=SECOND):
+        """The lines of the text with these rows, with one blank between words; and the last."""
+        text = GOOD.replace(FIRST, first).replace(SECOND, second)
+        *lines, last = pack.rounded_entries(pack.parse(text)).splitlines()
+        return [" ".join(line.split()) for line in lines], last
+
+    def test_by_hand(self):
+        for row, *lines in (
+            ("fitted 0.97 -0.25", "hot hot 0.97 63570 -0.0800 0.00013 %"),  # 63,569.92
+            ("fitted -0.97 0.3",
+             "hot hot -0.97 -63570 +0.0800 0.00013 %", "hot cold 0.3 19661 -0.2000 0.0010 %"),
+            ("row ~0.97 ~-0.25", "hot hot ~0.97 63570 -0.0800 0.00013 %"),
+            ("row 0.5 ~-0.0001", "hot cold ~-0.0001 -7 +0.4464 6.8 %"),  # -6.5536
+            # Equally near to two, to the even one: 0.5 and 1.5, -1.5 and -2.5.
+            ("fitted 0x1p-17 0x3p-17",
+             "hot hot 0x1p-17 0 +0.5000 100 %", "hot cold 0x3p-17 2 -0.5000 33 %"),
+            ("fitted -0x3p-17 -0x5p-17",
+             "hot hot -0x3p-17 -2 +0.5000 33 %", "hot cold -0x5p-17 -2 -0.5000 20 %"),
+            ("row ~0.00000762939453125 ~-0.00002288818359375",
+             "hot hot ~0.00000762939453125 0 +0.5000 100 %",
+             "hot cold ~-0.00002288818359375 -2 +0.5000 33 %"),
+            # A little more, and a little less.
+            ("fitted 0x1.0000000000001p-17 0x1.7ffffffffffffp-16",
+             "hot hot 0x1.0000000000001p-17 1 -0.5000 100 %",
+             "hot cold 0x1.7ffffffffffffp-16 1 +0.5000 33 %"),
+            # They become 0.
+            ("fitted 1e-6 -1e-6",
+             "hot hot 1e-6 0 +0.0655 100 %", "hot cold -1e-6 0 -0.0655 100 %"),
+            ("fitted 5e-324 -1e-300",
+             "hot hot 5e-324 0 +3.2e-319 100 %", "hot cold -1e-300 0 -6.6e-296 100 %"),
+        ):
+            with self.subTest(row):
+                told, last = self.told(row)
+                self.assertEqual(told, lines)
+                self.assertIn(f"entries changed by rounding: {len(lines)} of 4; ", last)
+
+    def test_what_is_stored_exactly_is_left_out(self):
+        for row in ("row 0.5 -0.25", "row ~0.5 ~-0", "fitted 0.5 -0x1p-16", "fitted -0.0 0",
+                    "fitted 2 -2", "fitted 0.50000000000000000000001 -1e-999", "scaled 1 2"):
+            self.assertEqual(self.told(row), ([], "entries changed by rounding: none of 4"))
+        self.assertEqual(self.told("row ~0.50000000000000000000001 0"),
+                         (["hot hot ~0.50000000000000000000001 32768 +6.6e-19"
+                           " 0.0000000000000000000020 %"],
+                          "entries changed by rounding: 1 of 4; the largest distance is 6.6e-19 of"
+                          " 1/65,536"))
+
+    def test_small_distances(self):
+        """Four decimals from 0.0001 up; below that two digits, and never those of zero."""
+        for distance, told in (
+            ("0.5", "0.5000"), ("0.49995", "0.5000"), ("0.49985", "0.4998"), ("0.00015", "0.0002"),
+            ("0.0001", "0.0001"), ("0.00009999", "1.0e-04"), ("0.00005", "5.0e-05"),
+            ("0.00001234", "1.2e-05"), ("1e-300", "1.0e-300"),
+        ):
+            for sign in (1, -1):
+                self.assertEqual(pack.distance_text(sign * Fraction(distance)), told)
+
+    def test_the_lines_stand_in_columns(self):
+        text = GOOD.replace(FIRST, "row ~0.97 -0.25").replace(SECOND, "fitted -1.5e-5 0.0001")
+        self.assertEqual(
+            pack.rounded_entries(pack.parse(text)),
+            "hot   hot   ~0.97    63570  -0.0800  0.00013 %\n"
+            "cold  hot   -1.5e-5     -1  +0.0170      1.7 %\n"
+            "cold  cold  0.0001       7  -0.4464      6.8 %\n"
+            "entries changed by rounding: 3 of 4; the largest distance is 0.4464 of 1/65,536\n",
+        )
+        (line,), _ = self.told(f"fitted 0.{'3' * 90} 0")
+        self.assertEqual(line, f"hot hot 0.{'3' * 48}.. 21845 +0.3333 0.0015 %")
+
+    def test_of_a_file_the_fitted_rows(self):
+        text = GOOD.replace(FIRST, "row ~0.97 0").replace(SECOND, "fitted 9.70e-1 -0x1.8p-16")
+        source = pack.parse(text)
+        read = pack.read_source(source.data)
+        self.assertEqual(
+            pack.rounded_entries(read),
+            "x1  x0  0.97                 63570  -0.0800  0.00013 %\n"
+            "x1  x1  -2.288818359375e-05     -2  +0.5000       33 %\n"
+            "entries changed by rounding: 2 of 4; the largest distance is 0.5000 of 1/65,536\n",
+        )
+        named = pack.rounded_entries(pack.renamed(read, source, "file", "text"))
+        self.assertTrue(named.startswith("cold  hot   0.97 "), named)
+        for text in (GOOD, GOOD.replace("0.5", "~0.97")):
+            printed = pack.rounded_entries(pack.read_source(pack.parse(text).data))
+            self.assertEqual(printed, "entries changed by rounding: none of 4\n")
+
+    def test_one_coordinate(self):
+        text = "coordinates a\nrow ~0.3\ninitial vertices\nvertex 1\ndirection d 1\n"
+        self.assertEqual(
+            pack.rounded_entries(pack.parse(text)),
+            "a  a  ~0.3  19661  -0.2000  0.0010 %\n"
+            "entries changed by rounding: 1 of 1; the largest distance is 0.2000 of 1/65,536\n",
+        )
+        self.assertEqual(pack.rounded_entries(pack.parse(text.replace("~0.3", "0.5"))),
+                         "entries changed by rounding: none of 1\n")
+
+    def check(self, source, values):
+        """The entries at these places, of these exact values, are told as they should; how many."""
+        *lines, last = pack.rounded_entries(source).splitlines()
+        names, due, distances = source.coordinates, [], []
+        for row, column in sorted(values):
+            scaled = 65_536 * values[row, column]
+            if scaled.denominator > 1:
+                due.append([names[row], names[column], str(round(scaled))])
+                distances.append(scaled - round(scaled))
+        words = [line.split() for line in lines]
+        self.assertEqual([[row, column, stored] for row, column, _, stored, *_ in words], due)
+        for (_, _, _, stored, printed, change, _), distance in zip(words, distances):
+            told, relative = Fraction(printed), abs(distance / (int(stored) + distance))
+            self.assertTrue(0 < abs(told) <= Fraction(1, 2), printed)
+            self.assertEqual(printed[0], "-" if distance < 0 else "+")
+            off = abs(distance) / 20 if "e" in printed else Fraction(1, 20_000)
+            self.assertLessEqual(abs(told - distance), off)
+            self.assertLessEqual(abs(Fraction(change) / 100 - relative), relative / 20)
+        count = f"{len(due) or 'none'} of {len(names) ** 2}"
+        self.assertTrue(last.startswith(f"entries changed by rounding: {count}"), last)
+        if due:
+            most = pack.distance_text(max(map(abs, distances)))
+            self.assertTrue(last.endswith(f"; the largest distance is {most} of 1/65,536"), last)
+        return len(due)
+
+    def test_random_files(self):
+        """The exact values are Python's own of the same 64 bits."""
+        seen = 0
+        for data in models.stream(13, 200):
+            model = exact.read_model(data)
+            if not isinstance(model, Refusal):
+                rows = fitted_rows_of(data, model.n)
+                seen += self.check(pack.read_source(data), {
+                    (row, column): Fraction(float_of(bits))
+                    for row, entries in rows.items() for column, bits in enumerate(entries)
+                })
+        self.assertGreater(seen, 200)
+
+    def test_random_texts(self):
+        """A row of decimals with ~, and a fitted one of decimals and hexadecimal floats."""
+        rnd = random.Random(14)
+
+        def value():
+            """A decimal at a multiple of 1/131,072, near to one or to zero, or anywhere."""
+            at = Fraction(rnd.choice((0, rnd.randrange(-262_000, 262_000))), 131_072)
+            off = rnd.choice((0, 10 ** rnd.randrange(1, 36))) * rnd.randrange(-9, 10)
+            return at + Fraction(off, 10**40)
+
+        seen = 0
+        for _ in range(500):
+            decimals = [spelling.decimal_text(value()) for _ in range(2)]
+            floats = [float(value()) for _ in range(2)]
+            words = [rnd.choice((repr, float.hex))(number) for number in floats]
+            source = pack.parse(
+                GOOD.replace(FIRST, f"row ~{decimals[0]} ~{decimals[1]}")
+                .replace(SECOND, f"fitted {words[0]} {words[1]}")
+            )
+            values = {(0, i): Fraction(word) for i, word in enumerate(decimals)}
+            values |= {(1, i): Fraction(number) for i, number in enumerate(floats)}
+            seen += self.check(source, values)
+        self.assertGreater(seen, 1_000)
+
+
 def mistakes(text):
     """What is told of a text, by row and in words; with a count of more at the end."""
     with unittest.TestCase().assertRaises(files.Failure) as caught:
@@ -733,6 +893,53 @@ class Command(helpers.FolderTest):
         for given in (data, out, NO_INPUT.encode()):
             self.assertEqual(run_tool("exact.py", "-", stdin=given), (listing, "", 0))
 
+    def test_rounded(self):
+        rows = "row hot ~0.97 0", "fitted cold 1e-4 0.5"
+        text = GOOD.replace(FIRST, rows[0]).replace(SECOND, rows[1]).replace("hot", "heiß")
+        path, packed = self.write("rounded.model", text), self.folder / "rounded.bin"
+        packed.write_bytes(pack.parse(text).data)
+        for model, name, cells in (
+            (path, "text", "heiß  heiß  ~0.97  63570  -0.0800  0.00013 %\n"
+                           "cold  heiß  1e-4       7  -0.4464      6.8 %\n"),
+            (packed, "file", "x1  x0  0.0001  7  -0.4464  6.8 %\n"),
+        ):
+            count = cells.count("\n")
+            told = f"{cells}entries changed by rounding: {count} of 4; the largest distance is"
+            told += " 0.4464 of 1/65,536\n"
+            with self.subTest(name):
+                self.assertEqual(run_tool("pack.py", "rounded", model), (told.encode(), "", 0))
+                given = run_tool("pack.py", "rounded", "-", stdin=model.read_bytes())
+                self.assertEqual(given, (told.encode(), "", 0))
+        out = b"entries changed by rounding: none of 4\n"
+        self.assertEqual(run_tool("pack.py", "rounded", self.text), (out, "", 0))
+        # Entries beyond n are no entries of the matrix, here a NaN.
+        data = bytearray(packed.read_bytes())
+        at = 4 + 26 + 2 + 2 * 8
+        data[at : at + 8] = b"\xff" * 8
+        self.assertEqual(run_tool("pack.py", "rounded", "-", stdin=bytes(data)),
+                         run_tool("pack.py", "rounded", packed))
+
+    def test_rounded_says_what_the_others_say(self):
+        """Of wrong texts what `pack` says, and of refused files what `unpack` says."""
+        wrong = GOOD.replace("steps 7", "steps 0").replace("0.5", "0.97").encode()
+        beyond = bytearray(pack.parse(GOOD.replace(FIRST, "fitted 0.5 0.3")).data)
+        beyond[4 + 2 + 7] = 0x7F
+        good = pack.parse(GOOD).data
+        for data, other, message in (
+            (wrong, "pack", "standard input:3: steps 0"),
+            (b"", "pack", "standard input: the file is empty"),
+            (b"\0" + good[1:], "pack", "maybe a packed model whose first byte is 00"),
+            (GOOD.encode("utf-16"), "pack", "saved as UTF-16"),
+            (good[:-1], "unpack", "standard input: refused 1 at 226: "),
+            (good + b"\0", "unpack", "standard input: refused 10 at "),
+            (bytes(beyond), "unpack", "standard input: refused 15 at 4: "),
+        ):
+            with self.subTest(message):
+                out, said, status = run_tool("pack.py", "rounded", "-", stdin=data)
+                self.assertEqual((out, status), (b"", 1))
+                self.assertIn(message, said)
+                self.assertEqual(said, run_tool("pack.py", other, "-", stdin=data)[1])
+
     def test_the_name_in_messages(self):
         wrong = GOOD.replace("steps 7", "steps 0").encode()
         for options, name in (((), "standard input"), (("--name", "rail"), "rail")):
@@ -780,7 +987,7 @@ class Command(helpers.FolderTest):
             self.assertIn(message, said)
 
     def test_help_shows_the_form(self):
-        for words in (("--help",), ("pack", "--help")):
+        for words in (("--help",), ("pack", "--help"), ("rounded", "--help")):
             out, _, status = run_tool("pack.py", *words)
             self.assertEqual(status, 0)
             self.assertIn(b"\n    direction NAME ENTRY ..       1 to 16, whole numbers\n", out)
@@ -788,6 +995,8 @@ class Command(helpers.FolderTest):
             self.assertIn(b"\n    fitted [NAME] ENTRY ..        the same, in numbers of", out)
             self.assertIn(b" set, in the same way; left out, the input is zero\n", out)
             self.assertIn(b" the file leaves them to the default, 120\n", out)
+            self.assertIn(b"\n    pack.py rounded MODEL\n", out)
+            self.assertIn(b"\n`rounded` prints how far the matrix of ", out)
 
     def test_bad_input(self):
         empty = self.folder / "empty"
@@ -807,13 +1016,19 @@ class Command(helpers.FolderTest):
             (("unpack", empty), "the file is empty", 1),
             (("unpack", cut), "refused 1 at 226: the file ends where a guard (40) or", 1),
             (("unpack", self.text), "a packed model starts with byte 01", 1),
+            (("rounded", self.folder / "none"), "none: no such file", 3),
+            (("rounded", self.folder), "is a directory", 3),
+            (("rounded", empty), "empty: the file is empty", 1),
+            (("rounded", cut), "cut: refused 1 at 226: the file ends where a guard (40) or", 1),
+            (("rounded", helpers.__file__), ":1: unknown word", 1),
         ):
             with self.subTest(arguments):
                 out, said, status = run_tool("pack.py", *arguments)
                 self.assertEqual((out, status), (b"", expected))
                 self.assertIn(message, said)
                 self.assertEqual(said.count("\n"), 1)
-        self.assertEqual(run_tool("pack.py", "pack")[2], 2)
+        for arguments in (("pack",), ("rounded",), ("rounded", self.text, "-o", empty)):
+            self.assertEqual(run_tool("pack.py", *arguments)[2], 2)
 
 
 if __name__ == "__main__":

@@ -39,11 +39,10 @@ storedSix n row = tabulate 6 (λ i. entryValue (answerAt n row i))
 unfoldable pub entriesOf : ℕ → (ℕ → EntryAnswer) → RowEntries
 entriesOf n row = record { number = entriesNumber n row; six = storedSix n row }
 
--- Entry i of six; there is none beyond them.
-abbrev pub coefficientAt : List Coefficient → ℕ → Coefficient
-coefficientAt row i = getD row i (Scaled (pos 0))
+-- The answers to six entries of either kind, to six scaled ones, and to six fitted ones.
+abbrev pub mixedRow : List Coefficient → ℕ → EntryAnswer
+mixedRow coefficients i = entryOf (getD coefficients i (Scaled (pos 0)))
 
--- The answers to six scaled entries, and to six fitted ones.
 abbrev pub scaledRow : List ℤ → ℕ → EntryAnswer
 scaledRow six i = entryOf (Scaled (vector six i))
 

@@ -4,8 +4,8 @@ use crate::EntryAnswer;
 use crate::entry_of;
 ghost use mathlib.Core.Path.{_≡_};
 ghost use Prim.Native.Nat.{_<_};
-ghost use Rattle.coefficients.specs.Entries.{entryNumber, entryValue, entryOf};
-ghost use Rattle.coefficients.specs.Rows.{firstOf, answerAt, coefficientAt, entriesOf, scaledRow, fittedRow};
+ghost use Rattle.coefficients.specs.Entries.{entryNumber, entryValue};
+ghost use Rattle.coefficients.specs.Rows.{firstOf, answerAt, entriesOf, mixedRow, scaledRow, fittedRow};
 
 // The number that a row is refused by, 0 where it is not, and its six stored entries: zero for one that is refused and beyond n.
 pub struct RowEntries {
@@ -47,7 +47,7 @@ fn stored_entry(answer: EntryAnswer) -> i32
 // The answer to entry i, which beyond n is zero.
 fn answer_at(n: usize, coefficients: [Coefficient; 6], i: usize) -> EntryAnswer
     requires { ⌜ i < 6 ⌝ }
-    ensures { λ r. ⌜ r ≡ answerAt n (λ k. entryOf (coefficientAt coefficients k)) i ⌝ }
+    ensures { λ r. ⌜ r ≡ answerAt n (mixedRow coefficients) i ⌝ }
 {
     if i < n {
         let coefficient = coefficients[i];
@@ -58,7 +58,7 @@ fn answer_at(n: usize, coefficients: [Coefficient; 6], i: usize) -> EntryAnswer
 
 // Routines 18. The first n entries of a row, one by one.
 pub fn entries_of(n: usize, coefficients: [Coefficient; 6]) -> RowEntries
-    ensures { λ r. ⌜ r ≡ entriesOf n (λ k. entryOf (coefficientAt coefficients k)) ⌝ }
+    ensures { λ r. ⌜ r ≡ entriesOf n (mixedRow coefficients) ⌝ }
 {
     let mut number: u8 = 0;
     let mut six = [0i32; 6];

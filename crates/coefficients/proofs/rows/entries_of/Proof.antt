@@ -6,13 +6,13 @@ use Rattle.integers.proofs.Machine.{filled, filled-none, filled-more, filled-al
 use Rattle.coefficients.specs.declared.Coefficient.{Coefficient}
 use Rattle.coefficients.specs.declared.EntryAnswer.{EntryAnswer}
 use Rattle.coefficients.specs.declared.rows.RowEntries.{RowEntries}
-use Rattle.coefficients.specs.Entries.{entryNumber, entryValue, entryOf}
-use Rattle.coefficients.specs.Rows.{firstOf, firstNumber, answerAt, coefficientAt, entriesOf}
+use Rattle.coefficients.specs.Entries.{entryNumber, entryValue}
+use Rattle.coefficients.specs.Rows.{firstOf, firstNumber, answerAt, mixedRow, entriesOf}
 use Rattle.coefficients.proofs.rows.entries_of.Statement.{statement}
 use Rattle.coefficients.proofs.rows.entries_of.Tie as tie
 
 abbrev answers : ℕ → List Coefficient → ℕ → EntryAnswer
-answers n coefficients i = answerAt n (λ k. entryOf (coefficientAt coefficients k)) i
+answers n coefficients i = answerAt n (mixedRow coefficients) i
 
 abbrev stored : ℕ → List Coefficient → ℕ → ℤ
 stored n coefficients i = entryValue (answers n coefficients i)

@@ -1,13 +1,11 @@
 -- `reader::store::fitted_row` meets its contract, value by value. Assumes nothing.
 use Rattle.integers.proofs.Basics.{_≡_, refl, ap₂, ℕ, needs}
-use mathlib.Core.List.{List, _∷_}
+use mathlib.Core.List.{List}
 use lib.Ieee.{Float}
 use Rattle.coefficients.specs.declared.rows.FittedRow.{FittedRow}
+use Rattle.reader.proofs.store.Lists.{more}
 use Rattle.reader.proofs.store.fitted_row.Statement.{statement}
 use Rattle.reader.proofs.store.fitted_row.Tie as tie
-
-more : {x y : Float} {l m : List Float} → x ≡ y → l ≡ m → _≡_ {A = List Float} (x ∷ l) (y ∷ m)
-more e f = ap₂ (λ (z : Float) (k : List Float). z ∷ k) e f
 
 row-is : {n m : ℕ} {l k : List Float} → n ≡ m → l ≡ k → _≡_ {A = FittedRow} (record { number = n; values = l }) (record { number = m; values = k })
 row-is e f = ap₂ (λ (n : ℕ) (l : List Float). rowOf n l) e f

@@ -1,12 +1,9 @@
 -- `reader::store::six_at` meets its contract, number by number. Assumes nothing.
-use Rattle.integers.proofs.Basics.{_≡_, refl, ap₂, _∙_, needs, ℤ, toZ-ofZ}
-use mathlib.Core.List.{List, _∷_}
+use Rattle.integers.proofs.Basics.{refl, _∙_, needs, toZ-ofZ}
 use Rattle.reader.specs.Models.{sixAt}
+use Rattle.reader.proofs.store.Lists.{more}
 use Rattle.reader.proofs.store.six_at.Statement.{statement}
 use Rattle.reader.proofs.store.six_at.Tie as tie
-
-more : {x y : ℤ} {l m : List ℤ} → x ≡ y → l ≡ m → _≡_ {A = List ℤ} (x ∷ l) (y ∷ m)
-more e f = ap₂ (λ (z : ℤ) (k : List ℤ). z ∷ k) e f
 
 returns : tie.Need-returns
 unfolding sixAt
