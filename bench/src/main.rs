@@ -345,16 +345,18 @@ fn count(who: &str, sets: &str, times: usize) {
         _ => fail("SETS is boxes or vertices"),
     };
     let mut subject = Subject::new(6, 256, sets, 16);
+    let mut with_fitted = Subject::new(6, 256, sets, 16).fitted();
     let mut values = vec![0.0; 257];
     for k in 0..times {
         let direction = k % 16;
         match who {
             "call" => spend(subject.call(direction)),
             "refused" => spend(subject.refused(direction)),
+            "fitted" => spend(with_fitted.refused(direction)),
             "plain" => spend(subject.plain(direction)),
             "tuned" => spend(subject.tuned(direction)),
             "float" => float_sweep(&subject.model, direction, &mut values),
-            _ => fail("WHO is call, refused, plain, tuned or float"),
+            _ => fail("WHO is call, refused, fitted, plain, tuned or float"),
         }
     }
 }
