@@ -1,5 +1,5 @@
--- Tests over the elements of a stored array (Routines 16). Definitions only. Assumes nothing.
-use mathlib.Core.Bool.{Bool, _&&_, _||_}
+-- Tests over the elements of a stored array, and the first number that applies (Routines 16). Definitions only. Assumes nothing.
+use mathlib.Core.Bool.{Bool, cond, _&&_, _||_}
 use mathlib.Core.List.{List}
 use Prim.Native.Nat.{ℕ, _/_, _%_}
 use lib.Dec.{ltb, eqb}
@@ -23,3 +23,7 @@ zeroUnless rows columns k x = (ltb (k / 6) rows && ltb (k % 6) columns) || eqb (
 -- Each element outside the first `rows` rows and the first `columns` columns is zero (Limits 9).
 abbrev pub zeroOutside : ℕ → ℕ → List ℤ → Bool
 zeroOutside rows columns xs = allBelow (length xs) (λ k. zeroUnless rows columns k (vector xs k))
+
+-- Reading 1: the first of two numbers that is not 0.
+abbrev pub firstOf : ℕ → ℕ → ℕ
+firstOf a b = cond (eqb a 0) b a

@@ -6,7 +6,7 @@ ghost use Prim.Native.Nat.{_≤_, _<_, max};
 ghost use lib.IntN.{natAbs};
 ghost use Rattle.integers.specs.Whole.{fraction as fractionOf};
 ghost use Rattle.integers.specs.Sums.{matrix};
-ghost use Rattle.arrays.specs.Tests.{between, allBetween, zeroUnless, zeroOutside};
+ghost use Rattle.arrays.specs.Tests.{between, allBetween, zeroUnless, zeroOutside, firstOf};
 ghost use Rattle.arrays.specs.Rows.{rowOf, columnSum, columnMost};
 
 // Routines 16. |x|, for the least i64 too.
@@ -25,6 +25,13 @@ pub fn larger(a: u64, b: u64) -> u64
     ensures { λ r. ⌜ r ≡ max a b ⌝ }
 {
     if a < b { b } else { a }
+}
+
+// Routines 16, for Reading 1. The first of two numbers that is not 0.
+pub fn first_of(a: u8, b: u8) -> u8
+    ensures { λ r. ⌜ r ≡ firstOf a b ⌝ }
+{
+    if a == 0 { b } else { a }
 }
 
 // Routines 16, for Recurrence 5 and 14. 1 where x isn't a multiple of `unit`, else 0. Only 0 is a multiple of 0.

@@ -1,5 +1,5 @@
--- Laws of `entryOfBits` (File 13, File 14), for all bits, over whole numbers. In order: how far an entry is from the exact product; a tie
--- goes to the even entry; a product that is an entry; products of at most a half. Assumes nothing.
+-- Laws of `entryOfBits` (File 12 to 14), for all bits, over whole numbers. In order: how far an entry is from the exact product; a
+-- tie goes to the even entry; a product that is an entry; products of at most a half. Assumes nothing.
 use mathlib.Core.Path.{_≡_, refl, sym, ap, subst, _∙_}
 use mathlib.Core.Bool.{Bool, true, false, _&&_, true≢false}
 use mathlib.Core.Logic.{_⊎_, inl, inr, ⊎-elim}
@@ -15,10 +15,11 @@ use Rattle.integers.proofs.Order.{natAbs-mul}
 use Rattle.stepping.specs.Limits.{matrixUnit, entryLimit}
 use Rattle.coefficients.specs.declared.EntryAnswer.{EntryAnswer}
 use Rattle.coefficients.specs.declared.EntryAnswer.the-variants.{Entry, Refused}
-use Rattle.coefficients.specs.Binary64.{isNegative, isFinite, partsOfOne, magnitudeOf, signed, exactParts}
-use Rattle.coefficients.specs.Entries.{nearestEven, fittedOk, fittedEntry, entryOfBits, entryValue}
-use Rattle.coefficients.proofs.NearestEven.{NearEven, nearestEven-near, nearestEven-whole, nearestEven-tie, nearestEven-small}
-use Rattle.coefficients.proofs.Values.{parts-pos}
+use Rattle.coefficients.specs.Binary64.{isNegative, isFinite, binary64Unit, magnitudeOf, signed, exactValue}
+use Rattle.integers.specs.Whole.{nearestEven}
+use Rattle.coefficients.specs.Entries.{fittedOk, fittedEntry, entryOfBits, entryValue}
+use Rattle.integers.proofs.NearestEven.{NearEven, nearestEven-near, nearestEven-whole, nearestEven-tie, nearestEven-small}
+use Rattle.coefficients.proofs.Values.{unit-pos}
 use Rattle.coefficients.proofs.Fitting.{natAbs-signed, accepted-bits, refused-bits}
 
 -- an answer that is an entry is the fitted entry
@@ -39,11 +40,11 @@ signed-near : (s : Bool) (k m p : ℕ) → NearEven (matrixUnit * m) p k → Nea
 signed-near true k m p n = halves! (neg (# k) ⊗ # p) (# matrixUnit ⊗ neg (# m)) p (omega (arith, n .not-below)) (omega (arith, n .not-above))
 signed-near false k m p n = halves! (# k ⊗ # p) (# matrixUnit ⊗ # m) p (omega (arith, n .not-above)) (omega (arith, n .not-below))
 
-pub entry-near : (bits : ℕ) (entry : ℤ) → entryOfBits bits ≡ Entry entry → NearHalves (entry *ℤ pos partsOfOne) (pos matrixUnit *ℤ exactParts bits) partsOfOne
+pub entry-near : (bits : ℕ) (entry : ℤ) → entryOfBits bits ≡ Entry entry → NearHalves (entry *ℤ pos binary64Unit) (pos matrixUnit *ℤ exactValue bits) binary64Unit
 unfolding fittedEntry
 entry-near bits entry e =
-    subst (λ (z : ℤ). NearHalves (z *ℤ pos partsOfOne) (pos matrixUnit *ℤ exactParts bits) partsOfOne) (sym (entry-only bits entry e))
-    (signed-near (isNegative bits) (nearestEven (matrixUnit * magnitudeOf bits) partsOfOne) (magnitudeOf bits) partsOfOne (nearestEven-near (matrixUnit * magnitudeOf bits) partsOfOne parts-pos))
+    subst (λ (z : ℤ). NearHalves (z *ℤ pos binary64Unit) (pos matrixUnit *ℤ exactValue bits) binary64Unit) (sym (entry-only bits entry e))
+    (signed-near (isNegative bits) (nearestEven (matrixUnit * magnitudeOf bits) binary64Unit) (magnitudeOf bits) binary64Unit (nearestEven-near (matrixUnit * magnitudeOf bits) binary64Unit unit-pos))
 
 -- ---- File 13: where the exact product lies in the middle between two entries, the entry is even
 
@@ -56,15 +57,15 @@ signed-apart false k m p e =
     ⊎-elim (λ z. inl (omega (arith, z, e))) (λ z. inr (omega (arith, z, e)))
     (apart? (# k ⊗ # p) (# matrixUnit ⊗ # m) (natAbs (pos k *ℤ pos p -ℤ pos matrixUnit *ℤ pos m)) refl)
 
-pub entry-tie : (bits : ℕ) (entry : ℤ) → entryOfBits bits ≡ Entry entry → 2 * natAbs (entry *ℤ pos partsOfOne -ℤ pos matrixUnit *ℤ exactParts bits) ≡ partsOfOne → natAbs entry % 2 ≡ 0
+pub entry-tie : (bits : ℕ) (entry : ℤ) → entryOfBits bits ≡ Entry entry → 2 * natAbs (entry *ℤ pos binary64Unit -ℤ pos matrixUnit *ℤ exactValue bits) ≡ binary64Unit → natAbs entry % 2 ≡ 0
 unfolding fittedEntry
 entry-tie bits entry e far =
-    let k = nearestEven (matrixUnit * magnitudeOf bits) partsOfOne in
+    let k = nearestEven (matrixUnit * magnitudeOf bits) binary64Unit in
     let is : entry ≡ signed (isNegative bits) k = entry-only bits entry e in
-    let half = subst (λ (z : ℤ). 2 * natAbs (z *ℤ pos partsOfOne -ℤ pos matrixUnit *ℤ exactParts bits) ≡ partsOfOne) is far in
+    let half = subst (λ (z : ℤ). 2 * natAbs (z *ℤ pos binary64Unit -ℤ pos matrixUnit *ℤ exactValue bits) ≡ binary64Unit) is far in
     ap (λ (z : ℤ). natAbs z % 2) is
     ∙ ap (λ (n : ℕ). n % 2) (natAbs-signed (isNegative bits) k)
-    ∙ nearestEven-tie (matrixUnit * magnitudeOf bits) partsOfOne parts-pos (signed-apart (isNegative bits) k (magnitudeOf bits) partsOfOne half)
+    ∙ nearestEven-tie (matrixUnit * magnitudeOf bits) binary64Unit unit-pos (signed-apart (isNegative bits) k (magnitudeOf bits) binary64Unit half)
 
 -- ---- File 14: an exact product that a scaled row can hold is the entry
 
@@ -82,25 +83,25 @@ signed-back true (negsuc n) m p P e = refl
 signed-back false (pos n) m p P e = refl
 signed-back false (negsuc n) m p P e = absurd (omega (arith, eq? (v (negsuc n) ⊗ # p) (# matrixUnit ⊗ # m) e, P))
 
-pub entry-exact : (bits : ℕ) (entry : ℤ) → isFinite bits ≡ true → natAbs entry ≤ entryLimit → entry *ℤ pos partsOfOne ≡ pos matrixUnit *ℤ exactParts bits → entryOfBits bits ≡ Entry entry
+pub entry-exact : (bits : ℕ) (entry : ℤ) → isFinite bits ≡ true → natAbs entry ≤ entryLimit → entry *ℤ pos binary64Unit ≡ pos matrixUnit *ℤ exactValue bits → entryOfBits bits ≡ Entry entry
 unfolding fittedOk fittedEntry
 entry-exact bits entry f few e =
     let n = natAbs entry in
     let m = magnitudeOf bits in
-    let size : n * partsOfOne ≡ matrixUnit * m = sizes (isNegative bits) entry m partsOfOne e in
-    let within : m ≤ 2 * partsOfOne = omega (arith, size, mul-le-mul-right partsOfOne few) in
-    let ok : fittedOk bits ≡ true = ap (λ (b : Bool). b && leb m (2 * partsOfOne)) f ∙ le-leb m (2 * partsOfOne) within in
-    let rounded : nearestEven (matrixUnit * m) partsOfOne ≡ n = ap (λ (k : ℕ). nearestEven k partsOfOne) (sym size) ∙ nearestEven-whole n partsOfOne parts-pos in
-    accepted-bits bits ok ∙ ap Entry (ap (signed (isNegative bits)) rounded ∙ signed-back (isNegative bits) entry m partsOfOne parts-pos e)
+    let size : n * binary64Unit ≡ matrixUnit * m = sizes (isNegative bits) entry m binary64Unit e in
+    let within : m ≤ 2 * binary64Unit = omega (arith, size, mul-le-mul-right binary64Unit few) in
+    let ok : fittedOk bits ≡ true = ap (λ (b : Bool). b && leb m (2 * binary64Unit)) f ∙ le-leb m (2 * binary64Unit) within in
+    let rounded : nearestEven (matrixUnit * m) binary64Unit ≡ n = ap (λ (k : ℕ). nearestEven k binary64Unit) (sym size) ∙ nearestEven-whole n binary64Unit unit-pos in
+    accepted-bits bits ok ∙ ap Entry (ap (signed (isNegative bits)) rounded ∙ signed-back (isNegative bits) entry m binary64Unit unit-pos e)
 
 -- ---- File 12: both zeros, and all that is at most half a unit, become 0
 
-pub entry-small : (bits : ℕ) → isFinite bits ≡ true → 2 * (matrixUnit * magnitudeOf bits) ≤ partsOfOne → entryOfBits bits ≡ Entry (pos 0)
+pub entry-small : (bits : ℕ) → isFinite bits ≡ true → 2 * (matrixUnit * magnitudeOf bits) ≤ binary64Unit → entryOfBits bits ≡ Entry (pos 0)
 unfolding fittedOk fittedEntry
 entry-small bits f h =
     let m = magnitudeOf bits in
-    let ok : fittedOk bits ≡ true = ap (λ (b : Bool). b && leb m (2 * partsOfOne)) f ∙ le-leb m (2 * partsOfOne) (omega (arith, h)) in
-    accepted-bits bits ok ∙ ap Entry (ap (signed (isNegative bits)) (nearestEven-small (matrixUnit * m) partsOfOne parts-pos h) ∙ nought (isNegative bits))
+    let ok : fittedOk bits ≡ true = ap (λ (b : Bool). b && leb m (2 * binary64Unit)) f ∙ le-leb m (2 * binary64Unit) (omega (arith, h)) in
+    accepted-bits bits ok ∙ ap Entry (ap (signed (isNegative bits)) (nearestEven-small (matrixUnit * m) binary64Unit unit-pos h) ∙ nought (isNegative bits))
   where
     nought : (s : Bool) → signed s 0 ≡ pos 0
     nought true = refl

@@ -1,5 +1,5 @@
--- A binary64 number beside its bits: its size within 2, and the entry that its size becomes. The bits are those that `toBits` gives.
--- Assumes nothing.
+-- A binary64 number beside its bits, those that `toBits` gives: its magnitude within 2, and the entry that it becomes. Assumes
+-- nothing.
 use mathlib.Core.Path.{_≡_, refl, sym, ap, ap₂, subst, _∙_}
 use mathlib.Core.Bool.{Bool, true, false, cond, not, _&&_, _||_, true≢false, false≢true}
 use Prim.Native.Nat.{ℕ, zero, suc, _+_, _*_, _/_, _^_, _≤_, _<_}
@@ -17,13 +17,14 @@ use lib.Ieee.Scale.{finite}
 use lib.Ieee.Positive.{num, den, den-pos}
 use Rattle.stepping.specs.Limits.{matrixUnit, entryLimit}
 use Rattle.integers.proofs.Booleans.{and-true}
-use Rattle.coefficients.specs.Binary64.{isNegative, isFinite, partsOfOne, magnitudeOf, signed}
-use Rattle.coefficients.specs.Entries.{nearestEven, fittedOk, fittedEntry, entryOfBits, entryOf}
+use Rattle.coefficients.specs.Binary64.{isNegative, isFinite, binary64Unit, magnitudeOf, signed}
+use Rattle.integers.specs.Whole.{nearestEven}
+use Rattle.coefficients.specs.Entries.{fittedOk, fittedEntry, entryOfBits, entryOf}
 use Rattle.coefficients.specs.declared.Coefficient.the-variants.{Fitted}
 use Rattle.coefficients.specs.declared.EntryAnswer.the-variants.{Entry, Refused}
 use Rattle.coefficients.specs.Inner.{InRange}
-use Rattle.coefficients.proofs.NearestEven.{nearestEven-same, nearestEven-le}
-use Rattle.coefficients.proofs.Values.{Cut, factor, parts-pos, bits-value, bits-infinite, scaled-value, value-cut, whole-below}
+use Rattle.integers.proofs.NearestEven.{nearestEven-same, nearestEven-le}
+use Rattle.coefficients.proofs.Values.{Cut, factor, unit-pos, bits-value, bits-infinite, scaled-value, value-cut, whole-below}
 
 -- ---- the constant of the code
 
@@ -31,36 +32,36 @@ pub two-is : ofBits binary64 0x4000_0000_0000_0000 ≡ fin false 1 (pos 1)
 unfolding ofBits
 two-is = refl
 
--- ---- the size of a number
+-- ---- the magnitude of a number
 
 -- As the code takes it: the number itself, or its opposite where it is below 0.
-abbrev pub sizeOf : Float → Float
-sizeOf x = cond (lt x (fin false 0 (pos 0))) (neg x) x
+abbrev pub absoluteOf : Float → Float
+absoluteOf x = cond (lt x (fin false 0 (pos 0))) (neg x) x
 
--- a / c in the parts of a binary64 number
-pub record InParts (x : Float) (bits : ℕ) : Type 0 where
-  pub crossed : num x * partsOfOne ≡ magnitudeOf bits * den x
+-- x and the number of these bits have the same magnitude
+pub record SameMagnitude (x : Float) (bits : ℕ) : Type 0 where
+  pub crossed : num x * binary64Unit ≡ magnitudeOf bits * den x
 
 -- not above 2, both ways of saying it
-module _ (x : Float) (bits : ℕ) (p : InParts x bits) where
-  within : num x ≤ 2 * den x → magnitudeOf bits ≤ 2 * partsOfOne
-  within h = le-of-mul-le-mul-right (omega (arith, p .crossed, mul-le-mul-right partsOfOne h)) (den-pos x)
+module _ (x : Float) (bits : ℕ) (p : SameMagnitude x bits) where
+  within : num x ≤ 2 * den x → magnitudeOf bits ≤ 2 * binary64Unit
+  within h = le-of-mul-le-mul-right (omega (arith, p .crossed, mul-le-mul-right binary64Unit h)) (den-pos x)
 
-  back : magnitudeOf bits ≤ 2 * partsOfOne → num x ≤ 2 * den x
-  back h = le-of-mul-le-mul-right (omega (arith, p .crossed, mul-le-mul-right (den x) h)) parts-pos
+  back : magnitudeOf bits ≤ 2 * binary64Unit → num x ≤ 2 * den x
+  back h = le-of-mul-le-mul-right (omega (arith, p .crossed, mul-le-mul-right (den x) h)) unit-pos
 
-  pub in-parts-test : leb (num x) (2 * den x) ≡ leb (magnitudeOf bits) (2 * partsOfOne)
-  in-parts-test = cases (leb (num x) (2 * den x)) refl
+  pub magnitude-test : leb (num x) (2 * den x) ≡ leb (magnitudeOf bits) (2 * binary64Unit)
+  magnitude-test = cases (leb (num x) (2 * den x)) refl
     where
-      cases : (b : Bool) → leb (num x) (2 * den x) ≡ b → b ≡ leb (magnitudeOf bits) (2 * partsOfOne)
-      cases true e = sym (le-leb (magnitudeOf bits) (2 * partsOfOne) (within (leb-true (num x) (2 * den x) e)))
+      cases : (b : Bool) → leb (num x) (2 * den x) ≡ b → b ≡ leb (magnitudeOf bits) (2 * binary64Unit)
+      cases true e = sym (le-leb (magnitudeOf bits) (2 * binary64Unit) (within (leb-true (num x) (2 * den x) e)))
       cases false e =
           sym
-          (lt-leb (magnitudeOf bits) (2 * partsOfOne)
-          (elim (decLt (2 * partsOfOne) (magnitudeOf bits)) [ yes h ↦ h | no k ↦ absurd (omega (arith, back (omega (arith, k)), leb-false (num x) (2 * den x) e)) ]))
+          (lt-leb (magnitudeOf bits) (2 * binary64Unit)
+          (elim (decLt (2 * binary64Unit) (magnitudeOf bits)) [ yes h ↦ h | no k ↦ absurd (omega (arith, back (omega (arith, k)), leb-false (num x) (2 * den x) e)) ]))
 
-  pub in-parts-entry : nearestEven (matrixUnit * num x) (den x) ≡ nearestEven (matrixUnit * magnitudeOf bits) partsOfOne
-  in-parts-entry = nearestEven-same (matrixUnit * num x) (den x) (matrixUnit * magnitudeOf bits) partsOfOne (den-pos x) parts-pos (omega (arith, p .crossed))
+  pub magnitude-entry : nearestEven (matrixUnit * num x) (den x) ≡ nearestEven (matrixUnit * magnitudeOf bits) binary64Unit
+  magnitude-entry = nearestEven-same (matrixUnit * num x) (den x) (matrixUnit * magnitudeOf bits) binary64Unit (den-pos x) unit-pos (omega (arith, p .crossed))
 
 -- ---- a number beside its bits
 
@@ -76,19 +77,19 @@ module _ (s : Bool) (m : ℕ) (e : ℤ) (h : T (fits binary64 (fin s m e))) wher
       cases true f = refl
       cases false f = absurd (true≢false (sym (ap finite (ofBits-toBits binary64 (fin s m e) h)) ∙ bits-infinite bits f))
 
-  value : HasValue (fin s m e) (isNegative bits) (magnitudeOf bits) partsOfOne
-  value = subst (λ (x : Float). HasValue x (isNegative bits) (magnitudeOf bits) partsOfOne) (ofBits-toBits binary64 (fin s m e) h) (bits-value bits is-finite)
+  value : HasValue (fin s m e) (isNegative bits) (magnitudeOf bits) binary64Unit
+  value = subst (λ (x : Float). HasValue x (isNegative bits) (magnitudeOf bits) binary64Unit) (ofBits-toBits binary64 (fin s m e) h) (bits-value bits is-finite)
 
-  pub in-parts : InParts (fin s m e) bits
-  in-parts = record { crossed = value .1 }
+  pub same-magnitude : SameMagnitude (fin s m e) bits
+  same-magnitude = record { crossed = value .1 }
 
   ok-is : fittedOk bits ≡ leb (m * up e) (2 * down e)
   unfolding fittedOk
-  ok-is = ap (λ (b : Bool). b && leb (magnitudeOf bits) (2 * partsOfOne)) is-finite ∙ sym (in-parts-test (fin s m e) bits in-parts)
+  ok-is = ap (λ (b : Bool). b && leb (magnitudeOf bits) (2 * binary64Unit)) is-finite ∙ sym (magnitude-test (fin s m e) bits same-magnitude)
 
   entry-is : fittedEntry bits ≡ signed s (nearestEven (matrixUnit * (m * up e)) (down e))
   unfolding fittedEntry
-  entry-is = ap₂ signed (sym (value .0)) (sym (in-parts-entry (fin s m e) bits in-parts))
+  entry-is = ap₂ signed (sym (value .0)) (sym (magnitude-entry (fin s m e) bits same-magnitude))
 
 -- no finite one, whichever of its patterns
 pub infinite-bits : (x : Float) (bits : ℕ) → ofBits binary64 bits ≡ x → finite x ≡ false → fittedOk bits ≡ false
@@ -100,18 +101,18 @@ infinite-bits x bits is n = cases (isFinite bits) refl
     none (inf t) s a c f v = v
     none (fin t m e) s a c f v = true≢false f
 
-    cases : (b : Bool) → isFinite bits ≡ b → b && leb (magnitudeOf bits) (2 * partsOfOne) ≡ false
-    cases true f = absurd (none (ofBits binary64 bits) (isNegative bits) (magnitudeOf bits) partsOfOne (ap finite is ∙ n) (bits-value bits f))
+    cases : (b : Bool) → isFinite bits ≡ b → b && leb (magnitudeOf bits) (2 * binary64Unit) ≡ false
+    cases true f = absurd (none (ofBits binary64 bits) (isNegative bits) (magnitudeOf bits) binary64Unit (ap finite is ∙ n) (bits-value bits f))
     cases false f = refl
 
 -- ---- what the code tests and rounds
 
 pub record Checked (x : Float) (bits : ℕ) : Type 0 where
-  pub test : le (sizeOf x) (fin false 1 (pos 1)) ≡ fittedOk bits
-  pub low : lt (sizeOf x) (fin false 0 (pos 0)) ≡ false
-  pub entry : fittedOk bits ≡ true → signed (lt x (fin false 0 (pos 0))) (nearestEven (matrixUnit * num (sizeOf x)) (den (sizeOf x))) ≡ fittedEntry bits
+  pub test : le (absoluteOf x) (fin false 1 (pos 1)) ≡ fittedOk bits
+  pub low : lt (absoluteOf x) (fin false 0 (pos 0)) ≡ false
+  pub entry : fittedOk bits ≡ true → signed (lt x (fin false 0 (pos 0))) (nearestEven (matrixUnit * num (absoluteOf x)) (den (absoluteOf x))) ≡ fittedEntry bits
 
--- a size is compared with 2 as a fraction, and is never below 0
+-- a magnitude is compared with 2 as a fraction, and is never below 0
 at-most : (a b : ℕ) → ltb a b || (eqb a b && true) ≡ leb a b
 at-most a b = cases (ltb a b) refl (eqb a b) refl
   where
@@ -128,7 +129,7 @@ low-positive : (m : ℕ) (e : ℤ) → lt (fin false m e) (fin false 0 (pos 0)) 
 unfolding lt
 low-positive m e = le-ltb (m * up e * 1) (0 * 1 * down e) (omega arith)
 
--- from the size as it is taken
+-- from the magnitude as it is taken
 module _ (s : Bool) (m : ℕ) (e : ℤ) (h : T (fits binary64 (fin s m e))) where
   abbrev x : Float
   x = fin s m e
@@ -136,15 +137,15 @@ module _ (s : Bool) (m : ℕ) (e : ℤ) (h : T (fits binary64 (fin s m e))) wher
   abbrev n : ℕ
   n = nearestEven (matrixUnit * (m * up e)) (down e)
 
-  -- of a size with the sign 0
-  plain : sizeOf x ≡ fin false m e → signed (lt x (fin false 0 (pos 0))) n ≡ signed s n → Checked x (toBits binary64 x)
+  -- where it has the sign 0
+  plain : absoluteOf x ≡ fin false m e → signed (lt x (fin false 0 (pos 0))) n ≡ signed s n → Checked x (toBits binary64 x)
   plain size sign = record {
     test = ap (λ (y : Float). le y (fin false 1 (pos 1))) size ∙ le-two m e ∙ sym (ok-is s m e h);
     low = ap (λ (y : Float). lt y (fin false 0 (pos 0))) size ∙ low-positive m e;
     entry = λ t. ap (λ (y : Float). signed (lt x (fin false 0 (pos 0))) (nearestEven (matrixUnit * num y) (den y))) size ∙ sign ∙ sym (entry-is s m e h);
   }
 
--- of -0, whose size has the sign 1
+-- of -0, whose magnitude as it is taken has the sign 1
 below-two : (m : ℕ) (e : ℤ) → le (fin true m e) (fin false 1 (pos 1)) ≡ true
 unfolding le lt
 below-two m e = ap (λ (b : Bool). b || eq (fin true m e) (fin false 1 (pos 1))) (lt-ltb 0 (m * up e * 1 + 1 * 2 * down e) (omega (arith, down-pos e)))
@@ -152,7 +153,7 @@ below-two m e = ap (λ (b : Bool). b || eq (fin true m e) (fin false 1 (pos 1)))
 negative-zero : (m : ℕ) (e : ℤ) (h : T (fits binary64 (fin true m e))) → lt (fin true m e) (fin false 0 (pos 0)) ≡ false → m * up e ≡ 0 → Checked (fin true m e) (toBits binary64 (fin true m e))
 negative-zero m e h l z =
     let x = fin true m e in
-    let size : sizeOf x ≡ x = ap (λ (b : Bool). cond b (neg x) x) l in
+    let size : absoluteOf x ≡ x = ap (λ (b : Bool). cond b (neg x) x) l in
     let n = nearestEven (matrixUnit * (m * up e)) (down e) in
     let none : n ≡ 0 = omega (arith, nearestEven-le (matrixUnit * (m * up e)) (down e) 0 (down-pos e) (omega (arith, z))) in
     record {
@@ -161,7 +162,7 @@ negative-zero m e h l z =
       entry = λ t. ap₂ (λ (b : Bool) (y : Float). signed b (nearestEven (matrixUnit * num y) (den y))) l size ∙ ap pos none ∙ sym (entry-is true m e h ∙ ap (signed true) none);
     }
 
-refused : (x : Float) (bits : ℕ) → le (sizeOf x) (fin false 1 (pos 1)) ≡ false → lt (sizeOf x) (fin false 0 (pos 0)) ≡ false → fittedOk bits ≡ false → Checked x bits
+refused : (x : Float) (bits : ℕ) → le (absoluteOf x) (fin false 1 (pos 1)) ≡ false → lt (absoluteOf x) (fin false 0 (pos 0)) ≡ false → fittedOk bits ≡ false → Checked x bits
 refused x bits t l n = record { test = t ∙ sym n; low = l; entry = λ e. absurd (true≢false (sym e ∙ n)) }
 
 pub checked : (x : Float) → T (fits binary64 x) → Checked x (toBits binary64 x)
@@ -201,7 +202,7 @@ counted-at s m e h z l =
     let product : HasValue scaled s a d =
     subst (λ (y : Float). HasValue (mul binary64 x y) s a d) (sym factor)
     (subst (λ (k : ℕ). HasValue (mul binary64 x (fin false 1 (pos 17))) s k d) same
-    (scaled-value s (isNegative (bits s m e h)) m e (bits s m e h) (value s m e h) (within x (bits s m e h) (in-parts s m e h) l))) in
+    (scaled-value s (isNegative (bits s m e h)) m e (bits s m e h) (value s m e h) (within x (bits s m e h) (same-magnitude s m e h) l))) in
     let none : s ≡ true → a ≡ 0 = λ t. omega (arith, z t) in
     let few : a / d < 262145 = div-lt-iff-lt-mul (down-pos e) .1 (omega (arith, l, down-pos e)) in
     record {
@@ -237,11 +238,11 @@ natAbs-signed false n = refl
 pub fittedEntry-within : (bits : ℕ) → fittedOk bits ≡ true → natAbs (fittedEntry bits) ≤ entryLimit
 unfolding fittedOk fittedEntry
 fittedEntry-within bits ok =
-    let within = leb-true (magnitudeOf bits) (2 * partsOfOne) (and-true (isFinite bits) _ ok .1) in
-    let small : matrixUnit * magnitudeOf bits ≤ entryLimit * partsOfOne = omega (arith, within) in
-    subst (λ (k : ℕ). k ≤ entryLimit) (sym (natAbs-signed (isNegative bits) _)) (nearestEven-le (matrixUnit * magnitudeOf bits) partsOfOne entryLimit parts-pos small)
+    let within = leb-true (magnitudeOf bits) (2 * binary64Unit) (and-true (isFinite bits) _ ok .1) in
+    let small : matrixUnit * magnitudeOf bits ≤ entryLimit * binary64Unit = omega (arith, within) in
+    subst (λ (k : ℕ). k ≤ entryLimit) (sym (natAbs-signed (isNegative bits) _)) (nearestEven-le (matrixUnit * magnitudeOf bits) binary64Unit entryLimit unit-pos small)
 
--- Of a pattern that is no NaN's the bits are the pattern again. Every NaN is refused, by its own pattern and by the one that `toBits` gives.
+-- Of a pattern that is no NaN's the bits are the pattern again. Every NaN is refused, by its own pattern and by that of `toBits`.
 pub entryOf-bits : (bits : ℕ) → bits < 2 ^ 64 → entryOf (Fitted (ofBits binary64 bits)) ≡ entryOfBits bits
 unfolding entryOf isNan
 entryOf-bits bits h = cases (isNan (ofBits binary64 bits)) refl

@@ -1,4 +1,3 @@
-pub mod NearestEven
 pub mod Values
 pub mod Fitting
 pub mod FittedLaws

@@ -1,5 +1,5 @@
--- Laws of `entriesOf`. In order: rows with the same six answers are the same row; what holds of the number and of what is stored; the
--- two kinds of entry. Assumes nothing.
+-- Laws of `entriesOf`. In order: rows with the same six answers are the same row; what holds of the number and of what is stored;
+-- the two kinds of entry. Assumes nothing.
 use mathlib.Core.Path.{_≡_, refl, sym, ap, ap₂, subst, _∙_}
 use mathlib.Core.Bool.{Bool, true, false, cond}
 use mathlib.Core.List.{List}
@@ -7,17 +7,19 @@ use Prim.Native.Nat.{ℕ, zero, suc, _≤_, _<_}
 use native.Mathlib.Decide.{decLt}
 use native.Mathlib.Omega.{arith}
 use borrow.Author.Tests.{leb-true, le-ltb}
-use lib.Dec.{eqb, leb, ltb}
+use lib.Dec.{leb, ltb}
 use lib.ListN.{List·getD-eq-default}
 use lib.IntN.{ℤ, pos, natAbs}
 use Rattle.integers.specs.Sums.{vector}
 use Rattle.integers.proofs.Machine.{tabulate-cong, getD-tabulate}
+use Rattle.arrays.specs.Tests.{firstOf}
+use Rattle.arrays.proofs.FirstOf.{firstOf-ind}
 use Rattle.stepping.specs.Limits.{entryLimit}
 use Rattle.coefficients.specs.declared.EntryAnswer.{EntryAnswer}
 use Rattle.coefficients.specs.declared.EntryAnswer.the-variants.{Entry, Refused}
 use Rattle.coefficients.specs.declared.rows.RowEntries.{RowEntries}
 use Rattle.coefficients.specs.Entries.{fittedOk, fittedEntry, entryOfBits, scaledEntry, entryNumber, entryValue}
-use Rattle.coefficients.specs.Rows.{firstOf, firstNumber, answerAt, entriesNumber, storedSix, entriesOf}
+use Rattle.coefficients.specs.Rows.{firstNumber, answerAt, entriesNumber, storedSix, entriesOf}
 use Rattle.coefficients.proofs.Fitting.{accepted-bits, refused-bits, fittedEntry-within}
 
 firstNumber-cong : (k : ℕ) {f g : ℕ → EntryAnswer} → ((i : ℕ) → i < k → f i ≡ g i) → firstNumber k f ≡ firstNumber k g
@@ -35,12 +37,13 @@ entriesNumber-cong n e = firstNumber-cong 6 (answerAt-cong n e)
 pub storedSix-cong : (n : ℕ) {f g : ℕ → EntryAnswer} → ((i : ℕ) → i < 6 → f i ≡ g i) → storedSix n f ≡ storedSix n g
 storedSix-cong n {f} {g} e = tabulate-cong 6 {f = λ i. entryValue (answerAt n f i)} {g = λ i. entryValue (answerAt n g i)} (λ i l. ap entryValue (answerAt-cong n {f = f} {g = g} e i l))
 
+-- a row's number and its six entries
+abbrev pub rowEntries : ℕ → List ℤ → RowEntries
+rowEntries number six = record { number = number; six = six }
+
 pub entriesOf-cong : (n : ℕ) {f g : ℕ → EntryAnswer} → ((i : ℕ) → i < 6 → f i ≡ g i) → entriesOf n f ≡ entriesOf n g
 unfolding entriesOf
-entriesOf-cong n e = ap₂ entries (entriesNumber-cong n e) (storedSix-cong n e)
-  where
-    entries : ℕ → List ℤ → RowEntries
-    entries number six = record { number = number; six = six }
+entriesOf-cong n e = ap₂ rowEntries (entriesNumber-cong n e) (storedSix-cong n e)
 
 -- six facts are a fact of each place
 pub each-of-six : (P : ℕ → Type 0) → P 0 → P 1 → P 2 → P 3 → P 4 → P 5 → (i : ℕ) → i < 6 → P i
@@ -58,11 +61,7 @@ each-of-six P a b c d e f (suc (suc (suc (suc (suc (suc i)))))) l = absurd (omeg
 pub firstNumber-ind : (P : ℕ → Type 0) (row : ℕ → EntryAnswer) → P 0 → ((i : ℕ) → P (entryNumber (row i))) → (k : ℕ) → P (firstNumber k row)
 unfolding firstNumber
 firstNumber-ind P row none each zero = none
-firstNumber-ind P row none each (suc k) = either (eqb (firstNumber k row) 0) (firstNumber-ind P row none each k)
-  where
-    either : (b : Bool) → P (firstNumber k row) → P (cond b (entryNumber (row k)) (firstNumber k row))
-    either true before = each k
-    either false before = before
+firstNumber-ind P row none each (suc k) = firstOf-ind P (firstNumber-ind P row none each k) (each k)
 
 answerAt-ind : (P : EntryAnswer → Type 0) (n : ℕ) (row : ℕ → EntryAnswer) → P (Entry (pos 0)) → ((i : ℕ) → P (row i)) → (i : ℕ) → P (answerAt n row i)
 answerAt-ind P n row none each i = either (ltb i n)
@@ -90,36 +89,19 @@ storedSix-beyond n row i h =
       | no g ↦ List·getD-eq-default (storedSix n row) (pos 0) {n = i} (omega (arith, g))
     ]
 
--- ---- the two kinds of entry
+-- ---- the two kinds of entry: an entry within its limit, or the number
 
-pub scaledEntry-within : (entry : ℤ) → natAbs (entryValue (scaledEntry entry)) ≤ entryLimit
+pub scaledEntry-ind : (P : EntryAnswer → Type 0) (entry : ℤ) → (natAbs entry ≤ entryLimit → P (Entry entry)) → P (Refused 5) → P (scaledEntry entry)
 unfolding scaledEntry
-scaledEntry-within entry = cases (leb (natAbs entry) entryLimit) refl
+scaledEntry-ind P entry within beyond = cases (leb (natAbs entry) entryLimit) refl
   where
-    cases : (b : Bool) → leb (natAbs entry) entryLimit ≡ b → natAbs (entryValue (cond b (Entry entry) (Refused 5))) ≤ entryLimit
-    cases true e = leb-true (natAbs entry) entryLimit e
-    cases false e = omega arith
+    cases : (b : Bool) → leb (natAbs entry) entryLimit ≡ b → P (cond b (Entry entry) (Refused 5))
+    cases true e = within (leb-true (natAbs entry) entryLimit e)
+    cases false e = beyond
 
-pub entryOfBits-within : (bits : ℕ) → natAbs (entryValue (entryOfBits bits)) ≤ entryLimit
-entryOfBits-within bits = cases (fittedOk bits) refl
+pub entryOfBits-ind : (P : EntryAnswer → Type 0) (bits : ℕ) → (natAbs (fittedEntry bits) ≤ entryLimit → P (Entry (fittedEntry bits))) → P (Refused 15) → P (entryOfBits bits)
+entryOfBits-ind P bits within beyond = cases (fittedOk bits) refl
   where
-    cases : (b : Bool) → fittedOk bits ≡ b → natAbs (entryValue (entryOfBits bits)) ≤ entryLimit
-    cases true e = subst (λ (a : EntryAnswer). natAbs (entryValue a) ≤ entryLimit) (sym (accepted-bits bits e)) (fittedEntry-within bits e)
-    cases false e = subst (λ (a : EntryAnswer). natAbs (entryValue a) ≤ entryLimit) (sym (refused-bits bits e)) (omega arith)
-
--- their numbers
-pub scaledEntry-number : (P : ℕ → Type 0) → P 0 → P 5 → (entry : ℤ) → P (entryNumber (scaledEntry entry))
-unfolding scaledEntry
-scaledEntry-number P none five entry = cases (leb (natAbs entry) entryLimit)
-  where
-    cases : (b : Bool) → P (entryNumber (cond b (Entry entry) (Refused 5)))
-    cases true = none
-    cases false = five
-
-pub entryOfBits-number : (P : ℕ → Type 0) → P 0 → P 15 → (bits : ℕ) → P (entryNumber (entryOfBits bits))
-unfolding entryOfBits
-entryOfBits-number P none fifteen bits = cases (fittedOk bits)
-  where
-    cases : (b : Bool) → P (entryNumber (cond b (Entry (fittedEntry bits)) (Refused 15)))
-    cases true = none
-    cases false = fifteen
+    cases : (b : Bool) → fittedOk bits ≡ b → P (entryOfBits bits)
+    cases true e = subst P (sym (accepted-bits bits e)) (within (fittedEntry-within bits e))
+    cases false e = subst P (sym (refused-bits bits e)) beyond

@@ -1,6 +1,6 @@
--- Binary64 numbers as fractions: what a pattern's value is, what the product with 131,072 is, what is left without the fraction, and
--- when a whole number is below. `HasValue x s a c` of the library says that x is finite, has the sign s, and is a / c in size.
--- Assumes nothing.
+-- Binary64 numbers as fractions: what a pattern's value is, what the product with 131,072 is, what is left without the fraction,
+-- and when a whole number is below. `HasValue x s a c` of the library says that x is finite, has the sign s, and is a / c in
+-- size. Assumes nothing.
 use mathlib.Core.Path.{_≡_, refl, sym, ap, ap₂, subst, _∙_}
 use mathlib.Core.Bool.{Bool, true, false, cond, true≢false}
 use Prim.Native.Nat.{ℕ, zero, suc, _+_, _*_, _-_, _/_, _^_, _≤_, _<_, min}
@@ -17,13 +17,13 @@ use lib.Ieee.Exact.{HasValue, odd-sign, round-exact}
 use lib.Ieee.Scale.{finite}
 use lib.Ieee.Nearest.{div-same}
 use lib.Ieee.Back.{round-whole}
-use Rattle.coefficients.specs.Binary64.{isNegative, exponentOf, fractionOf, isFinite, significandOf, partsOfOne, magnitudeOf}
+use Rattle.coefficients.specs.Binary64.{isNegative, exponentOf, fractionOf, isFinite, significandOf, binary64Unit, magnitudeOf}
 
 -- ---- the value of a pattern
 
-pub parts-pos : 0 < partsOfOne
-unfolding partsOfOne
-parts-pos = pow-pos 1074
+pub unit-pos : 0 < binary64Unit
+unfolding binary64Unit
+unit-pos = pow-pos 1074
 
 -- by the exponent
 fields-value : (s : Bool) (x t : ℕ) → ltb x 2047 ≡ true → HasValue (ofFields binary64 s x t) s (cond (eqb x 0) t (2 ^ 52 + t) * 2 ^ (x - 1)) (2 ^ 1074)
@@ -37,8 +37,8 @@ fields-value s (suc x) t h =
     subst (λ (a : ℕ). HasValue (ofFields binary64 s (suc x) t) s a (2 ^ 1074)) size
     (subst (λ (b : Bool). HasValue (cond b (cond (eqb t 0) (inf s) nan) (odd 53 s (2 ^ 52 + t) x 1074)) s ((2 ^ 52 + t) * 2 ^ x) (2 ^ 1074)) exponent value)
 
-pub bits-value : (bits : ℕ) → isFinite bits ≡ true → HasValue (ofBits binary64 bits) (isNegative bits) (magnitudeOf bits) partsOfOne
-unfolding ofBits partsOfOne magnitudeOf
+pub bits-value : (bits : ℕ) → isFinite bits ≡ true → HasValue (ofBits binary64 bits) (isNegative bits) (magnitudeOf bits) binary64Unit
+unfolding ofBits binary64Unit magnitudeOf
 bits-value bits h = fields-value (isNegative bits) (exponentOf bits) (fractionOf bits) h
 
 exponent-lt : (bits : ℕ) → exponentOf bits < 2048
@@ -103,9 +103,9 @@ product-value s m e q k small within value = cases s
     cases true = exact true
     cases false = exact false
 
-pub scaled-value : (s t : Bool) (m : ℕ) (e : ℤ) (bits : ℕ) → HasValue (fin s m e) t (magnitudeOf bits) partsOfOne → magnitudeOf bits ≤ 2 * partsOfOne
+pub scaled-value : (s t : Bool) (m : ℕ) (e : ℤ) (bits : ℕ) → HasValue (fin s m e) t (magnitudeOf bits) binary64Unit → magnitudeOf bits ≤ 2 * binary64Unit
     → HasValue (mul binary64 (fin s m e) (fin false 1 (pos 17))) s (m * up e * 131072) (down e)
-unfolding magnitudeOf partsOfOne
+unfolding magnitudeOf binary64Unit
 scaled-value s t m e bits v within = product-value s m e (significandOf bits) (exponentOf bits - 1) (significand-lt bits) within (v .1)
 
 -- ---- without the fraction

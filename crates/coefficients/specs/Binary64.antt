@@ -26,8 +26,8 @@ abbrev pub significandOf : ℕ → ℕ
 significandOf bits = cond (eqb (exponentOf bits) 0) (fractionOf bits) (2 ^ 52 + fractionOf bits)
 
 -- The smallest number above 0 is 1 / 2^1074: so many of them make 1.
-unfoldable pub partsOfOne : ℕ
-partsOfOne = 2 ^ 1074
+unfoldable pub binary64Unit : ℕ
+binary64Unit = 2 ^ 1074
 
 -- The magnitude of a finite number, counted in those parts. An exponent of 0 counts as 1.
 unfoldable pub magnitudeOf : ℕ → ℕ
@@ -38,5 +38,5 @@ abbrev pub signed : Bool → ℕ → ℤ
 signed negative n = cond negative (negℤ (pos n)) (pos n)
 
 -- File 11: the exact value of a finite number, counted in parts.
-abbrev pub exactParts : ℕ → ℤ
-exactParts bits = signed (isNegative bits) (magnitudeOf bits)
+abbrev pub exactValue : ℕ → ℤ
+exactValue bits = signed (isNegative bits) (magnitudeOf bits)

@@ -1,28 +1,26 @@
 -- File 12, Refusals 5 and 15, Routines 18: the matrix entry that a scaled or a fitted entry of a row becomes. Definitions only.
 -- Assumes nothing.
 use mathlib.Core.Bool.{Bool, cond, _&&_}
-use Prim.Native.Nat.{ℕ, _+_, _*_, _/_, _%_}
-use lib.Dec.{leb, ltb}
+use Prim.Native.Nat.{ℕ, _*_}
+use lib.Dec.{leb}
 use lib.IntN.{ℤ, pos, natAbs}
 use lib.Ieee.{binary64, toBits}
+use Rattle.integers.specs.Whole.{nearestEven}
 use Rattle.stepping.specs.Limits.{matrixUnit, entryLimit}
 use Rattle.coefficients.specs.declared.Coefficient.{Coefficient}
 use Rattle.coefficients.specs.declared.Coefficient.the-variants.{Scaled, Fitted}
 use Rattle.coefficients.specs.declared.EntryAnswer.{EntryAnswer}
 use Rattle.coefficients.specs.declared.EntryAnswer.the-variants.{Entry, Refused}
-use Rattle.coefficients.specs.Binary64.{isNegative, isFinite, partsOfOne, magnitudeOf, signed}
-
--- The whole number nearest to a / b and, of two that are equally near, the even one.
-unfoldable pub nearestEven : ℕ → ℕ → ℕ
-nearestEven a b = cond (ltb (2 * (a % b)) b) (a / b) (cond (ltb b (2 * (a % b))) (a / b + 1) (a / b + a / b % 2))
+use Rattle.coefficients.specs.Binary64.{isNegative, isFinite, binary64Unit, magnitudeOf, signed}
 
 -- Refusals 15 does not apply: the number is finite and not above 2 in magnitude.
 unfoldable pub fittedOk : ℕ → Bool
-fittedOk bits = isFinite bits && leb (magnitudeOf bits) (2 * partsOfOne)
+fittedOk bits = isFinite bits && leb (magnitudeOf bits) (2 * binary64Unit)
 
--- File 12: the whole number nearest to 65,536 times the exact value, a tie to the even one. Both are so of its magnitude.
+-- File 12: the whole number nearest to 65,536 times the exact value, a tie to the even one. The magnitude is rounded: the sign
+-- changes neither the distance nor what is even.
 unfoldable pub fittedEntry : ℕ → ℤ
-fittedEntry bits = signed (isNegative bits) (nearestEven (matrixUnit * magnitudeOf bits) partsOfOne)
+fittedEntry bits = signed (isNegative bits) (nearestEven (matrixUnit * magnitudeOf bits) binary64Unit)
 
 -- Routines 18: the entry of 64 bits, or number 15.
 unfoldable pub entryOfBits : ℕ → EntryAnswer

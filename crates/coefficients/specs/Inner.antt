@@ -7,7 +7,7 @@ use lib.IntN.{ℤ, pos}
 use lib.Ieee.{Float, fin, lt, le}
 use lib.Ieee.Positive.{num, den}
 use Rattle.stepping.specs.Limits.{matrixUnit}
-use Rattle.coefficients.specs.Entries.{nearestEven}
+use Rattle.integers.specs.Whole.{nearestEven}
 
 -- A number from 0 to 2. Either zero is one.
 pub record InRange (x : Float) : Type 0 where
@@ -15,5 +15,5 @@ pub record InRange (x : Float) : Type 0 where
   pub high : T (le x (fin false 1 (pos 1)))
 
 -- The entry of such a number.
-abbrev pub sizeEntry : Float → ℤ
-sizeEntry x = pos (nearestEven (matrixUnit * num x) (den x))
+abbrev pub magnitudeEntry : Float → ℤ
+magnitudeEntry x = pos (nearestEven (matrixUnit * num x) (den x))

@@ -3,21 +3,18 @@
 use mathlib.Core.Bool.{cond}
 use mathlib.Core.List.{List}
 use Prim.Native.Nat.{ℕ, zero, suc}
-use lib.Dec.{eqb, ltb}
+use lib.Dec.{ltb}
 use lib.ListN.{getD}
 use lib.IntN.{ℤ, pos}
 use lib.Ieee.{Float, nan}
 use Rattle.integers.specs.Sums.{vector, tabulate}
+use Rattle.arrays.specs.Tests.{firstOf}
 use Rattle.coefficients.specs.declared.Coefficient.{Coefficient}
 use Rattle.coefficients.specs.declared.Coefficient.the-variants.{Scaled, Fitted}
 use Rattle.coefficients.specs.declared.EntryAnswer.{EntryAnswer}
 use Rattle.coefficients.specs.declared.EntryAnswer.the-variants.{Entry}
 use Rattle.coefficients.specs.declared.rows.RowEntries.{RowEntries}
 use Rattle.coefficients.specs.Entries.{entryNumber, entryValue, entryOf}
-
--- Reading 1: the first number that is not 0.
-abbrev pub firstOf : ℕ → ℕ → ℕ
-firstOf a b = cond (eqb a 0) b a
 
 -- The number of the first of so many entries that is refused, 0 where none is.
 unfoldable pub firstNumber : ℕ → (ℕ → EntryAnswer) → ℕ

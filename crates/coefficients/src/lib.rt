@@ -1,5 +1,6 @@
 // Matrix entries from the rows of a file, File 11 to 14 of the specification: scaled ones as they are, and fitted ones, which are
-// binary64 numbers of IEEE 754, rounded to the nearest entry. `rows` has the six of a row.
+// binary64 numbers of IEEE 754, rounded to the nearest entry. A scaled one beyond Limits 3 is refused by 5, a fitted one that is not
+// finite or above 2 in magnitude by 15. `rows` has the six of a row.
 //
 // No public function has a `requires`.
 pub mod rows;
@@ -7,7 +8,7 @@ pub mod rows;
 ghost use mathlib.Core.Path.{_≡_};
 ghost use lib.Ieee.{binary64, ofBits, toBits};
 ghost use Rattle.coefficients.specs.Entries.{entryOfBits, scaledEntry, entryOf};
-ghost use Rattle.coefficients.specs.Inner.{sizeEntry, InRange};
+ghost use Rattle.coefficients.specs.Inner.{magnitudeEntry, InRange};
 
 // Forms 9. An entry as its row has it: counted in 1 / 65,536, or a binary64 number.
 pub enum Coefficient {
@@ -34,9 +35,9 @@ pub fn value_of(bits: u64) -> f64
 // File 12. The whole number nearest to 65,536 times x, a tie to the even one.
 fn rounded(x: f64) -> i32
     requires { ⌜ InRange x ⌝ }
-    ensures { λ r. ⌜ r ≡ sizeEntry x ⌝ }
+    ensures { λ r. ⌜ r ≡ magnitudeEntry x ⌝ }
 {
-    // Forms 10: twice 65,536 times x, which a product with a power of two gives exactly. So whole ones of it are halves.
+    // Forms 10: twice 65,536 times x, which a product with a power of two gives exactly, so its whole part counts halves.
     let scaled = x * 131072.0;
     let halves = std::num::truncating_f64_to_u64(scaled);
     let whole = halves / 2;
@@ -63,10 +64,10 @@ fn scaled_entry(entry: i32) -> EntryAnswer
 fn fitted_entry(x: f64) -> EntryAnswer
     ensures { λ r. ⌜ r ≡ entryOfBits (toBits binary64 x) ⌝ }
 {
-    let size = if x < 0.0 { -x } else { x };
+    let magnitude = if x < 0.0 { -x } else { x };
     let negative = x < 0.0;
-    if size <= 2.0 {
-        let entry = rounded(size);
+    if magnitude <= 2.0 {
+        let entry = rounded(magnitude);
         if negative {
             return EntryAnswer::Entry(-entry);
         }

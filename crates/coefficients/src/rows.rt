@@ -1,11 +1,12 @@
-// The entries of a matrix row, scaled or fitted: each of the first n as `entry_of` answers it.
+// The entries of a matrix row, scaled or fitted: each of the first n as `entry_of` answers it. The first that is refused, by 5 or 15,
+// refuses the row.
 use crate::Coefficient;
 use crate::EntryAnswer;
 use crate::entry_of;
 ghost use mathlib.Core.Path.{_≡_};
 ghost use Prim.Native.Nat.{_<_};
 ghost use Rattle.coefficients.specs.Entries.{entryNumber, entryValue};
-ghost use Rattle.coefficients.specs.Rows.{firstOf, answerAt, entriesOf, mixedRow, scaledRow, fittedRow};
+ghost use Rattle.coefficients.specs.Rows.{answerAt, entriesOf, mixedRow, scaledRow, fittedRow};
 
 // The number that a row is refused by, 0 where it is not, and its six stored entries: zero for one that is refused and beyond n.
 pub struct RowEntries {
@@ -17,13 +18,6 @@ pub struct RowEntries {
 pub struct FittedRow {
     pub number: usize,
     pub values: [f64; 6],
-}
-
-// Routines 18, Reading 1. The first of two numbers that is not 0.
-pub fn first_of(a: u8, b: u8) -> u8
-    ensures { λ r. ⌜ r ≡ firstOf a b ⌝ }
-{
-    if a == 0 { b } else { a }
 }
 
 fn number_of(answer: EntryAnswer) -> u8
@@ -65,7 +59,7 @@ pub fn entries_of(n: usize, coefficients: [Coefficient; 6]) -> RowEntries
     let mut i: usize = 0;
     while i < 6 {
         let answer = answer_at(n, coefficients, i);
-        number = first_of(number, number_of(answer));
+        number = arrays::first_of(number, number_of(answer));
         six[i] = stored_entry(answer);
         i += 1;
     }

@@ -7,3 +7,4 @@ pub mod RunningSum
 pub mod EarlyReturn
 pub mod Machine
 pub mod Basics
+pub mod NearestEven

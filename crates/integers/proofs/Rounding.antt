@@ -13,7 +13,7 @@ use Rattle.integers.proofs.SignedParts.{v, #, neg, _⊕_, _⊖_, _⊗_,
 use Rattle.integers.proofs.Order.{natAbs-neg, natAbs-mul, near-of-eq, near-mono, halves-of-eq, halves-mono}
 
 -- the quotient and the remainder of a natural number
-divides : (a m : ℕ) → a ≡ a / m * m + a % m
+pub divides : (a m : ℕ) → a ≡ a / m * m + a % m
 divides a m = sym (div-add-mod' a m)
 
 -- ---- rounded toward minus infinity

@@ -3,8 +3,8 @@
 use mathlib.Core.Path.{_≡_}
 use mathlib.Core.Bool.{Bool, true, false, cond}
 use mathlib.Core.List.{List}
-use mathlib.Core.Logic.{_⊎_, inl, inr}
-use Prim.Native.Nat.{ℕ, suc, _/_, _%_, _≤_, _<_}
+use mathlib.Core.Logic.{inl, inr}
+use Prim.Native.Nat.{ℕ, suc, _/_, _%_, _<_}
 use native.Mathlib.Omega.{arith}
 use lib.Dec.{leb, ltb}
 use lib.ListN.{getD}
@@ -27,7 +27,7 @@ use Rattle.judge.proofs.Answers.{verdict-number}
 use Rattle.reader.specs.declared.Status.the-variants.{Read, Refused}
 use Rattle.reader.specs.Reading.{readModel}
 use Rattle.reader.proofs.ReadModels.{readModel-accepted}
-use Rattle.reader.proofs.Answers.{readModel-told}
+use Rattle.reader.proofs.Answers.{FileNumber, readModel-told}
 use Rattle.pepperscarp.specs.Packing.{packed, steppedFigure, sweptFigure, judgedVerdict, judgedFigure, steppedPacked, sweptPacked, judgedPacked}
 
 -- ---- any three
@@ -43,7 +43,7 @@ packed-unpacks number verdict figure h k = record { number-is = omega arith; ver
 -- ---- the answers
 
 -- a file's number is 1 to 10 or 15
-small : {number : ℕ} → (number ≤ 10) ⊎ (number ≡ 15) → number < 256
+small : {number : ℕ} → FileNumber number → number < 256
 small (inl h) = omega (arith, h)
 small (inr e) = omega (arith, e)
 

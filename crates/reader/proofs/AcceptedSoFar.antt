@@ -17,9 +17,9 @@ use Rattle.integers.proofs.Machine.{getD-replicate-default}
 use Rattle.arrays.proofs.Tests.{zeroOutside-of}
 use Rattle.stepping.specs.Limits.{entryLimit}
 use Rattle.stepping.specs.Refusals.{dimensionOk}
-use Rattle.coefficients.specs.Entries.{entryOfBits, scaledEntry, entryValue}
+use Rattle.coefficients.specs.Entries.{entryValue}
 use Rattle.coefficients.specs.Rows.{storedSix}
-use Rattle.coefficients.proofs.RowLaws.{storedSix-within, storedSix-beyond, scaledEntry-within, entryOfBits-within}
+use Rattle.coefficients.proofs.RowLaws.{storedSix-within, storedSix-beyond, scaledEntry-ind, entryOfBits-ind}
 use Rattle.records.specs.Numbers.{littleEndian, signedAt}
 use Rattle.limits.specs.Limits.{directionLimit, stepsOk}
 use Rattle.reachability.specs.declared.sets.Shape.the-variants.{Box}
@@ -29,10 +29,11 @@ use Rattle.records.specs.declared.order.Part.the-variants.{Head, Row, Initial, 
 use Rattle.reader.specs.declared.state.State.{State}
 use Rattle.records.specs.Order.{partOf}
 use Rattle.reader.specs.Order.{mostOf}
-use Rattle.reader.specs.Models.{zeros, blankSet, blankModel, start, firstByte, usualSteps, defaultSteps, rowAnswer, scaledAt, bitsAt, rowPlace, withHead, withRow, withPoint, withSetPoint, inputAt, withDirection, withGuard}
+use Rattle.reader.specs.Models.{zeros, blankSet, blankModel, start, firstByte, usualSteps, defaultSteps, rowAnswer, rowPlace, withHead, withRow, withPoint, withSetPoint, inputAt, withDirection, withGuard}
 use Rattle.reader.specs.Values.{headOk, pointOk, directionOk, guardOk, valueNumber}
 use Rattle.reader.specs.Refusals.{countOf, kindNumber, storedIn, stored}
 use Rattle.reader.proofs.order.KindNumbers.{kindNumber-zero, lt-of-mostOf}
+use Rattle.reader.proofs.RowAnswers.{rowAnswer-ind}
 use Rattle.reader.proofs.RowsOfSix.{vector-zeros, zeros-blank, small-blank, nonzero-none, guarded-more, guarded-set}
 use Rattle.reader.proofs.OrderFacts.{isDone, pointMay, point-low, point-high, fact, order-fact, isDone-late, isDone-early}
 use Rattle.reader.proofs.PartsSoFar.{passed, FrameAt, n-least, frame-on, frame-row, SetAt, set-early, set-late, set-point, DirectionsAt, directions-early, directions-late, directions-more, GuardsAt}
@@ -158,11 +159,10 @@ row-place-range rows n = split (ltb rows n)
 
 -- Limits 3: what a row stores, scaled or fitted, is within the limit
 answer-within : (kind : ℕ) (body : List ℕ) (i : ℕ) → natAbs (entryValue (rowAnswer kind body i)) ≤ entryLimit
-answer-within kind body i = split (eqb kind 0x03)
-  where
-    split : (b : Bool) → natAbs (entryValue (cond b (entryOfBits (bitsAt body i)) (scaledEntry (scaledAt body i)))) ≤ entryLimit
-    split true = entryOfBits-within (bitsAt body i)
-    split false = scaledEntry-within (scaledAt body i)
+answer-within =
+    rowAnswer-ind (λ a. natAbs (entryValue a) ≤ entryLimit)
+    (λ bits. entryOfBits-ind (λ a. natAbs (entryValue a) ≤ entryLimit) bits (λ h. h) (omega arith))
+    (λ entry. scaledEntry-ind (λ a. natAbs (entryValue a) ≤ entryLimit) entry (λ h. h) (omega arith))
 
 module _ (s : State) (kind : ℕ) (body : List ℕ) (g : AcceptedSoFar s) where
   so-far-row : s .last ≡ 1 → AcceptedSoFar (withRow s kind body)

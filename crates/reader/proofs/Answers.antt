@@ -1,5 +1,5 @@
--- What a refused file is told: a number from 1 to 10 or 15, with an offset no farther than the file's length. In order: the numbers of
--- one record; the number and the offset where reading stops. Assumes nothing.
+-- What a refused file is told: a number from 1 to 10 or 15, with an offset no farther than the file's length. In order: the
+-- numbers of one record; the number and the offset where reading stops. Assumes nothing.
 use mathlib.Core.Path.{_≡_, refl, ap, subst, _∙_}
 use mathlib.Core.Bool.{Bool, true, false, cond}
 use mathlib.Core.Logic.{_⊎_, inl, inr}
@@ -9,9 +9,8 @@ use native.Mathlib.Omega.{arith}
 use borrow.Author.Tests.{eqb-true, eqb-false, ltb-true}
 use lib.Dec.{eqb, ltb}
 use lib.ListN.{length}
-use Rattle.coefficients.specs.Entries.{entryOfBits, scaledEntry, entryNumber}
-use Rattle.coefficients.specs.Rows.{firstOf, entriesNumber}
-use Rattle.coefficients.proofs.RowLaws.{entriesNumber-ind, scaledEntry-number, entryOfBits-number}
+use Rattle.coefficients.specs.Entries.{entryNumber}
+use Rattle.coefficients.proofs.RowLaws.{entriesNumber-ind, scaledEntry-ind, entryOfBits-ind}
 use Rattle.records.specs.Records.{Record, whole, short, unknown, nothing, recordAt}
 use Rattle.records.proofs.RecordAt.{whole-of}
 use Rattle.records.specs.declared.order.Part.{Part}
@@ -19,45 +18,39 @@ use Rattle.records.specs.declared.order.Part.the-variants.{Head, Row, Initial, 
 use Rattle.reader.specs.declared.Status.the-variants.{Refused}
 use Rattle.reader.specs.declared.state.State.{State}
 use Rattle.records.specs.Order.{partOf}
-use Rattle.reader.specs.Models.{start, firstByte, scaledAt, bitsAt, rowAnswer, withPoint}
+use Rattle.reader.specs.Models.{start, firstByte, rowAnswer, withPoint}
 use Rattle.reader.specs.Values.{headOk, pointOk, directionOk, guardOk, unless, rowNumber, valueNumber}
 use Rattle.reader.specs.Refusals.{kindNumber, refusal}
 use Rattle.reader.specs.Reading.{Stop, stopFrom, numberAt, offsetAt, refused, readAs, readingAt, readFrom, readModel}
+use Rattle.reader.proofs.RowAnswers.{rowAnswer-ind}
 use Rattle.reader.proofs.order.KindNumbers.{kindNumber-le}
-use Rattle.reader.proofs.ReadingOn.{firstOf-none, stopFor-ind}
+use Rattle.arrays.proofs.FirstOf.{firstOf-none, firstOf-ind}
+use Rattle.reader.proofs.ReadingOn.{stopFor-ind}
 
 -- ---- the numbers of one record
 
 -- The numbers that the reader has for a file, 0 for none.
-abbrev Known : ℕ → Type 0
-Known number = (number ≤ 10) ⊎ (number ≡ 15)
+abbrev pub FileNumber : ℕ → Type 0
+FileNumber number = (number ≤ 10) ⊎ (number ≡ 15)
 
-unless-known : (ok : Bool) (number : ℕ) → Known number → Known (unless ok number)
+unless-known : (ok : Bool) (number : ℕ) → FileNumber number → FileNumber (unless ok number)
 unless-known true number h = inl (omega arith)
 unless-known false number h = h
 
-firstOf-known : (a b : ℕ) → Known a → Known b → Known (firstOf a b)
-firstOf-known a b h k = split (eqb a 0)
-  where
-    split : (t : Bool) → Known (cond t b a)
-    split true = k
-    split false = h
+answer-known : (kind : ℕ) (body : List ℕ) (i : ℕ) → FileNumber (entryNumber (rowAnswer kind body i))
+answer-known =
+    rowAnswer-ind (λ a. FileNumber (entryNumber a))
+    (λ bits. entryOfBits-ind (λ a. FileNumber (entryNumber a)) bits (λ h. inl (omega arith)) (inr refl))
+    (λ entry. scaledEntry-ind (λ a. FileNumber (entryNumber a)) entry (λ h. inl (omega arith)) (inl (omega arith)))
 
-answer-known : (kind : ℕ) (body : List ℕ) (i : ℕ) → Known (entryNumber (rowAnswer kind body i))
-answer-known kind body i = split (eqb kind 0x03)
-  where
-    split : (b : Bool) → Known (entryNumber (cond b (entryOfBits (bitsAt body i)) (scaledEntry (scaledAt body i))))
-    split true = entryOfBits-number Known (inl (omega arith)) (inr refl) (bitsAt body i)
-    split false = scaledEntry-number Known (inl (omega arith)) (inl (omega arith)) (scaledAt body i)
-
-rowNumber-known : (s : State) (kind : ℕ) (body : List ℕ) → Known (rowNumber s kind body)
+rowNumber-known : (s : State) (kind : ℕ) (body : List ℕ) → FileNumber (rowNumber s kind body)
 unfolding rowNumber
 rowNumber-known s kind body =
-    firstOf-known (unless (eqb (firstByte body) (s .rows)) 5) (entriesNumber (s .model .n) (rowAnswer kind body))
+    firstOf-ind FileNumber
     (unless-known (eqb (firstByte body) (s .rows)) 5 (inl (omega arith)))
-    (entriesNumber-ind Known (s .model .n) (rowAnswer kind body) (inl (omega arith)) (answer-known kind body))
+    (entriesNumber-ind FileNumber (s .model .n) (rowAnswer kind body) (inl (omega arith)) (answer-known kind body))
 
-valueNumber-known : (p : Part) (s : State) (kind : ℕ) (body : List ℕ) → Known (valueNumber p s kind body)
+valueNumber-known : (p : Part) (s : State) (kind : ℕ) (body : List ℕ) → FileNumber (valueNumber p s kind body)
 valueNumber-known Head s kind body = unless-known (headOk body) 4 (inl (omega arith))
 valueNumber-known Row s kind body = rowNumber-known s kind body
 valueNumber-known Initial s kind body = unless-known (pointOk (s .model .n) kind (withPoint (s .model .n) (s .model .initial) kind body)) 6 (inl (omega arith))
@@ -66,26 +59,26 @@ valueNumber-known Direction s kind body = unless-known (directionOk (s .model .n
 valueNumber-known Guard s kind body = unless-known (guardOk s body) 8 (inl (omega arith))
 valueNumber-known End s kind body = inl (omega arith)
 
-refusal-known : (s : State) (r : Record) → Known (refusal s r)
+refusal-known : (s : State) (r : Record) → FileNumber (refusal s r)
 unfolding refusal
 refusal-known s nothing = inl (omega arith)
 refusal-known s (unknown kind) = inl (omega arith)
-refusal-known s (short kind) = firstOf-known (kindNumber s kind) 1 (inl (omega (arith, kindNumber-le s kind))) (inl (omega arith))
-refusal-known s (whole kind body) = firstOf-known (kindNumber s kind) (valueNumber (partOf kind) s kind body) (inl (omega (arith, kindNumber-le s kind))) (valueNumber-known (partOf kind) s kind body)
+refusal-known s (short kind) = firstOf-ind FileNumber {a = kindNumber s kind} {b = 1} (inl (omega (arith, kindNumber-le s kind))) (inl (omega arith))
+refusal-known s (whole kind body) = firstOf-ind FileNumber {a = kindNumber s kind} (inl (omega (arith, kindNumber-le s kind))) (valueNumber-known (partOf kind) s kind body)
 
 -- ---- the number and the offset where reading stops
 
 pub record Told (file : List ℕ) (number offset : ℕ) : Type 0 where
   pub least : 1 ≤ number
-  pub known : (number ≤ 10) ⊎ (number ≡ 15)
+  pub known : FileNumber number
   pub inside : offset ≤ length file
 
 module _ (file : List ℕ) (p : Stop) where
-  numberAt-known : Known (numberAt file p)
+  numberAt-known : FileNumber (numberAt file p)
   unfolding numberAt
-  numberAt-known = firstOf-known (refusal (p .state) (recordAt file (p .at))) _ (refusal-known (p .state) (recordAt file (p .at))) (ten (ltb (p .at + 1) (length file)))
+  numberAt-known = firstOf-ind FileNumber (refusal-known (p .state) (recordAt file (p .at))) (ten (ltb (p .at + 1) (length file)))
     where
-      ten : (b : Bool) → Known (cond b 10 0)
+      ten : (b : Bool) → FileNumber (cond b 10 0)
       ten true = inl (omega arith)
       ten false = inl (omega arith)
 
@@ -109,7 +102,7 @@ module _ (file : List ℕ) (p : Stop) where
           let n : numberAt file p ≡ number = cc in
           let o : offsetAt file p ≡ offset = cc in
           let ne = eqb-false (numberAt file p) 0 f in
-          record { least = omega (arith, ne); known = subst Known n numberAt-known; inside = omega (arith, offsetAt-le ne h) }
+          record { least = omega (arith, ne); known = subst FileNumber n numberAt-known; inside = omega (arith, offsetAt-le ne h) }
 
 pub readModel-told : (file : List ℕ) (number offset : ℕ) → readModel file .status ≡ Refused number offset → Told file number offset
 unfolding readModel readFrom

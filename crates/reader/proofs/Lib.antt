@@ -3,6 +3,7 @@ pub mod RecordInPlace
 pub mod ReadingRest
 pub mod DefaultSteps
 pub mod RowsOfSix
+pub mod RowAnswers
 pub mod OrderFacts
 pub mod PartsSoFar
 pub mod AcceptedSoFar

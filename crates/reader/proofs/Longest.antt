@@ -1,11 +1,12 @@
--- File 9: a file of 1,665 bytes is accepted, and so none that is longer (`ReadModels`). By computation. Assumes nothing.
+-- File 9: a file of 1,665 bytes is accepted. By computation. That none is longer: `ReadModels`. Assumes nothing.
 use mathlib.Core.Path.{_≡_, refl}
 use mathlib.Core.List.{List, _∷_, _++_, []}
 use Prim.Native.Nat.{ℕ, zero, suc}
 use lib.ListN.{length, replicate}
 use Rattle.integers.specs.Sums.{allBelow, sumℕ, maxℕ}
-use Rattle.coefficients.specs.Binary64.{partsOfOne, magnitudeOf}
-use Rattle.coefficients.specs.Entries.{nearestEven, fittedOk, fittedEntry, entryOfBits, scaledEntry}
+use Rattle.coefficients.specs.Binary64.{binary64Unit, magnitudeOf}
+use Rattle.integers.specs.Whole.{nearestEven}
+use Rattle.coefficients.specs.Entries.{fittedOk, fittedEntry, entryOfBits, scaledEntry}
 use Rattle.coefficients.specs.Rows.{firstNumber}
 use Rattle.records.specs.Kinds.{bodyLength}
 use Rattle.records.specs.Records.{recordAt}
@@ -42,5 +43,5 @@ unfolding longest
 longest-length = refl
 
 pub longest-read : readModel longest .status ≡ Read
-unfolding allBelow sumℕ maxℕ partsOfOne magnitudeOf nearestEven fittedOk fittedEntry entryOfBits scaledEntry firstNumber bodyLength recordAt littleEndian mayFollow partOf zeros blankSet blankModel start sixAt putRow withHead withRow withPoint withSetPoint withDirection withGuard rowNumber pointOk directionOk kindNumber refusal stored stopFor numberAt readingAt readFrom readModel longest
+unfolding allBelow sumℕ maxℕ binary64Unit magnitudeOf nearestEven fittedOk fittedEntry entryOfBits scaledEntry firstNumber bodyLength recordAt littleEndian mayFollow partOf zeros blankSet blankModel start sixAt putRow withHead withRow withPoint withSetPoint withDirection withGuard rowNumber pointOk directionOk kindNumber refusal stored stopFor numberAt readingAt readFrom readModel longest
 longest-read = refl

@@ -15,7 +15,7 @@ use lib.IntN.{ℤ, pos}
 use Rattle.integers.specs.Sums.{allBelow}
 use Rattle.integers.proofs.Booleans.{and-true, or-false}
 use Rattle.integers.proofs.Machine.{tabulate-cong, getD-replicate-default}
-use Rattle.coefficients.specs.Rows.{firstOf}
+use Rattle.arrays.specs.Tests.{firstOf}
 use Rattle.records.specs.Kinds.{bodyLength}
 use Rattle.records.specs.Numbers.{littleEndian, twosComplement, signedAt}
 use Rattle.records.specs.Order.{mayFollow, partOf}

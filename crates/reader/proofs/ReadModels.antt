@@ -10,7 +10,7 @@ use borrow.Author.Tests.{le-leb, leb-true, eq-eqb, eqb-true, lt-ltb, le-ltb, ltb
 use lib.Dec.{eqb, ltb}
 use lib.ListN.{length, take, length-take}
 use lib.Seq.{take-all}
-use Rattle.coefficients.specs.Rows.{firstOf}
+use Rattle.arrays.specs.Tests.{firstOf}
 use Rattle.records.specs.Records.{Record, recordAt, recordKind, recordBody}
 use Rattle.records.proofs.RecordAt.{whole-length, recordAt-take, reaches-of-le}
 use Rattle.arrays.proofs.Tests.{Zeros, zeroOutside-of, allBetween-of}
@@ -25,7 +25,8 @@ use Rattle.reader.specs.Models.{blankModel, start}
 use Rattle.reader.specs.Refusals.{refusal, stored}
 use Rattle.reader.specs.Reading.{Stop, stopHere, goesOn, behind, storedRecord, stopFor, stopFrom, numberAt, offsetAt, refused, readAs, readingAt, readFrom, readModel, readNumber, readOffset, statusNumber, statusOffset, Reads}
 use Rattle.reader.proofs.order.KindNumbers.{kindNumber-zero}
-use Rattle.reader.proofs.ReadingOn.{firstOf-zero, refusal-zero, whole-of-refusal, GoesOn, goesOn-true, stopFor-ind, stopFor-enough, stopFor-stops}
+use Rattle.arrays.proofs.FirstOf.{firstOf-zero}
+use Rattle.reader.proofs.ReadingOn.{refusal-zero, whole-of-refusal, GoesOn, goesOn-true, stopFor-ind, stopFor-enough, stopFor-stops}
 use Rattle.reader.proofs.RowsOfSix.{someNonzero-of, guardsOk-of}
 use Rattle.reader.proofs.OrderFacts.{fact, order-fact, isDone-late}
 use Rattle.reader.proofs.AcceptedSoFar.{AcceptedSoFar, acceptedSoFar-start, acceptedSoFar-stored}

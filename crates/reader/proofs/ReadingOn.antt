@@ -9,7 +9,7 @@ use borrow.Author.Tests.{eq-eqb, ne-eqb, eqb-true, eqb-false, lt-ltb, le-ltb, no
 use lib.Dec.{eqb, ltb}
 use lib.ListN.{length}
 use Rattle.integers.proofs.Booleans.{and-true, and-false}
-use Rattle.coefficients.specs.Rows.{firstOf}
+use Rattle.arrays.proofs.FirstOf.{firstOf-none, firstOf-some, firstOf-zero}
 use Rattle.records.specs.Records.{Record, whole, short, unknown, nothing, recordAt, recordKind, recordBody}
 use Rattle.records.proofs.RecordAt.{whole-of}
 use Rattle.reader.specs.declared.state.State.{State}
@@ -18,21 +18,7 @@ use Rattle.reader.specs.Values.{valueNumber}
 use Rattle.reader.specs.Refusals.{kindNumber, refusal, stored}
 use Rattle.reader.specs.Reading.{Stop, stopHere, goesOn, behind, storedRecord, stopFor, numberAt, offsetAt, refused, readAs, readingAt, readFrom}
 
--- ---- the first number that applies
-
-pub firstOf-none : {a : ℕ} (b : ℕ) → a ≡ 0 → firstOf a b ≡ b
-firstOf-none {a} b z = ap (λ (t : Bool). cond t b a) (eq-eqb a 0 z)
-
-pub firstOf-some : (a b : ℕ) → (a ≡ 0 → ⊥) → firstOf a b ≡ a
-firstOf-some a b ne = ap (λ (t : Bool). cond t b a) (ne-eqb a 0 ne)
-
--- back: no number applies
-pub firstOf-zero : (a b : ℕ) → firstOf a b ≡ 0 → (a ≡ 0) × (b ≡ 0)
-firstOf-zero a b e = split (eqb a 0) refl
-  where
-    split : (t : Bool) → eqb a 0 ≡ t → (a ≡ 0) × (b ≡ 0)
-    split true f = let n = eqb-true a 0 f in (n, sym (firstOf-none b n) ∙ e)
-    split false f = let ne = eqb-false a 0 f in absurd (ne (sym (firstOf-some a b ne) ∙ e))
+-- ---- the number of a record
 
 module _ (s : State) (kind : ℕ) where
   pub refusal-short-kind : (kindNumber s kind ≡ 0 → ⊥) → refusal s (short kind) ≡ kindNumber s kind

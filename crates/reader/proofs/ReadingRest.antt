@@ -11,7 +11,7 @@ use borrow.Author.Tests.{lt-ltb, le-ltb}
 use lib.Dec.{eqb, ltb}
 use lib.ListN.{length, take, length-append}
 use lib.Seq.{length-take-le}
-use Rattle.coefficients.specs.Rows.{firstOf}
+use Rattle.arrays.specs.Tests.{firstOf}
 use Rattle.records.specs.Records.{Record, recordAt, recordKind, recordBody}
 use Rattle.records.proofs.RecordAt.{whole-of, recordAt-cons, Reaches, reaches-whole, recordAt-within}
 use Rattle.reader.specs.declared.Status.{Status}

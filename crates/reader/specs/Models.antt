@@ -1,5 +1,5 @@
--- File 3, 4, 5, 7, 8 and 10: how far a file has been read, and what each record adds to the model. Definitions only. A record that a
--- block has no room for changes nothing in it; none such is ever let in. Assumes nothing.
+-- File 3, 4, 5, 7, 8 and 10: how far a file has been read, and what each record adds to the model. Definitions only. A record
+-- that a block has no room for changes nothing in it; none such is ever let in. Assumes nothing.
 use mathlib.Core.Bool.{Bool, true, cond}
 use mathlib.Core.List.{List}
 use Prim.Native.Nat.{ℕ, zero, suc, _+_, _*_}

@@ -14,6 +14,7 @@ shapeOf kind = cond (leb (kind % 16) 1) Box (cond (leb (kind % 16) 3) Zonotope V
 abbrev pub isUpper : ℕ → Bool
 isUpper kind = eqb (kind % 16) 1
 
--- Refusals 9: the most that a part may have. A zonotope has its centre and 8 generators (Sets 5), so 9 points.
+-- Refusals 9: the most that a part may have. A zonotope has its centre and 8 generators (Sets 5), so 9 points. Rows are
+-- not counted, so that 03 ends in 3 too makes no difference.
 abbrev pub mostOf : ℕ → ℕ
 mostOf kind = cond (eqb (kind % 16) 3) 9 16

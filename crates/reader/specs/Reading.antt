@@ -6,7 +6,7 @@ use mathlib.Core.List.{List}
 use Prim.Native.Nat.{ℕ, zero, suc, _+_, _-_, _<_}
 use lib.Dec.{eqb, ltb}
 use lib.ListN.{length}
-use Rattle.coefficients.specs.Rows.{firstOf}
+use Rattle.arrays.specs.Tests.{firstOf}
 use Rattle.records.specs.Records.{Record, recordAt, recordKind, recordBody}
 use Rattle.reachability.specs.declared.model.Model.{Model}
 use Rattle.reader.specs.declared.Status.{Status}

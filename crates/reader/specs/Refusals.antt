@@ -3,7 +3,7 @@ use mathlib.Core.Bool.{Bool, true, false, cond}
 use mathlib.Core.List.{List}
 use Prim.Native.Nat.{ℕ}
 use lib.Dec.{leb}
-use Rattle.coefficients.specs.Rows.{firstOf}
+use Rattle.arrays.specs.Tests.{firstOf}
 use Rattle.records.specs.Records.{Record, whole, short, unknown, nothing}
 use Rattle.records.specs.declared.order.Part.{Part}
 use Rattle.records.specs.declared.order.Part.the-variants.{Head, Row, Initial, Input, Direction, Guard, End}

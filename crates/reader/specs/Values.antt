@@ -4,9 +4,9 @@ use mathlib.Core.List.{List}
 use Prim.Native.Nat.{ℕ}
 use lib.Dec.{eqb, leb, ltb}
 use lib.IntN.{ℤ, pos, negℤ}
-use Rattle.arrays.specs.Tests.{allBetween}
+use Rattle.arrays.specs.Tests.{allBetween, firstOf}
 use Rattle.stepping.specs.Refusals.{dimensionOk}
-use Rattle.coefficients.specs.Rows.{firstOf, entriesNumber}
+use Rattle.coefficients.specs.Rows.{entriesNumber}
 use Rattle.records.specs.Numbers.{littleEndian}
 use Rattle.reachability.specs.Sets.{reachWithin}
 use Rattle.limits.specs.Limits.{directionLimit, allZero, cornersOrdered}

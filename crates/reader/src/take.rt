@@ -9,7 +9,6 @@ use crate::store::six_at;
 use crate::store::with_point;
 use crate::store::with_set;
 use coefficients::rows::RowEntries;
-use coefficients::rows::first_of;
 use coefficients::rows::fitted_entries;
 use coefficients::rows::scaled_entries;
 use reachability::sets::Set;
@@ -20,7 +19,7 @@ ghost use mathlib.Core.Bool.{false};
 ghost use Prim.Native.Nat.{_<_};
 ghost use lib.Dec.{eqb};
 ghost use Rattle.records.specs.Order.{partOf};
-ghost use Rattle.coefficients.specs.Rows.{firstOf};
+ghost use Rattle.arrays.specs.Tests.{firstOf};
 ghost use Rattle.reader.specs.Models.{withHead, rowStored, withRow, setOf, withSetPoint, withDirection, withGuard};
 ghost use Rattle.reader.specs.Values.{headOk, rowNumber, pointOk, directionOk, guardOk, unless, pointNumber, valueNumber};
 ghost use Rattle.reader.specs.Refusals.{oneTooMany, stored};
@@ -68,7 +67,7 @@ fn store_row(state: State, row: usize, entries: RowEntries) -> Taken
 {
     let rows = state.rows;
     let misplaced: u8 = if row == rows { 0 } else { 5 };
-    let number = first_of(misplaced, entries.number);
+    let number = arrays::first_of(misplaced, entries.number);
     if number != 0 {
         return Taken { number, state };
     }

@@ -7,8 +7,8 @@ use lib.Dec.{eqb, leb}
 use Rattle.records.specs.declared.order.Part.{Part}
 use Rattle.records.specs.declared.order.Part.the-variants.{Head, Row, Initial, Input, Direction, Guard, End}
 
--- File 5 and 6, as a table. Each pair is a place and a kind that may stand there. The place is the kind of the record read last, but
--- 00 at the start, 01 until all n rows are in, and 02 then, also behind a fitted row.
+-- File 5 and 6, as a table. Each pair is a place and a kind that may stand there. The place is the kind of the record read last,
+-- but 00 at the start, 01 until all n rows are in, and 02 then, also behind a fitted row.
 abbrev pub order : List (ℕ × ℕ)
 order =
     (0x00, 0x01)

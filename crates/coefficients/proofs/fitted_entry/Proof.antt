@@ -1,5 +1,5 @@
--- `coefficients::fitted_entry` meets its contract: the size within 2 is the test of the bits, and the rounded size with the sign is
--- the entry. Assumes nothing.
+-- `coefficients::fitted_entry` meets its contract: the magnitude within 2 is the test of the bits, and the rounded magnitude with
+-- the sign is the entry. Assumes nothing.
 use Rattle.integers.proofs.Basics.{_≡_, sym, ap, ap₂, subst, _∙_, Bool, true, false, ℕ, _*_, _≤_, arith, ℤ, pos, natAbs, w32, toZ, ofZ, toZ-ofZ, SFits, _-ℤ_}
 use mathlib.Core.Bool.{cond}
 use mathlib.Core.Logic.{⊎-elim}
@@ -8,37 +8,38 @@ use lib.Ieee.{Float, binary64, fin, lt, le, neg, ofBits, toBits}
 use Rattle.stepping.specs.Limits.{matrixUnit, entryLimit}
 use lib.Ieee.Positive.{num, den}
 use Rattle.coefficients.specs.Binary64.{signed}
-use Rattle.coefficients.specs.Entries.{nearestEven, fittedOk, fittedEntry, entryOfBits}
+use Rattle.integers.specs.Whole.{nearestEven}
+use Rattle.coefficients.specs.Entries.{fittedOk, fittedEntry, entryOfBits}
 use Rattle.coefficients.specs.declared.EntryAnswer.the-variants.{Entry}
 use Rattle.integers.proofs.SignedParts.{#, neg as neg′, _⊖_, eq! }
 use Rattle.integers.proofs.Machine.{sfits-of-natAbs}
-use Rattle.coefficients.specs.Inner.{InRange, sizeEntry}
-use Rattle.coefficients.proofs.Fitting.{sizeOf, Checked, checked, two-is, refused-bits, accepted-bits, natAbs-signed, fittedEntry-within}
+use Rattle.coefficients.specs.Inner.{InRange, magnitudeEntry}
+use Rattle.coefficients.proofs.Fitting.{absoluteOf, Checked, checked, two-is, refused-bits, accepted-bits, natAbs-signed, fittedEntry-within}
 use Rattle.coefficients.proofs.fitted_entry.Statement.{statement}
 use Rattle.coefficients.proofs.fitted_entry.Tie as tie
 
--- where the size has been taken
+-- where the magnitude has been taken
 module _ (c : tie.Joined1) where
   abbrev x : Float
   x = c .before .args .x
 
-  size-is : c .if1 .size ≡ sizeOf x
+  magnitude-is : c .if1 .magnitude ≡ absoluteOf x
   unfolding ofBits
-  size-is =
+  magnitude-is =
       ⊎-elim (λ w. w .1 ∙ sym (ap (λ (b : Bool). cond b (neg x) x) (w .0 .taken))) (λ w. w .1 ∙ sym (ap (λ (b : Bool). cond b (neg x) x) (w .0 .left))) (c .if1 .came)
 
   laws : Checked x (toBits binary64 x)
   laws = checked x (subst T (sym (c .before .good .0 .1)) tt)
 
-  accepted : le (c .if1 .size) (ofBits binary64 0x4000_0000_0000_0000) ≡ fittedOk (toBits binary64 x)
-  accepted = ap₂ le size-is two-is ∙ laws .test
+  accepted : le (c .if1 .magnitude) (ofBits binary64 0x4000_0000_0000_0000) ≡ fittedOk (toBits binary64 x)
+  accepted = ap₂ le magnitude-is two-is ∙ laws .test
 
 rounded-requires : tie.Need-rounded-requires
 rounded-requires c κs =
-    subst InRange (sym (size-is (c .before)))
+    subst InRange (sym (magnitude-is (c .before)))
     (record { low = laws (c .before) .low; high = subst T (sym (laws (c .before) .test ∙ sym (accepted (c .before)) ∙ c .if2 .taken)) tt })
 
--- the rounded size, its range, and the entry
+-- the rounded magnitude, its range, and the entry
 module _ (c : tie.After-rounded) where
   abbrev number : Float
   number = x (c .before .before)
@@ -47,10 +48,10 @@ module _ (c : tie.After-rounded) where
   b = lt number (fin false 0 (pos 0))
 
   abbrev size : ℕ
-  size = nearestEven (matrixUnit * num (sizeOf number)) (den (sizeOf number))
+  size = nearestEven (matrixUnit * num (absoluteOf number)) (den (absoluteOf number))
 
-  rounded-is : c .rounded .result ≡ sizeEntry (sizeOf number)
-  rounded-is = c .rounded .ensures ∙ ap sizeEntry (size-is (c .before .before))
+  rounded-is : c .rounded .result ≡ magnitudeEntry (absoluteOf number)
+  rounded-is = c .rounded .ensures ∙ ap magnitudeEntry (magnitude-is (c .before .before))
 
   ok : fittedOk (toBits binary64 number) ≡ true
   ok = sym (accepted (c .before .before)) ∙ c .before .if2 .taken
@@ -73,11 +74,8 @@ module _ (c : tie.After-rounded) where
   opposite-fits : SFits w32 (pos 0 -ℤ toZ w32 (ofZ w32 (c .rounded .result)))
   opposite-fits = subst (SFits w32) (sym opposite) (sfits-of-natAbs w32 {b = entryLimit} (subst (λ (k : ℕ). k ≤ entryLimit) (sym (natAbs-signed true size)) small) (lit< tt))
 
-  told : b ≡ true → Entry (signed true size) ≡ entryOfBits (toBits binary64 number)
+  told : {t : Bool} → b ≡ t → Entry (signed t size) ≡ entryOfBits (toBits binary64 number)
   told e = ap (λ (t : Bool). Entry (signed t size)) (sym e) ∙ ap Entry entry-is ∙ sym (accepted-bits (toBits binary64 number) ok)
-
-  told-plain : b ≡ false → Entry (pos size) ≡ entryOfBits (toBits binary64 number)
-  told-plain e = ap (λ (t : Bool). Entry (signed t size)) (sym e) ∙ ap Entry entry-is ∙ sym (accepted-bits (toBits binary64 number) ok)
 
 sub-t8 : tie.Need-sub-t8
 sub-t8 c = opposite-fits (c .before)
@@ -88,7 +86,7 @@ returns c = ap Entry (toZ-ofZ (opposite-fits (c .before)) ∙ opposite (c .befor
 
 returns-2 : tie.Need-returns-2
 unfolding ofBits
-returns-2 c = ap Entry (read (c .before)) ∙ told-plain (c .before) (c .if3 .left)
+returns-2 c = ap Entry (read (c .before)) ∙ told (c .before) (c .if3 .left)
 
 returns-3 : tie.Need-returns-3
 returns-3 c = sym (refused-bits (toBits binary64 (x (c .before))) (sym (accepted (c .before)) ∙ c .if2 .left))

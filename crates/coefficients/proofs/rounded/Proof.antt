@@ -8,8 +8,8 @@ use lib.Dec.{T, ltb, le→leb}
 use lib.Ieee.{Float, binary64, lt, ofInt, inFloat}
 use lib.Ieee.Positive.{num, den, den-pos}
 use Rattle.stepping.specs.Limits.{matrixUnit}
-use Rattle.coefficients.specs.Inner.{sizeEntry}
-use Rattle.coefficients.proofs.NearestEven.{Halves, nearestEven-halves}
+use Rattle.coefficients.specs.Inner.{magnitudeEntry}
+use Rattle.integers.proofs.NearestEven.{Halves, nearestEven-halves}
 use Rattle.coefficients.proofs.Fitting.{Counted, counted, halvesOf, scaledOf}
 use Rattle.coefficients.proofs.rounded.Statement.{statement}
 use Rattle.coefficients.proofs.rounded.Tie as tie
@@ -43,7 +43,7 @@ module _ (c : tie.After-truncating-f64-to-u64) where
   fits-small : (k : ℕ) → k ≤ 262145 → SFits w32 (pos k)
   fits-small k h = record { sfits = omega (arith, h) }
 
-  read : (k : ℕ) → k ≤ 262145 → sizeEntry x ≡ pos k → toZ w32 k ≡ sizeEntry x
+  read : (k : ℕ) → k ≤ 262145 → magnitudeEntry x ≡ pos k → toZ w32 k ≡ magnitudeEntry x
   read k h e = toZ-pos w32 (omega (arith, h)) ∙ sym e
 
 cast-result : tie.Need-cast-result
@@ -76,7 +76,7 @@ returns-3 : tie.Need-returns-3
 returns-3 c =
     let at-call = c .before .before .before in
     let over : 2 * (matrixUnit * num (x at-call)) ≤ halves at-call * den (x at-call) = ltb-false _ _ (sym (compared at-call) ∙ c .if2 .left) in
-    read at-call _ (omega (arith, few at-call)) (ap pos (laws at-call .level (odd-is (c .before .before)) over))
+    read at-call _ (omega (arith, few at-call)) (ap pos (laws at-call .tied (odd-is (c .before .before)) over))
 
 pub rounded-spec : {M : Type 1} → statement M
 rounded-spec =

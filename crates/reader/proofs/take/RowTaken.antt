@@ -1,4 +1,5 @@
--- Rows as they are held, and as the specification has them: the same entries, so the same number and the same state. Assumes nothing.
+-- Rows as they are held, and as the specification has them: the same entries, so the same number and the same state. Assumes
+-- nothing.
 use mathlib.Core.Path.{_≡_, sym, ap, subst, _∙_}
 use mathlib.Core.Bool.{Bool, cond}
 use mathlib.Core.List.{List}
@@ -10,7 +11,8 @@ use Rattle.integers.proofs.Machine.{getD-tabulate}
 use Rattle.coefficients.specs.declared.rows.RowEntries.{RowEntries}
 use Rattle.coefficients.specs.declared.Coefficient.the-variants.{Fitted}
 use Rattle.coefficients.specs.Entries.{entryOfBits, scaledEntry, entryOf}
-use Rattle.coefficients.specs.Rows.{firstOf, entriesOf, scaledRow, fittedRow}
+use Rattle.arrays.specs.Tests.{firstOf}
+use Rattle.coefficients.specs.Rows.{entriesOf, scaledRow, fittedRow}
 use Rattle.coefficients.proofs.Fitting.{entryOf-bits}
 use Rattle.coefficients.proofs.RowLaws.{entriesOf-cong, each-of-six}
 use Rattle.records.specs.Numbers.{signedAt}

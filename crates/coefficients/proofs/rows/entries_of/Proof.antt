@@ -1,13 +1,14 @@
--- `coefficients::rows::entries_of` meets its contract: after i turns `number` is that of the first i entries, and they are stored. The
--- measure is what is left of six. Assumes nothing.
+-- `coefficients::rows::entries_of` meets its contract: after i turns `number` is that of the first i entries, and they are
+-- stored. The measure is what is left of six. Assumes nothing.
 use Rattle.integers.proofs.Basics.{_≡_, refl, sym, ap, ap₂, _∙_, ℕ, suc, _-_, _≤_, arith, add-one, needs, set, ℤ, w32, toZ, ofZ, toZ-ofZ}
 use mathlib.Core.List.{List}
+use Rattle.arrays.specs.Tests.{firstOf}
 use Rattle.integers.proofs.Machine.{filled, filled-none, filled-more, filled-all}
 use Rattle.coefficients.specs.declared.Coefficient.{Coefficient}
 use Rattle.coefficients.specs.declared.EntryAnswer.{EntryAnswer}
-use Rattle.coefficients.specs.declared.rows.RowEntries.{RowEntries}
 use Rattle.coefficients.specs.Entries.{entryNumber, entryValue}
-use Rattle.coefficients.specs.Rows.{firstOf, firstNumber, answerAt, mixedRow, entriesOf}
+use Rattle.coefficients.specs.Rows.{firstNumber, answerAt, mixedRow, entriesOf}
+use Rattle.coefficients.proofs.RowLaws.{rowEntries}
 use Rattle.coefficients.proofs.rows.entries_of.Statement.{statement}
 use Rattle.coefficients.proofs.rows.entries_of.Tie as tie
 
@@ -30,9 +31,6 @@ firstNumber-none row = refl
 firstNumber-more : (i : ℕ) (row : ℕ → EntryAnswer) → firstOf (firstNumber i row) (entryNumber (row i)) ≡ firstNumber (suc i) row
 unfolding firstNumber
 firstNumber-more i row = refl
-
-abbrev entries : ℕ → List ℤ → RowEntries
-entries number six = record { number = number; six = six }
 
 loop-holds : tie.Need-loop-holds Inv-loop μ-loop
 loop-holds c = let a = c .args in (omega arith, firstNumber-none (answers (a .n) (a .coefficients)), sym (filled-none (stored (a .n) (a .coefficients)) _))
@@ -57,7 +55,7 @@ returns c =
     let a = c .before .before .args in
     let loop = c .before .loop in
     let done : loop .i ≡ 6 = omega arith in
-    ap₂ (λ (k : ℕ) (l : List ℤ). entries k l)
+    ap₂ rowEntries
     (loop .inv .1 ∙ ap (λ (k : ℕ). firstNumber k (answers (a .n) (a .coefficients))) done)
     (loop .inv .2 ∙ ap (λ (k : ℕ). filled (stored (a .n) (a .coefficients)) k _) done ∙ filled-all (stored (a .n) (a .coefficients)) 6 _ refl)
 

@@ -5,13 +5,13 @@ use mathlib.Core.Logic.{⊎-elim}
 use mathlib.Core.List.{List}
 use borrow.Author.Tests.{eqb-true, eq-eqb, ne-eqb, lt-ltb, le-ltb}
 use lib.Dec.{eqb}
-use Rattle.coefficients.specs.Rows.{firstOf}
+use Rattle.arrays.specs.Tests.{firstOf}
 use Rattle.coefficients.specs.declared.rows.RowEntries.{RowEntries}
 use Rattle.reader.specs.declared.state.State.{State}
 use Rattle.reader.specs.Models.{setMatrix, rowPlace, putRow, stateOf, rowStored}
 use Rattle.reader.specs.Values.{unless}
 use Rattle.reader.specs.Inner.{Takes}
-use Rattle.reader.proofs.ReadingOn.{firstOf-zero}
+use Rattle.arrays.proofs.FirstOf.{firstOf-zero}
 use Rattle.reader.proofs.take.Taking.{takenAs, takes-stopped, takes-stored}
 use Rattle.reader.proofs.take.store_row.Statement.{statement}
 use Rattle.reader.proofs.take.store_row.Tie as tie

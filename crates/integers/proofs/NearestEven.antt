@@ -1,18 +1,16 @@
--- Laws of `nearestEven`, for every divisor above 0. In order: the three cases; how near it is; the largest it can be;
--- a whole number of divisors; a tie and less than a half; by the whole number of halves; the same fraction written otherwise. Nothing here is about floats. Assumes nothing.
+-- Laws of `nearestEven`, for every divisor above 0. In order: the three cases; how near it is; the largest it can be; a whole number
+-- of divisors; a tie and at most a half; by the whole number of halves; the same fraction written otherwise. Assumes nothing.
 use mathlib.Core.Path.{_≡_, sym, ap, ap₂, subst, _∙_}
 use mathlib.Core.Bool.{Bool, cond}
 use mathlib.Core.Logic.{_⊎_, inl, inr}
 use Prim.Native.Nat.{ℕ, _+_, _*_, _/_, _%_, _≤_, _<_}
-use native.Mathlib.Nat.{div-add-mod', mod-lt, lt-of-mul-lt-mul-left}
+use native.Mathlib.Nat.{mod-lt, lt-of-mul-lt-mul-left}
 use native.Mathlib.Decide.{decLt}
 use native.Mathlib.Omega.{arith}
 use borrow.Author.Tests.{lt-ltb, le-ltb}
 use lib.Dec.{ltb}
-use Rattle.coefficients.specs.Entries.{nearestEven}
-
-divides : (a b : ℕ) → a ≡ a / b * b + a % b
-divides a b = sym (div-add-mod' a b)
+use Rattle.integers.specs.Whole.{nearestEven}
+use Rattle.integers.proofs.Rounding.{divides}
 
 -- ---- the three cases
 
@@ -99,7 +97,7 @@ nearestEven-whole m b B =
     let lower : b * (2 * m) < b * (2 * k + 2) = omega (arith, n .not-below, B) in
     omega (arith, lt-of-mul-lt-mul-left b upper, lt-of-mul-lt-mul-left b lower)
 
--- ---- a tie, and less than a half
+-- ---- a tie, and at most a half
 
 pub nearestEven-tie : (a b : ℕ) → 0 < b → (2 * a ≡ 2 * (nearestEven a b * b) + b) ⊎ (2 * (nearestEven a b * b) ≡ 2 * a + b) → nearestEven a b % 2 ≡ 0
 nearestEven-tie a b B far = cases (side a b)
@@ -128,7 +126,7 @@ nearestEven-small a b B h = cases (side a b)
 pub record Halves (a b h : ℕ) : Type 0 where
   pub even : h % 2 ≡ 0 → nearestEven a b ≡ h / 2
   pub more : h % 2 ≡ 1 → h * b < 2 * a → nearestEven a b ≡ h / 2 + 1
-  pub level : h % 2 ≡ 1 → 2 * a ≤ h * b → nearestEven a b ≡ h / 2 + h / 2 % 2
+  pub tied : h % 2 ≡ 1 → 2 * a ≤ h * b → nearestEven a b ≡ h / 2 + h / 2 % 2
 
 -- h halves fit into a / b
 pub nearestEven-halves : (a b : ℕ) → 0 < b → Halves a b (2 * a / b)
@@ -144,7 +142,7 @@ nearestEven-halves a b B = cases (side a b)
     fewer h = record {
       even = λ e. below-half a b h ∙ omega arith;
       more = λ e. absurd (omega arith);
-      level = λ e. absurd (omega arith);
+      tied = λ e. absurd (omega arith);
     }
 
     half : (2 * q + 1) / 2 ≡ q
@@ -154,20 +152,20 @@ nearestEven-halves a b B = cases (side a b)
     further h = record {
       even = λ e. absurd (omega arith);
       more = λ e l. above-half a b h ∙ ap (λ (k : ℕ). k + 1) (sym half);
-      level = λ e l. absurd (omega (arith, divides a b, h));
+      tied = λ e l. absurd (omega (arith, divides a b, h));
     }
 
-    tied : 2 * (a % b) ≡ b → Halves a b (2 * q + 1)
-    tied t = record {
+    halfway : 2 * (a % b) ≡ b → Halves a b (2 * q + 1)
+    halfway t = record {
       even = λ e. absurd (omega arith);
       more = λ e l. absurd (omega (arith, divides a b, t));
-      level = λ e l. tie a b t ∙ ap (λ (k : ℕ). k + k % 2) (sym half);
+      tied = λ e l. tie a b t ∙ ap (λ (k : ℕ). k + k % 2) (sym half);
     }
 
     cases : Side a b → Halves a b (2 * a / b)
     cases (under h) = at (2 * q) (quotient (2 * a) b (2 * q) B (omega (arith, divides a b)) (omega (arith, divides a b, h))) (fewer h)
     cases (over h) = at (2 * q + 1) (quotient (2 * a) b (2 * q + 1) B (omega (arith, divides a b, h)) (omega (arith, divides a b, h, mod-lt a B))) (further h)
-    cases (equal t) = at (2 * q + 1) (quotient (2 * a) b (2 * q + 1) B (omega (arith, divides a b, t)) (omega (arith, divides a b, t, B))) (tied t)
+    cases (equal t) = at (2 * q + 1) (quotient (2 * a) b (2 * q + 1) B (omega (arith, divides a b, t)) (omega (arith, divides a b, t, B))) (halfway t)
 
 -- ---- the same fraction written otherwise
 
