@@ -2,7 +2,7 @@
  * same model with a fitted row, makes two steps of Figures 5 and two of Figures 17, lists the sample in one call, and shows
  * refusals: three files, a direction with growth (Figures 8), calls that ask for what isn't there, and a buffer that is too small.
  * What it writes is compared with expected.txt. Returns 1 where a call is refused that should not be, or finishes that should
- * not. */
+ * not, or where a number is taken for one that refuses the file and isn't, or the other way round. */
 #include "pepperscarp.h"
 
 #include <inttypes.h>
@@ -193,6 +193,23 @@ static void list(const struct file *f, size_t room, int finished)
     fwrite(text, 1, count, stdout);
 }
 
+/* Of each number that an answer has room for, with some verdict and figure beside it, whether it refuses the file. The argument is
+ * taken once. */
+static void expect_file_refused(void)
+{
+    static const int refused[256] = {0, 1, 1, 1, 1, 1, 1, 1, 1, 1, 1, 0, 0, 0, 0, 1};
+    uint64_t answers[256];
+    const uint64_t *next = answers;
+    unsigned number;
+    for (number = 0; number < 256; number++)
+        answers[number] = number + 256u * (255u - number) + 65536u * (uint64_t)number;
+    for (number = 0; number < 256; number++)
+        if (PEPPERSCARP_FILE_REFUSED(*next++) != refused[number])
+            wrong = 1;
+    if (next != answers + 256)
+        wrong = 1;
+}
+
 /* Whether every element of the lists is still -1. */
 static void expect_kept(void)
 {
@@ -259,5 +276,6 @@ int main(void)
     judge(&sample, 3, 4, PEPPERSCARP_NOT_THERE);
     sweep(&growing, growing.length, 0, 12, PEPPERSCARP_GROWTH);
     expect_kept();
+    expect_file_refused();
     return wrong;
 }

@@ -17,7 +17,8 @@
  * convention has it. The code stores nothing below the stack pointer (no red zone). It uses xmm registers (SSE2) for moves, whole
  * numbers and, in fitted rows, binary64 numbers; a kernel has to save these around a call. There is no other floating-point
  * arithmetic, and neither the rounding mode nor the flushing of subnormal numbers makes a difference to what is answered.
- * Floating-point exceptions have to be masked, as they are when a program starts: a file may hold NaNs.
+ * Floating-point exceptions have to be masked, as they are when a program starts: a fitted row may hold NaNs and subnormal
+ * numbers. A call may set the sticky exception flags of MXCSR, and changes nothing else there.
  *
  * Another processor. There is no archive for one, and `rt staticlib` makes none. Either take finished tables along: list or sweep
  * the models on an x86-64 computer. Or run tools/exact.py there, which is slow, and tested and not proved. Or write the step anew
@@ -49,8 +50,13 @@ extern "C" {
 #define PEPPERSCARP_WRONG_LENGTH 13u /* a list has other than K + 1 elements */
 #define PEPPERSCARP_GROWTH 14u       /* growth; the figure is the first such step */
 
-/* Whether an answer refuses the file. */
-#define PEPPERSCARP_FILE_REFUSED(answer) (PEPPERSCARP_NUMBER(answer) - 1u < 10u || PEPPERSCARP_NUMBER(answer) == 15u)
+/* Whether an answer refuses the file, 1 or 0. */
+#define PEPPERSCARP_FILE_REFUSED(answer) pepperscarp_file_refused((uint64_t)(answer))
+static inline int pepperscarp_file_refused(uint64_t answer)
+{
+    unsigned number = PEPPERSCARP_NUMBER(answer);
+    return (1u <= number && number <= 10u) || number == 15u;
+}
 
 /* Verdicts of a judge that finished. */
 #define PEPPERSCARP_HIT 1u     /* some run reaches the level at the step that the figure names, the first that is certain */
@@ -86,9 +92,11 @@ uint64_t pepperscarp_step(size_t n, const int32_t matrix[36], int64_t r[6], int6
  * elements, where K is the model's number of steps: bytes 2 and 3 of the file, counted from 0, low byte first, and
  * PEPPERSCARP_STEPS_DEFAULT where they say 0.
  * Number 0: the lists have the bound and the slack of steps 0 to K, and the figure is the spare figure, 0 to 10. No run of the
- * model passes a bound, and some run comes within its slack.
+ * model passes a bound, and some run comes within its slack. Entries of fitted rows are rounded to multiples of 1/65,536 first, and
+ * the bounds are those of the rounded matrix: a run of the numbers before rounding may pass one.
  * Numbers 1 to 10 and 15: the file is refused. 12: it has no such direction. 13: a list has other than K + 1 elements. 14: growth.
- * The first that applies is answered, in this order. 11 never comes: the model of a file that is read breaks no rule. */
+ * The first that applies is answered, in this order. 11 never comes: the model of a file that is read breaks no rule. (Before
+ * version 0.5.0 there was no 15.) */
 uint64_t pepperscarp_sweep(const uint8_t *file, size_t file_length, size_t direction, int64_t *bounds, size_t bounds_length,
                            int64_t *slacks, size_t slacks_length);
 

@@ -2,8 +2,8 @@
 //!
 //! Safe bindings of Pepperscarp's C interface. The routines behind it are proved: [`sweep`] leaves exactly the bounds and slacks
 //! of the specification (docs/SPECIFICATION.md), [`judge`] answers exactly its verdicts, [`listing`] writes exactly its text, and
-//! every file, number and list length gets its reply. This crate adds the types and no arithmetic. It is tested against a version of
-//! the specification in Rust, and not proved.
+//! every file, number and list length gets its reply. This crate adds the types and no arithmetic. It is tested against a version
+//! of the specification in Rust, and not proved.
 //!
 //! A model is the bytes of a model file. What a call lends is filled to the end, or on a refusal is exactly as it was. Nothing is
 //! kept from one call to the next, and calls from several threads do not disturb each other. A call takes at most 32,768 bytes of
@@ -164,8 +164,8 @@ fn unpack(answer: u64) -> Result<(u8, u64), Refusal> {
 }
 
 /// One step of a working direction `r` with its errors `e`, in place, by the transpose of the matrix (six rows of six), and the
-/// growth sum of what it left: the largest of |r| + half of e, each half rounded up. `r` counts units of 1/1,048,576 and `e` half units
-/// (before version 0.4.0 units).
+/// growth sum of what it left: the largest of |r| + half of e, each half rounded up. `r` counts units of 1/1,048,576 and `e` half
+/// units (before version 0.4.0 units).
 ///
 /// What lies beyond the n coordinates is zero. [`Refusal::Invalid`], with `r` and `e` as they were, for n outside 1 to 6, a matrix
 /// entry beyond 131,072 in magnitude, a nonzero value beyond n, an e below 0, or a growth sum above 1,073,741,824 before the step.
@@ -177,9 +177,12 @@ pub fn step(n: usize, matrix: &[i32; 36], r: &mut [i64; 6], e: &mut [i64; 6]) ->
 
 /// Bounds and slacks of direction number `direction` of the file's model for steps 0 to K, and the spare figure, 0 to 10.
 ///
-/// No run is above `bounds[k]` at step k, and some run comes to `bounds[k] - slacks[k]`. Both lists have to be K + 1 long. A file
-/// is refused by [`Refusal::File`]; then [`Refusal::NoSuchNumber`], [`Refusal::WrongLength`] and [`Refusal::Growth`] are tested, in
-/// this order, and the lists keep every element.
+/// No run is above `bounds[k]` at step k, and some run comes to `bounds[k] - slacks[k]`. Entries of fitted rows are rounded to
+/// multiples of 1/65,536 first, and the bounds are those of the rounded matrix: a run of the numbers before rounding may pass one.
+///
+/// Both lists have to be K + 1 long. A file is refused by [`Refusal::File`]; then [`Refusal::NoSuchNumber`],
+/// [`Refusal::WrongLength`] and [`Refusal::Growth`] are tested, in this order, and the lists keep every element. (Before version
+/// 0.5.0 there was no 15.)
 pub fn sweep(file: &[u8], direction: usize, bounds: &mut [i64], slacks: &mut [i64]) -> Result<u32, Refusal> {
     // SAFETY: the routine reads the file's bytes, writes within the two lists alone, which do not overlap, and keeps no pointer.
     let answer = unsafe {
@@ -198,7 +201,8 @@ pub fn sweep(file: &[u8], direction: usize, bounds: &mut [i64], slacks: &mut [i6
 
 /// The verdict on guard number `guard` of the file's model, with the sweep of its direction left in the lists.
 ///
-/// The lists and the refusals are those of [`sweep`].
+/// The lists and the refusals are those of [`sweep`]. Entries of fitted rows are rounded first here too, and the verdict is on the
+/// bounds and the runs of the rounded matrix. (Before version 0.5.0 there was no 15.)
 pub fn judge(file: &[u8], guard: usize, bounds: &mut [i64], slacks: &mut [i64]) -> Result<Verdict, Refusal> {
     // SAFETY: as for the sweep.
     let answer = unsafe {
@@ -220,8 +224,8 @@ pub fn judge(file: &[u8], guard: usize, bounds: &mut [i64], slacks: &mut [i64]) 
     }
 }
 
-/// The whole text that the program `envelope` writes for the file: its listing, or `refused N at P` for a refused file. It stands at
-/// the start of `out`, whose other bytes are as they were.
+/// The whole text that the program `envelope` writes for the file: its listing, or `refused N at P` for a refused file. It stands
+/// at the start of `out`, whose other bytes are as they were.
 ///
 /// `None`, with `out` as it was, where `out` has less than [`LISTING_ROOM`] bytes.
 pub fn listing<'a>(file: &[u8], out: &'a mut [u8]) -> Option<&'a [u8]> {
@@ -233,8 +237,8 @@ pub fn listing<'a>(file: &[u8], out: &'a mut [u8]) -> Option<&'a [u8]> {
     }
 }
 
-/// The length that the lists for this file have to have, K + 1, as its head says, where 0 stands for [`DEFAULT_STEPS`]; `None` where
-/// the file does not start with a head. The rest of the file isn't looked at: [`sweep`] and [`judge`] test it all.
+/// The length that the lists for this file have to have, K + 1, as its head says, where 0 stands for [`DEFAULT_STEPS`]; `None`
+/// where the file does not start with a head. The rest of the file isn't looked at: [`sweep`] and [`judge`] test it all.
 pub fn list_length(file: &[u8]) -> Option<usize> {
     match file {
         [0x01, _, 0, 0, ..] => Some(DEFAULT_STEPS + 1),

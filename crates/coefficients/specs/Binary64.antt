@@ -29,7 +29,7 @@ significandOf bits = cond (eqb (exponentOf bits) 0) (fractionOf bits) (2 ^ 52 + 
 unfoldable pub binary64Unit : ℕ
 binary64Unit = 2 ^ 1074
 
--- The magnitude of a finite number, counted in those parts. An exponent of 0 counts as 1.
+-- The magnitude of a finite number, counted in 1 / 2^1074. An exponent of 0 counts as 1.
 unfoldable pub magnitudeOf : ℕ → ℕ
 magnitudeOf bits = significandOf bits * 2 ^ (exponentOf bits - 1)
 
@@ -37,6 +37,6 @@ magnitudeOf bits = significandOf bits * 2 ^ (exponentOf bits - 1)
 abbrev pub signed : Bool → ℕ → ℤ
 signed negative n = cond negative (negℤ (pos n)) (pos n)
 
--- File 11: the exact value of a finite number, counted in parts.
+-- File 11: the exact value of a finite number, counted in 1 / 2^1074.
 abbrev pub exactValue : ℕ → ℤ
 exactValue bits = signed (isNegative bits) (magnitudeOf bits)

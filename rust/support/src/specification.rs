@@ -147,6 +147,14 @@ fn within(numbers: &Six, limit: i32) -> bool {
     numbers.iter().all(|number| (-limit..=limit).contains(number))
 }
 
+/// The entries of a scaled (02) or fitted (03) row, or the number that they are refused by (Refusals 5, Refusals 15).
+fn row_entries(kind: u8, n: usize, bytes: &[u8]) -> Result<Six, u8> {
+    if kind == 0x03 {
+        return fitted_six(n, bytes).ok_or(15);
+    }
+    Some(six(n, bytes)).filter(|row| within(row, ENTRY_LIMIT)).ok_or(5)
+}
+
 fn take_point(set: &mut Set, n: usize, kind: u8, body: &[u8]) -> bool {
     set.form = match kind & 0x0F {
         0 | 1 => Form::Box,
@@ -171,22 +179,14 @@ fn take(SoFar { model, rows }: &mut SoFar, kind: u8, body: &[u8]) -> u8 {
             model.n = n;
             model.steps = if steps == 0 { 120 } else { steps }; // File 4
         }
-        0x02 => {
-            let row = six(model.n, &body[1..]);
-            if usize::from(body[0]) != *rows || !within(&row, ENTRY_LIMIT) {
-                return 5;
-            }
-            model.matrix[*rows] = row;
-            *rows += 1;
-        }
-        0x03 => {
+        0x02 | 0x03 => {
             if usize::from(body[0]) != *rows {
                 return 5;
             }
-            let Some(row) = fitted_six(model.n, &body[1..]) else {
-                return 15;
-            };
-            model.matrix[*rows] = row;
+            match row_entries(kind, model.n, &body[1..]) {
+                Ok(row) => model.matrix[*rows] = row,
+                Err(number) => return number,
+            }
             *rows += 1;
         }
         0x10..=0x14 => {

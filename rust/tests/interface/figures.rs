@@ -188,18 +188,35 @@ fn cases_21_and_22_supports_with_one_point_more() {
 
 #[test]
 fn case_23_fitted_entries_become_the_nearest_and_of_two_the_even_one() {
-    let reply = |value: f64| {
+    let refused = Err(Refusal::File { number: 15, offset: 4 });
+    let cases = [
+        // 1.5, 2.5 and the same below 0, over 65,536: ties.
+        (0x3EF8_0000_0000_0000, Ok(2)),
+        (0x3F04_0000_0000_0000, Ok(2)),
+        (0xBEF8_0000_0000_0000, Ok(-2)),
+        (0xBF04_0000_0000_0000, Ok(-2)),
+        // The next numbers above and below 2.5 / 65,536.
+        (0x3F04_0000_0000_0001, Ok(3)),
+        (0x3F03_FFFF_FFFF_FFFF, Ok(2)),
+        // 2, -2 and the next number above 2.
+        (0x4000_0000_0000_0000, Ok(131_072)),
+        (0xC000_0000_0000_0000, Ok(-131_072)),
+        (0x4000_0000_0000_0001, refused),
+        // Both zeros, the smallest number above 0 and 0.5 / 65,536.
+        (0x0000_0000_0000_0000, Ok(0)),
+        (0x8000_0000_0000_0000, Ok(0)),
+        (0x0000_0000_0000_0001, Ok(0)),
+        (0x3EE0_0000_0000_0000, Ok(0)),
+        // Both infinities and two NaNs.
+        (0x7FF0_0000_0000_0000, refused),
+        (0xFFF0_0000_0000_0000, refused),
+        (0x7FF8_0000_0000_0000, refused),
+        (0xFFF0_0000_0000_0001, refused),
+    ];
+    for (bits, expected) in cases {
         let vertex = numbers(0x14, &[65_536]);
-        let bytes = file(&[head(1, 1), fitted(0, &[value.to_bits()]), vertex, numbers(0x30, &[1]), end()]);
-        swept(&bytes).map(|(_, bounds, _)| bounds[1])
-    };
-    let ties = [(1.5, 2), (2.5, 2), (-1.5, -2), (-2.5, -2)].map(|(units, entry)| (units / 65_536.0, entry));
-    let others = [(2.0, 131_072), (-2.0, -131_072), (f64::from_bits(1), 0), (-f64::from_bits(1), 0), (0.0, 0), (-0.0, 0)];
-    for (value, entry) in ties.into_iter().chain(others) {
-        assert_eq!(reply(value), Ok(entry), "{value:e}");
-    }
-    for beyond in [f64::from_bits(2f64.to_bits() + 1), -f64::from_bits(2f64.to_bits() + 1)] {
-        assert_eq!(reply(beyond), Err(Refusal::File { number: 15, offset: 4 }));
+        let bytes = file(&[head(1, 1), fitted(0, &[bits]), vertex, numbers(0x30, &[1]), end()]);
+        assert_eq!(swept(&bytes).map(|(_, bounds, _)| bounds[1]), expected, "{bits:016X}");
     }
 }
 

@@ -1,7 +1,7 @@
 //! Fitted rows: what each entry becomes, seen in bounds, and what is refused, in which order.
 //!
-//! With one step, no input set and the vertex that is 65,536 in coordinate i and zero elsewhere, the bound of direction p at step 1 is
-//! the matrix entry in row p and column i.
+//! With one step, no input set and the vertex that is 65,536 in coordinate i and zero elsewhere, the bound of direction p at step 1
+//! is the matrix entry in row p and column i.
 
 use crate::makers::{near, Random, NO_ENTRIES, SIGN};
 use pepperscarp::{listing, sweep, Refusal, LISTING_ROOM};
@@ -13,6 +13,8 @@ const TWO: u64 = 0x4000_0000_0000_0000;
 const HALF: u64 = 0x3FE0_0000_0000_0000;
 /// A quiet NaN.
 const NAN: u64 = NO_ENTRIES[6];
+/// What each column counts in a bound at step 1: no two alike, so that an entry that is wrong or in another's column shows.
+const WEIGHTS: [i32; 6] = [1, -2, 3, -5, 7, -11];
 
 /// The places in a file of six fitted rows: the entry in row p and column i, and coordinate i of the vertex.
 fn entry_at(p: usize, i: usize) -> usize {
@@ -23,12 +25,12 @@ fn vertex_at(i: usize) -> usize {
     4 + 50 * 6 + 1 + 4 * i
 }
 
-/// A model with these rows, a vertex of zeros, and a direction for each coordinate.
+/// A model with these rows, 65,536 times the weights as its vertex, beyond n too, and a direction for each coordinate.
 fn model(rows: &[Record]) -> Vec<u8> {
     let n = rows.len();
     let mut records = vec![head(n as u8, 1)];
     records.extend_from_slice(rows);
-    records.push(numbers(0x14, &[0; 6]));
+    records.push(numbers(0x14, &WEIGHTS.map(|weight| 65_536 * weight)));
     for p in 0..n {
         let mut unit = [0; 6];
         unit[p] = 1;
@@ -183,6 +185,7 @@ fn bits_beyond_n_are_not_looked_at() {
                 rows.push(fitted(number as u8, &patterns));
             }
             let expected = text(of_file::<i128>(&model(&plain)));
+            assert!(expected.starts_with("model "), "none is refused");
             assert_eq!(listing(&model(&rows), &mut out), Some(expected.as_bytes()));
         }
     }
@@ -203,9 +206,7 @@ fn scaled_and_fitted_rows_in_every_mixture_give_the_same_listing() {
             let beside = |entry: i32| f64::from(entry) + if entry % 2 == 0 { 0.5 } else { -0.49 };
             fitted(number as u8, &entries.map(|entry| (beside(entry) / 65_536.0).to_bits()))
         });
-        let mut bytes = model(&rows);
-        let vertex = bytes.len() - 1 - 3 * 25 - 24;
-        bytes[vertex..][..4].copy_from_slice(&1_000_000i32.to_le_bytes());
+        let bytes = model(&rows);
         texts.push(listing(&bytes, &mut out).expect("room").to_vec());
         assert_eq!(texts[mixture], text(of_file::<i128>(&bytes)).as_bytes());
     }
