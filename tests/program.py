@@ -278,18 +278,28 @@ class Fitted(unittest.TestCase):
 
     REST = "00" * 40
     NAN = "000000000000F87F"
-    TWO, MORE = "0000000000000040", "0100000000000040"
+    TWO = "0000000000000040"
 
     def test_figures_23(self) -> None:
         for bits, entry in (
-            ("000000000000F83E", 2), ("000000000000043F", 2),  # 1.5 and 2.5 over 65,536
+            # 1.5, 2.5, -1.5 and -2.5 over 65,536; the next above and below 2.5 / 65,536
+            ("000000000000F83E", 2), ("000000000000043F", 2),
             ("000000000000F8BE", -2), ("00000000000004BF", -2),
-            (self.TWO, 131_072), ("00000000000000C0", -131_072),
-            ("0100000000000000", 0), ("0100000000000080", 0), ("0000000000000080", 0),
+            ("010000000000043F", 3), ("FFFFFFFFFFFF033F", 2),
+            # 2, -2 and the next above 2
+            (self.TWO, 131_072), ("00000000000000C0", -131_072), ("0100000000000040", None),
+            # both zeros, the smallest above 0 and 0.5 / 65,536
+            ("0000000000000000", 0), ("0000000000000080", 0),
+            ("0100000000000000", 0), ("000000000000E03E", 0),
+            # both infinities and two NaNs
+            ("000000000000F07F", None), ("000000000000F0FF", None),
+            (self.NAN, None), ("010000000000F0FF", None),
         ):
-            self.assertEqual(self.sums(f"03 00 {bits} {self.REST}"), [entry], bits)
-        for bits in (self.MORE, "01000000000000C0"):
-            self.assertEqual(reply(self.file(f"03 00 {bits} {self.REST}")), b"refused 15 at 4\n")
+            row = f"03 00 {bits} {self.REST}"
+            if entry is None:
+                self.assertEqual(reply(self.file(row)), b"refused 15 at 4\n", bits)
+            else:
+                self.assertEqual(self.sums(row), [entry], bits)
 
     def test_scaled_and_fitted_rows_in_every_mixture(self) -> None:
         # Row i has i + 1 in its last column; fitted, it is 0.25 less, so rounding makes it whole.

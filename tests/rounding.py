@@ -11,7 +11,8 @@ step 1 is then the entry in row p and column i, so that n patterns are seen in a
 itself. A pattern that is no entry is alone in its file, which must be refused by 15 at its row.
 
 It takes the built program, target/bin/envelope, and fails where there is none; or another command
-that takes a file on its standard input, and of the patterns every N-th.
+that takes a file on its standard input, and of the patterns every N-th. Where all tests ran, on all
+patterns, it also fails if these were fewer than 100,000.
 """
 
 from __future__ import annotations
@@ -37,6 +38,7 @@ SIGN, INFINITY = 1 << 63, 0x7FF << 52
 TWO = 0x400 << 52
 QUIET = 1 << 51
 SIDES = 2  # how many programs run at a time
+LEAST = 100_000  # how many patterns are tried at least, by all tests together
 
 command = str(ROOT / "target" / "bin" / "envelope")
 every = 1
@@ -257,6 +259,14 @@ def tearDownModule() -> None:
     print(f"{len(seen):,} patterns in {files_seen:,} files")
 
 
+def shortfall(ran: int) -> str | None:
+    """What is wrong where all tests ran, on all patterns, and these were too few."""
+    tests = unittest.TestLoader().loadTestsFromTestCase(Rounding).countTestCases()
+    if every != 1 or ran < tests or len(seen) >= LEAST:
+        return None
+    return f"{len(seen):,} patterns are too few: all tests together try {LEAST:,} at least"
+
+
 def main() -> None:
     global command, every
     parser = argparse.ArgumentParser(description="Test what the program makes of fitted rows.")
@@ -267,7 +277,8 @@ def main() -> None:
     command, every = options.program, options.every
     if shutil.which(shlex.split(command)[0]) is None:
         sys.exit(f"{command}: not a program that can be run")
-    unittest.main(argv=[sys.argv[0], *rest])
+    result = unittest.main(argv=[sys.argv[0], *rest], exit=False).result
+    sys.exit(not result.wasSuccessful() or shortfall(result.testsRun))
 
 
 if __name__ == "__main__":

@@ -24,13 +24,14 @@ A text has one statement in a row, and `#` starts a comment:
     guard DIRECTION LEVEL         0 to 16, each on a direction above it
 
 An ENTRY of a `row` is a decimal from -2 to 2. It must be a multiple of 1/65,536, as 0.5 is;
-`~0.97` stands for the nearest multiple (of two equally near the even one), so that all rounding
-shows in the text. An ENTRY of a `fitted` row, from -2 to 2 as well, is a decimal of any length, as
-0.97 or -9.7e-3, or a hexadecimal float, as -0x1.8p-3. The file has the nearest number of binary64,
-bit by bit, and the reader rounds that one to the nearest multiple, in the same way and without a
-`~`. `pack` says on standard error how much was rounded, and that there is no input set where there
-is none, unless it is to be quiet. Points and levels are whole counts. What the reader would refuse
-is refused here: all mistakes, up to twenty, are told with the text's name, or NAME, and the row.
+`~0.97` stands for the nearest multiple (of two equally near the even one), so that in a `row` all
+rounding shows in the text. An ENTRY of a `fitted` row, from -2 to 2 as well, is a decimal of any
+length, as 0.97 or -9.7e-3, or a hexadecimal float, as -0x1.8p-3. The file has the nearest number of
+binary64, bit by bit, and the reader rounds that one to the nearest multiple, in the same way and
+without a `~`. `pack` says on standard error how much was rounded, and that there is no input set
+where there is none, unless it is to be quiet. Points and levels are whole counts. What the reader
+would refuse is refused here: all mistakes, up to twenty, are told with the text's name, or NAME,
+and the row.
 
 A file has no names, units or time. Unpacked, its coordinates are x0, x1, .. and its directions d0,
 d1, .., or all of these are those of the text that `--names` gives. Fitted rows stay so: each entry

@@ -237,8 +237,8 @@ def value_files() -> Iterator[File]:
     ):
         yield f"the sample, then {what}", sample + after
     longest = encode(made_model(VERTICES, MAX_N, full=True))
-    yield "the longest file, then a byte", longest + b"\0"
-    yield "the longest file without its end", longest[:-1]
+    yield "the longest file with scaled rows, then a byte", longest + b"\0"
+    yield "the longest file with scaled rows without its end", longest[:-1]
 
 
 def spoilt_files() -> Iterator[File]:
@@ -316,7 +316,7 @@ def no_input_files() -> Iterator[File]:
     yield "no input set: a 17th direction, its kind alone", many + bytes([DIRECTION])
     yield "no input set: guard on direction 1 of 1", initial + ASKED + guard(1, 0)
     longest = encode(made_model(VERTICES, MAX_N, full=True), input_stated=False)
-    yield "no input set: the longest file, then a byte", longest + b"\0"
+    yield "no input set: the longest file with scaled rows, then a byte", longest + b"\0"
 
 
 def fitted_rows(model: Model) -> dict[int, list[int]]:

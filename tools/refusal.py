@@ -51,7 +51,7 @@ def counted(what: str, number: int) -> str:
 def kind_name(kind: int) -> str:
     """A kind of record, with its byte."""
     names = {
-        HEAD: "the head", ROW: "a row", FITTED: "a fitted row", DIRECTION: "a direction",
+        HEAD: "the head", ROW: "a scaled row", FITTED: "a fitted row", DIRECTION: "a direction",
         GUARD: "a guard",
     }
     if kind in SET_KINDS:

@@ -45,7 +45,7 @@ def decimal_text(value: Fraction) -> str:
     return ("-" if value < 0 else "") + whole + ("." + rest if rest else "")
 
 
-def binary64(word: str) -> int | None:
+def pattern_of(word: str) -> int | None:
     """The 64 bits of a FLOAT, of the nearest number of binary64; None of one that is too large."""
     try:
         value = float.fromhex(word) if "x" in word.lower() else float(word)

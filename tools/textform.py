@@ -21,7 +21,7 @@ from layout import (
     MIN_LEVEL, MIN_POINTS, VERTICES, ZONOTOPE, Model, Set, Vector, encode, zero_box,
 )
 from spelling import (
-    CALLED, DECIMAL, ENDLESS, FLOAT, NOT_FINITE, WHOLE, binary64, cut, plain, quoted, suggestion,
+    CALLED, DECIMAL, ENDLESS, FLOAT, NOT_FINITE, WHOLE, cut, pattern_of, plain, quoted, suggestion,
     two_readings,
 )
 
@@ -101,9 +101,13 @@ def _fail(message: str) -> NoReturn:
 def _value(word: str, form: re.Pattern[str]) -> Fraction | None:
     """The exact value of an entry, of a fitted one that of its 64 bits; None of one too large."""
     if form is FLOAT:
-        bits = binary64(word)
+        bits = pattern_of(word)
         return None if bits is None else exact.binary64(bits)
     return Fraction(word.lstrip("~"))
+
+
+def _marked(words: Sequence[str]) -> bool:
+    return any(word.startswith("~") for word in words)
 
 
 def rounded_in(
@@ -204,29 +208,42 @@ class _Parser:
     # Numbers
 
     def number(
-        self, word: str, read: Callable[[str], Number], form: re.Pattern[str] = WHOLE
+        self,
+        word: str,
+        read: Callable[[str], Number],
+        form: re.Pattern[str] = WHOLE,
+        fitted: Callable[[str], int] | None = None,
     ) -> Number | None:
-        """What `read` makes of a number; a wrong one is told, with a spelling that is right."""
+        """What `read` makes of a number; a wrong one is told, with a spelling that is right.
+
+        `fitted` is how a fitted row would read it, where one may be meant.
+        """
         value = None
         try:
             if form.fullmatch(word):
                 return read(word)
-            told = f"{quoted(word)} is no {CALLED[form]}"
+            told = [f"{quoted(word)} is no {CALLED[form]}"]
             spelled, readings = plain(word, form), two_readings(word) if form is WHOLE else []
             if ENDLESS.fullmatch(word) and form is DECIMAL:
-                told = f"{quoted(word)} has more than 40 digits before or behind the point"
+                told = [f"{quoted(word)} has more than 40 digits before or behind the point"]
             elif NOT_FINITE.fullmatch(word) and form is FLOAT:
-                told = f"{quoted(word)} is no finite number; an entry is {LIMIT}"
+                told = [f"{quoted(word)} is no finite number; an entry is {LIMIT}"]
             elif readings and all(self.advice([each], read)[1] is not None for each in readings):
-                told += f"; write {' or '.join(readings)}"
+                told.append(f"write {' or '.join(readings)}")
             elif spelled is not None and form.fullmatch(spelled):
                 marked = word.startswith("~")
                 written = [spelled] * (not marked) + ["~" + spelled] * (form is DECIMAL)
                 advice, value = self.advice(written, read)
-                told += "; " + advice
+                told.append(advice)
+            if fitted is not None and FLOAT.fullmatch(word):
+                advice, entry = self.advice([word], fitted)
+                if entry is not None:
+                    told.append("a 'fitted' row takes it as it is")
+                elif len(told) == 1:
+                    told.append(advice)
         except _Wrong as wrong:
-            told = str(wrong)
-        self.tell(told)
+            told = [str(wrong)]
+        self.tell("; ".join(told))
         return value
 
     def advice(
@@ -252,7 +269,12 @@ class _Parser:
         n = len(self.coordinates)
         if len(words) == n:
             self.counted = True
-            return [self.number(word, reader(i), form) for i, word in enumerate(words)]
+            # A `row` without a mark may be meant as a fitted one.
+            other = form is DECIMAL and not _marked(words)
+            fitted = [partial(self.fitted_entry, i) if other else None for i in range(n)]
+            return [
+                self.number(word, reader(i), form, fitted[i]) for i, word in enumerate(words)
+            ]
         told = f"expected {n} numbers, one for each coordinate" if n > 1 else "expected 1 number"
         hint = "; numbers stand apart by blanks" if "," in "".join(words) else ""
         if "~" in words:
@@ -265,6 +287,8 @@ class _Parser:
 
     def fitted_entry(self, column: int, word: str) -> int:
         """A number of binary64 in units of 1/65,536."""
+        if word.startswith("~"):
+            _fail(MARK)
         value = _value(word, FLOAT)
         if value is None or abs(value) > MAX_FACTOR:
             self.beyond(column, word)
@@ -289,7 +313,10 @@ class _Parser:
         """The entries of a row in units of 1/65,536; those that rounding changes are noted."""
         if form is WHOLE:
             return self.entries(words, self.column_limit(MAX_ENTRY, "entry"))
-        read = self.fitted_entry if form is FLOAT else self.row_entry
+        # A `row` with a hexadecimal float is meant as a fitted one, where no decimal needs a mark.
+        hexadecimal = any(FLOAT.fullmatch(word) and "x" in word.lower() for word in words)
+        meant = form is FLOAT or hexadecimal and not _marked(words)
+        read = self.fitted_entry if meant else self.row_entry
         entries = self.entries(words, lambda column: partial(read, column), form)
         self.rounded += rounded_in(row, form, words, entries)
         return entries
@@ -638,7 +665,7 @@ class _Parser:
             names,
             tuple(self.units.get(name) for name in names),
             self.time,
-            {number: tuple(map(binary64, words)) for number, words in self.fitted.items()},
+            {number: tuple(map(pattern_of, words)) for number, words in self.fitted.items()},
             tuple(self.rounded),
         )
 

@@ -139,16 +139,26 @@ class Figures(unittest.TestCase):
 
     def test_case_23(self):
         """1.5 over 65,536 is 1.5 x 2^-16, whose exponent is 1,007, and 2.5 is 1.25 x 2^-15."""
-        for bits, entry in (
+        refused = Refusal(15, 4)
+        for bits, expected in (
+            # 1.5, 2.5, -1.5 and -2.5 over 65,536; the next above and below 2.5 / 65,536
             (0x3EF8_0000_0000_0000, 2), (0x3F04_0000_0000_0000, 2),
             (0xBEF8_0000_0000_0000, -2), (0xBF04_0000_0000_0000, -2),
+            (0x3F04_0000_0000_0001, 3), (0x3F03_FFFF_FFFF_FFFF, 2),
+            # 2, -2 and the next above 2
             (0x4000_0000_0000_0000, 131_072), (0xC000_0000_0000_0000, -131_072),
-            (0x0000_0000_0000_0001, 0), (0x8000_0000_0000_0001, 0),
+            (0x4000_0000_0000_0001, refused),
+            # both zeros, the smallest above 0 and 0.5 / 65,536
+            (0x0000_0000_0000_0000, 0), (0x8000_0000_0000_0000, 0),
+            (0x0000_0000_0000_0001, 0), (0x3EE0_0000_0000_0000, 0),
+            # both infinities and two NaNs
+            (0x7FF0_0000_0000_0000, refused), (0xFFF0_0000_0000_0000, refused),
+            (0x7FF8_0000_0000_0000, refused), (0xFFF0_0000_0000_0001, refused),
         ):
             data = head(1, 1) + fitted(0, [bits]) + point(0x14, [1]) + direction([1]) + b"\xff"
-            self.assertEqual(exact.read_model(data).matrix, ((entry,),), hex(bits))
-        for bits in (0x4000_0000_0000_0001, 0xC000_0000_0000_0001):
-            self.assertEqual(exact.read_model(head(1, 1) + fitted(0, [bits])), Refusal(15, 4))
+            read = exact.read_model(data)
+            found = read if isinstance(read, Refusal) else read.matrix[0][0]
+            self.assertEqual(found, expected, hex(bits))
 
     def test_sample(self):
         self.assertEqual(len(SAMPLE), 186)

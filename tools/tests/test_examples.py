@@ -127,6 +127,7 @@ class Examples(unittest.TestCase):
         note = pack.rounding(pack.parse(text))
         self.assertIn("the largest relative change is 0.49 %,", note)
         self.assertIn("tells how much that changes, 0.49 % at most", text)
+        self.assertIn("would be 1.1347562846483198e-05 and change by 34 %", text)
         readme = (examples.FOLDER / "README.md").read_text()
         self.assertIn("the largest relative change, here\n0.49 %.", readme)
         for old, new in (

@@ -240,7 +240,7 @@ class Fitted(unittest.TestCase):
             for word in (decimal, f"{value:.17g}", f"{value:+.20e}", hexadecimal,
                          hexadecimal.upper()):
                 self.assertTrue(spelling.FLOAT.fullmatch(word), word)
-                self.assertEqual(spelling.binary64(word), bits, word)
+                self.assertEqual(spelling.pattern_of(word), bits, word)
 
     def test_unpacked_again(self):
         words = "-0.0 1.9999999999999998"
@@ -584,6 +584,77 @@ class Messages(unittest.TestCase):
         for row in ("0x1p-3 0.5", "hot 0x1p-3 0.5", "hot 0.5 1e-3", "1e-3 -0x1p-9"):
             self.refused(FIRST, row, 4, f"did you mean 'fitted {row.split()[0]} ..'?")
 
+    def test_a_fitted_row_is_hinted_at(self):
+        """Of a number in a `row` that a fitted one takes; with that word the text is right."""
+        no, hint = "is no decimal number", "a 'fitted' row takes it as it is"
+        for word, told in (
+            ("0x1p-1", f"'0x1p-1' {no}"),
+            ("-0X1.8P-3", f"'-0X1.8P-3' {no}"),
+            ("0x2", f"'0x2' {no}"),
+            ("0x1p-99999", f"'0x1p-99999' {no}"),
+            ("5e-1", f"'5e-1' {no}; write 0.5"),
+            ("-1E-3", f"'-1E-3' {no}; write ~-0.001"),
+            ("2.0000000000000001e0", f"'2.0000000000000001e0' {no}; write ~2.0000000000000001"),
+            ("1e-41", f"'1e-41' {no}"),
+            ("5e-324", f"'5e-324' {no}"),
+            (f"0.{'3' * 41}", f"'0.{'3' * 41}' has more than 40 digits before or behind the point"),
+        ):
+            with self.subTest(word):
+                self.assertEqual(self.changed("0.5", word), [f"4: {told}; {hint}"])
+                pack.parse(GOOD.replace("row hot 0.5", f"fitted hot {word}"))
+        both = [f"4: '0x1p-1' {no}; {hint}", f"4: '1e-60' {no}; {hint}"]
+        self.assertEqual(self.changed("hot 0.5 -0.25", "0x1p-1 1e-60"), both)
+
+    def test_a_hexadecimal_float_means_a_fitted_row(self):
+        """No entry beside it is told to be marked, which would be wrong there; all advice fits."""
+        no, hint = "is no decimal number", "4: '0x1p-1' is no decimal number; a 'fitted' row takes"
+        for words, *told, right in (
+            ("0x1p-1 0.97", hint, "0x1p-1 0.97"),
+            ("0.97 0x1p-1", hint, "0.97 0x1p-1"),
+            ("0x1p-1 0,97", hint, f"4: '0,97' {no}; write 0.97", "0x1p-1 0.97"),
+            ("0x1p-1 1e-3", hint, f"4: '1e-3' {no}; write 0.001; a 'fitted' row", "0x1p-1 0.001"),
+            ("0x1p-1 2.5", hint, "4: entry 2.5 in column 'cold' is beyond -2 to 2", "0x1p-1 2"),
+            ("0x1p-1 1e3", hint, f"4: '1e3' {no}; entry 1000 in column 'cold' is", "0x1p-1 1"),
+        ):
+            with self.subTest(words):
+                found = self.changed("0.5 -0.25", words)
+                self.assertEqual(len(found), len(told), found)
+                for said, start in zip(found, told):
+                    self.assertTrue(said.startswith(start), said)
+                pack.parse(GOOD.replace("row hot 0.5 -0.25", f"fitted hot {right}"))
+        # Without one, a `row` may be meant as well.
+        self.assertEqual(
+            self.changed("0.5 -0.25", "1e-3 0.97"),
+            [f"4: '1e-3' {no}; write ~0.001; a 'fitted' row takes it as it is",
+             "4: 0.97 is no multiple of 1/65,536; write ~0.97 for the nearest, which is"
+             " 63570/65536"],
+        )
+
+    def test_a_fitted_row_is_not_hinted_at(self):
+        """Where it would not take the number either, or an entry beside it is marked by `~`."""
+        no, beyond = "is no decimal number", "in column 'hot' is beyond -2 to 2"
+        for words, told in (
+            ("0x1p2 0", f"'0x1p2' {no}; entry 0x1p2 {beyond}"),
+            ("-0x1.0000000000001p1 0",
+             f"'-0x1.0000000000001p1' {no}; entry -0x1.0000000000001p1 {beyond}"),
+            ("1e3 0", f"'1e3' {no}; entry 1000 {beyond}"),
+            ("1e50 0", f"'1e50' {no}; entry 1e50 {beyond}"),
+            ("1e400 0", f"'1e400' {no}; entry 1e400 {beyond}"),
+            ("0x1p-1 ~0.25", f"'0x1p-1' {no}"),
+            ("1e-3 ~0.25", f"'1e-3' {no}; write ~0.001"),
+            ("~0x1p-1 0", f"'~0x1p-1' {no}"),
+            ("0x 0", f"'0x' {no}"),
+            ("1.8p-3 0", f"'1.8p-3' {no}"),
+            ("inf 0", f"'inf' {no}"),
+        ):
+            with self.subTest(words):
+                self.assertEqual(self.changed("0.5 -0.25", words), [f"4: {told}"])
+        for old, new in (("scaled 1", "scaled 0x1"), ("scaled 1", "scaled 1e-3"),
+                         ("centre 1", "centre 0x1"), ("guard gap -12", "time 0x1p-1 ms"),
+                         ("guard gap -12", "time 1e-3 ms")):
+            (said,) = self.changed(old, new)
+            self.assertNotIn("fitted", said)
+
     def test_no_input_set(self):
         """Its absence is no mistake, and none is told beside what may have been meant for it."""
         for old, new, place, message in (
@@ -679,7 +750,7 @@ class Messages(unittest.TestCase):
                 self.refused(old, new, GOOD[: GOOD.index(old)].count("\n") + 1, message)
                 said = self.changed(old, new)[0]
                 if " write " in said:
-                    word, written = re.search(r"'(.*)' is no .* write (.*)", said).groups()
+                    word, written = re.search(r"'(.*)' is no .* write ([^;]*)", said).groups()
                     pack.parse(GOOD.replace(old, new.replace(word, written)))
         for new in ("0,5", "1.500", "half", "1e400", "--1"):
             self.assertNotIn("write", self.changed("guard gap -12", f"guard gap {new}")[0])

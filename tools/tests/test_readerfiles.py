@@ -45,7 +45,7 @@ class ReaderFiles(unittest.TestCase):
             ("direction [0, 1], n 1", "refused 7 at 105"),
             ("guard on direction 1 of 1", "refused 8 at 130"),
             ("the sample, then many bytes", "refused 10 at 186"),
-            ("the longest file, then a byte", "refused 10 at 1521"),
+            ("the longest file with scaled rows, then a byte", "refused 10 at 1521"),
             ("a wrong row without its last byte", "refused 1 at 4"),
             ("its first 115 bytes", "refused 1 at 115"),
             ("all bits changed of byte 115", "refused 2 at 115"),
@@ -80,7 +80,8 @@ class ReaderFiles(unittest.TestCase):
             ("no input set: any numbers beyond n", "model 1 3"),
             ("no input set: a 17th direction", "refused 9 at 481"),  # 81 + 16 * 25
             ("no input set: guard on direction 1 of 1", "refused 8 at 106"),
-            ("no input set: the longest file, then a byte", "refused 10 at 1121"),  # 1,521 - 400
+            # 1,521 - 400
+            ("no input set: the longest file with scaled rows, then a byte", "refused 10 at 1121"),
             ("at the start: kind 03 alone", "refused 3 at 0"),
             ("after 01: kind 03 alone", "refused 1 at 4"),
             ("after 01: kind 04 alone", "refused 2 at 4"),

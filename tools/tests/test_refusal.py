@@ -37,7 +37,8 @@ class Words(unittest.TestCase):
         self.told(ROWS, f"refused 1 at 30: the file ends where {FIRST_POINTS} should come")
         self.told(TWO[:-1], "refused 1 at 30: the file ends within row 1 (the second): 1 of its 26"
                             " bytes is missing; get the whole file")
-        self.told(head(1, 3), "the file ends where a row (02) or a fitted row (03) should come")
+        self.told(head(1, 3),
+                  "the file ends where a scaled row (02) or a fitted row (03) should come")
         self.told(head(2, 3) + row(0, []) + fitted(1, [])[:-1],
                   "refused 1 at 30: the file ends within fitted row 1 (the second): 1 of its 50")
         self.told(ASKED, "refused 1 at 105: the file ends where a direction (30), a guard (40) or"
@@ -51,13 +52,14 @@ class Words(unittest.TestCase):
                                   " vertex of the input set (24) or a direction (30)")
 
     def test_3_not_here(self):
-        self.told(b"\x02", "refused 3 at 0: a row (02) stands where only the head (01) may", START)
+        self.told(b"\x02",
+                  "refused 3 at 0: a scaled row (02) stands where only the head (01) may", START)
         self.told(ROWS + row(1, [5]),
-                  f"refused 3 at 30: a row (02) stands where only {FIRST_POINTS} may stand")
+                  f"refused 3 at 30: a scaled row (02) stands where only {FIRST_POINTS} may stand")
         self.told(ROWS + fitted(1, []),
                   f"refused 3 at 30: a fitted row (03) stands where only {FIRST_POINTS} may stand")
         self.told(head(2, 3) + fitted(0, []) + direction([1]),
-                  "a direction (30) stands where only a row (02) or a fitted row (03) may stand")
+                  "a direction (30) stands where only a scaled row (02) or a fitted row (03) may")
         self.told(ROWS + point(0x12, [1]) + point(0x24, [1]),
                   "refused 3 at 55: a vertex of the input set (24) stands where only a generator of"
                   " the initial set (13) may stand")
