@@ -1,5 +1,5 @@
--- A binary64 number beside its bits, those that `toBits` gives: its magnitude within 2, and the entry that it becomes. Assumes
--- nothing.
+-- A binary64 number beside its bits, those that `toBits` gives: its magnitude within 2, and the entry that it becomes.
+-- Assumes nothing.
 use mathlib.Core.Path.{_≡_, refl, sym, ap, ap₂, subst, _∙_}
 use mathlib.Core.Bool.{Bool, true, false, cond, not, _&&_, _||_, true≢false, false≢true}
 use Prim.Native.Nat.{ℕ, zero, suc, _+_, _*_, _/_, _^_, _≤_, _<_}

@@ -1,5 +1,5 @@
--- Rows as they are held, and as the specification has them: the same entries, so the same number and the same state. Assumes
--- nothing.
+-- Rows as they are held, and as the specification has them: the same entries, so the same number and the same state.
+-- Assumes nothing.
 use mathlib.Core.Path.{_≡_, sym, ap, subst, _∙_}
 use mathlib.Core.Bool.{Bool, cond}
 use mathlib.Core.List.{List}
