@@ -9,7 +9,7 @@ from helpers import TOOLS, FolderTest, run_tool
 
 import exact
 import models
-from layout import FITTED, offsets, states_input
+from layout import FITTED, Model, offsets, states_input
 
 
 class Compare(FolderTest):
@@ -38,7 +38,7 @@ class Compare(FolderTest):
         files = list(models.stream(3, 40))
         accepted = [data for data in files if exact.listing(data).startswith("model")]
         without = sum(not states_input(data) for data in accepted)
-        self.assertTrue(0 < without < len(accepted) / 2, without)
+        self.assertGreater(without, 0)
         self.assertLess(without, sum(not states_input(data) for data in files))
         fitted = sum(any(data[at] == FITTED for at in offsets(data)) for data in accepted)
         self.assertTrue(len(accepted) / 4 < fitted < len(accepted) * 3 / 4, fitted)
@@ -46,6 +46,12 @@ class Compare(FolderTest):
         told = f", with fitted rows:{fitted} without input:{without}), refused 1:"
         self.assertIn(told.encode(), out)
         self.assertRegex(out, rb" 10:\d+ 15:\d+; directions")
+
+    def test_models_without_input_come_seldom(self):
+        files = models.stream(3, 400)
+        accepted = [data for data in files if isinstance(exact.read_model(data), Model)]
+        without = sum(not states_input(data) for data in accepted)
+        self.assertTrue(0 < without < len(accepted) / 4, without)
 
     def test_wrong_output(self):
         number = next(n for n in range(99) if "guard" in exact.listing(models.file_of(4, n)))
