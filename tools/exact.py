@@ -4,9 +4,10 @@
 It was made from the words of the request, before docs/SPECIFICATION.md was. A change of it is made
 from the changed clauses, before the Rattle side is looked at.
 
-In order: the reader of files, and how it rounds fitted entries; supports, reaches and the
-recurrence over whole numbers; the listing; and, apart from all of these, the exact largest values
-as fractions, by corners, with the check of the accuracy rule against them.
+In order: the reader of files, and how it rounds fitted entries; supports and reaches, of a set and
+of what enters at a step; the recurrence over whole numbers; the listing; and, apart from all of
+these, the exact largest values as fractions, by corners, with the check of the accuracy rule
+against them.
 
     exact.py FILE            print the listing of a file (standard input without FILE, or for `-`)
     exact.py --check FILE    and check the accuracy rule of what is printed
@@ -21,16 +22,17 @@ import itertools
 import math
 import sys
 from fractions import Fraction
-from operator import mul
+from operator import add, mul
 from typing import Collection, Iterator, Sequence
 
 import files
 import listings
 from layout import (
-    BODY_LENGTHS, BOX, CENTRE, DEFAULT_STEPS, DIRECTION, DIRECTION_UNIT, END, FITTED, GROWTH_LIMIT,
-    GUARD, HEAD, INITIAL, INPUT, LOWER, MATRIX_UNIT, MAX_DIRECTION_ENTRY, MAX_DIRECTIONS, MAX_ENTRY,
-    MAX_FACTOR, MAX_GUARDS, MAX_N, MAX_POINTS, MAX_REACH, MAX_SPARE, MAX_STEPS, MIN_POINTS,
-    POINT_KINDS, READ_LIMIT, ROW, VERTEX, ZONOTOPE, Model, Set, Vector, zero_box,
+    BODY_LENGTHS, BOX, CENTRE, DEFAULT_STEPS, DIRECTION, DIRECTION_UNIT, DRIFT, END, FITTED,
+    GROWTH_LIMIT, GUARD, HEAD, INITIAL, INPUT, LOWER, MATRIX_UNIT, MAX_DIRECTION_ENTRY,
+    MAX_DIRECTIONS, MAX_ENTRY, MAX_FACTOR, MAX_GUARDS, MAX_N, MAX_POINTS, MAX_REACH, MAX_SPARE,
+    MAX_STEPS, MIN_POINTS, POINT_KINDS, READ_LIMIT, ROW, VERTEX, ZONOTOPE, Model, Set, Vector,
+    zero_box,
 )
 from listings import CLEAR, GROWTH, HIT, UNKNOWN, Growth, Listing, Refusal, Sweep, Verdict
 
@@ -47,6 +49,7 @@ REASONS = {
     9: "one generator, vertex, direction or guard too many",
     10: "bytes follow the end",
     15: f"an entry of a fitted row that is no number from {-MAX_FACTOR} to {MAX_FACTOR}",
+    17: f"the drift, or the reach of the input set with the drift, passes {MAX_REACH:,}",
 }
 
 
@@ -150,23 +153,38 @@ def _read_row(file: _File, number: int, n: int) -> Vector:
     return tuple(map(fitted_entry, values))
 
 
-def _read_set(file: _File, part: int, n: int, later: set[int]) -> Set:
-    """One of the three forms of a set; `later` are the kinds that the next part starts with."""
+def _read_drift(file: _File, n: int) -> Vector:
+    """The drift, which is zero where the initial set follows the rows."""
+    if file.kind({DRIFT, INITIAL + LOWER, INITIAL + CENTRE, INITIAL + VERTEX}) != DRIFT:
+        return (0,) * n
+    drift = _vector(file.body(), n)
+    file.require(all(abs(entry) <= MAX_REACH for entry in drift), 17)
+    return drift
+
+
+def _read_set(file: _File, part: int, drift: Vector, later: set[int]) -> Set:
+    """One of the three forms of a set, whose points enter with this drift.
+
+    `later` are the kinds that the next part starts with.
+    """
+    n = len(drift)
     firsts = {part + first: form for form, (first, _) in POINT_KINDS.items()}
     form = firsts[file.kind(firsts)]
     other = part + POINT_KINDS[form][1]
     points: list[Vector] = []
     while True:
         points.append(_vector(file.body(), n))
-        in_reach = max(reach(Set(form, tuple(points)), n)) <= MAX_REACH
+        so_far = Set(form, tuple(points))
+        in_reach = max(reach(so_far, n)) <= MAX_REACH
         in_order = form != BOX or all(low <= high for low, high in zip(points[0], points[-1]))
         file.require(in_reach and in_order, 6)
+        file.require(max(entering_reach(so_far, drift)) <= MAX_REACH, 17)
         allowed = {other} if form != BOX or len(points) == 1 else set()
         if len(points) >= MIN_POINTS[form]:
             allowed |= later
         full = {other} if len(points) == MAX_POINTS[form] else ()
         if file.kind(allowed, full) != other:
-            return Set(form, tuple(points))
+            return so_far
 
 
 def _read(file: _File) -> Model:
@@ -177,12 +195,13 @@ def _read(file: _File) -> Model:
     steps = DEFAULT_STEPS if stated_steps == 0 else stated_steps
 
     matrix = tuple(_read_row(file, number, n) for number in range(n))
+    drift = _read_drift(file, n)
     later = {INPUT + LOWER, INPUT + CENTRE, INPUT + VERTEX, DIRECTION}
-    initial = _read_set(file, INITIAL, n, later)
+    initial = _read_set(file, INITIAL, (0,) * n, later)
     if file.kind(later) == DIRECTION:
         input_ = zero_box(n)
     else:
-        input_ = _read_set(file, INPUT, n, later={DIRECTION})
+        input_ = _read_set(file, INPUT, drift, later={DIRECTION})
 
     directions: list[Vector] = []
     allowed = {DIRECTION}
@@ -203,7 +222,7 @@ def _read(file: _File) -> Model:
     file.body()
     if file.at < len(file.data):
         raise _Refused(10, file.at)
-    return Model(n, steps, matrix, initial, input_, tuple(directions), tuple(guards))
+    return Model(n, steps, matrix, initial, input_, tuple(directions), tuple(guards), drift)
 
 
 def read_model(data: bytes) -> Model | Refusal:
@@ -236,6 +255,16 @@ def reach(set_: Set, n: int) -> Vector:
     """The set's largest |coordinate|, for each coordinate; also of a set that is still read."""
     over = sum if set_.form == ZONOTOPE else max
     return tuple(over(abs(point[i]) for point in set_.points) for i in range(n))
+
+
+def entering_support(input_: Set, drift: Vector, r: Sequence[int]) -> int:
+    """The support at r of what enters at a step (Recurrence 15)."""
+    return support(input_, r) + dot(drift, r)
+
+
+def entering_reach(input_: Set, drift: Vector) -> Vector:
+    """The reach of what enters (Recurrence 16); also of an input set that is still read."""
+    return tuple(map(add, reach(input_, len(drift)), map(abs, drift)))
 
 
 def up(numerator: int, denominator: int) -> int:
@@ -276,17 +305,18 @@ def sweep(model: Model, direction: Vector) -> Sweep | Growth:
         steps.append((r, e))
     spare = max(h for h in range(MAX_SPARE + 1) if 2**h * largest <= GROWTH_LIMIT)
 
-    initial_reach, input_reach = reach(model.initial, model.n), reach(model.input, model.n)
+    initial_reach = reach(model.initial, model.n)
+    entered_reach = entering_reach(model.input, model.drift)
     bounds, slacks = [], []
-    inputs = input_errors = 0  # the sums over all j below k
+    entered = entered_errors = 0  # the sums over all j below k
     for r, e in steps:
-        half = up(dot(e, initial_reach) + input_errors, 2)
-        raw_bound = support(model.initial, r) + inputs + half
+        half = up(dot(e, initial_reach) + entered_errors, 2)
+        raw_bound = support(model.initial, r) + entered + half
         raw_slack = 2 * half
         bounds.append(up(raw_bound, DIRECTION_UNIT))
         slacks.append(up(raw_slack, DIRECTION_UNIT) + (1 if raw_bound % DIRECTION_UNIT else 0))
-        inputs += support(model.input, r)
-        input_errors += dot(e, input_reach)
+        entered += entering_support(model.input, model.drift, r)
+        entered_errors += dot(e, entered_reach)
     return Sweep(spare, tuple(bounds), tuple(slacks))
 
 
@@ -339,11 +369,13 @@ def corners(set_: Set) -> list[Vector]:
 def exact_values(model: Model) -> list[list[Fraction]]:
     """The exact largest value of each direction at steps 0 to K.
 
-    A state is the image of the first state plus one image for each input, and each is chosen by
-    itself. So the largest value is the sum of the largest over the images of each set's corners.
-    The images go forward by the matrix, and after k moves are counted in 1 / 65,536^k.
+    A state is the image of the first state plus one image for each input with the drift, and each
+    is chosen by itself. So the largest value is the sum of the largest over the images of the
+    initial set's corners, and of the input set's, each moved by the drift. The images go forward by
+    the matrix, and after k moves are counted in 1 / 65,536^k.
     """
-    states, inputs = corners(model.initial), corners(model.input)
+    states = corners(model.initial)
+    inputs = [tuple(map(add, corner, model.drift)) for corner in corners(model.input)]
     driven = [Fraction(0)] * len(model.directions)
     values: list[list[Fraction]] = [[] for _ in model.directions]
     for k in range(model.steps + 1):

@@ -19,7 +19,7 @@ MAX_N = 6  # Limits 1
 MAX_STEPS = 256  # Limits 2
 DEFAULT_STEPS = 120  # File 4: what 0 in the head stands for
 MAX_ENTRY = 131_072  # Limits 3
-MAX_REACH = 1_048_576  # Limits 4
+MAX_REACH = 1_048_576  # Limits 4; also that of the drift and of what enters, Limits 11
 MAX_DIRECTION_ENTRY = 1_000  # Limits 5
 MAX_DIRECTIONS = 16  # Limits 6
 MAX_GUARDS = 16  # Limits 7
@@ -36,8 +36,8 @@ MAX_SPARE = 10  # Recurrence 9
 
 # "File"
 READ_LIMIT = 2_048  # Reading 4
-LONGEST_FILE = 1_665  # File 9
-HEAD, ROW, FITTED, DIRECTION, GUARD, END = 0x01, 0x02, 0x03, 0x30, 0x40, 0xFF  # File 3
+LONGEST_FILE = 1_690  # File 9
+HEAD, ROW, FITTED, DRIFT, DIRECTION, GUARD, END = 0x01, 0x02, 0x03, 0x05, 0x30, 0x40, 0xFF  # File 3
 ROW_KINDS = (ROW, FITTED)
 INITIAL, INPUT = 0x10, 0x20  # the kinds of a set's points are one of these plus one of the next
 LOWER, UPPER, CENTRE, GENERATOR, VERTEX = 0, 1, 2, 3, 4
@@ -45,6 +45,7 @@ BODY_LENGTHS = {
     HEAD: 3,
     ROW: 25,
     FITTED: 49,
+    DRIFT: 24,
     **{part + point: 24 for part in (INITIAL, INPUT) for point in range(5)},
     DIRECTION: 24,
     GUARD: 9,
@@ -73,7 +74,10 @@ def zero_box(n: int) -> Set:
 
 @dataclass(frozen=True)
 class Model:
-    """A model without its unused entries: every vector has n entries."""
+    """A model without its unused entries: every vector has n entries.
+
+    Of a model that is made without a drift it is zero (File 15).
+    """
 
     n: int
     steps: int
@@ -82,6 +86,11 @@ class Model:
     input: Set
     directions: tuple[Vector, ...]
     guards: tuple[tuple[int, int], ...]  # direction number and level
+    drift: Vector = ()
+
+    def __post_init__(self) -> None:
+        if not self.drift:
+            object.__setattr__(self, "drift", (0,) * self.n)
 
 
 def _six(entries: Sequence[int]) -> bytes:
@@ -115,6 +124,10 @@ def point(kind: int, entries: Sequence[int]) -> bytes:
     return bytes([kind]) + _six(entries)
 
 
+def drift(entries: Sequence[int]) -> bytes:
+    return point(DRIFT, entries)
+
+
 def direction(entries: Sequence[int]) -> bytes:
     return point(DIRECTION, entries)
 
@@ -137,12 +150,14 @@ def records(
     stated_steps: int | None = None,
     input_stated: bool = True,
     fitted_rows: FittedRows | None = None,
+    drift_stated: bool = False,
 ) -> list[bytes]:
     """The records of a model.
 
     `stated_steps` is what the head says where that is not K. An input set that is not stated has
     no records, and the file is read with that of `zero_box`, whatever the model has. A row whose
-    number is in `fitted_rows` is a fitted one of these patterns, whatever the matrix has.
+    number is in `fitted_rows` is a fitted one of these patterns, whatever the matrix has. A drift
+    of zero has a record only where it is stated.
     """
     patterns = fitted_rows or {}
     return [
@@ -151,6 +166,7 @@ def records(
             fitted(number, patterns[number]) if number in patterns else row(number, entries)
             for number, entries in enumerate(model.matrix)
         ),
+        *([drift(model.drift)] if drift_stated or any(model.drift) else ()),
         *set_records(INITIAL, model.initial),
         *(set_records(INPUT, model.input) if input_stated else ()),
         *map(direction, model.directions),
@@ -164,9 +180,10 @@ def encode(
     stated_steps: int | None = None,
     input_stated: bool = True,
     fitted_rows: FittedRows | None = None,
+    drift_stated: bool = False,
 ) -> bytes:
     """The file of a model, of its `records`."""
-    return b"".join(records(model, stated_steps, input_stated, fitted_rows))
+    return b"".join(records(model, stated_steps, input_stated, fitted_rows, drift_stated))
 
 
 def offsets(data: bytes) -> Iterator[int]:
@@ -186,3 +203,8 @@ def fitted_rows_of(data: bytes, n: int) -> dict[int, Vector]:
 def states_input(data: bytes) -> bool:
     """Whether a file has a record of the input set."""
     return any(data[at] & 0xF0 == INPUT for at in offsets(data))
+
+
+def states_drift(data: bytes) -> bool:
+    """Whether a file has a drift record."""
+    return any(data[at] == DRIFT for at in offsets(data))

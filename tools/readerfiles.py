@@ -19,11 +19,11 @@ from typing import Iterator
 import exact
 import files
 from layout import (
-    BODY_LENGTHS, BOX, CENTRE, DEFAULT_STEPS, DIRECTION, END, FITTED, GENERATOR, GUARD, HEAD,
+    BODY_LENGTHS, BOX, CENTRE, DEFAULT_STEPS, DIRECTION, DRIFT, END, FITTED, GENERATOR, GUARD, HEAD,
     INITIAL, INPUT, LOWER, MATRIX_UNIT, MAX_DIRECTION_ENTRY, MAX_DIRECTIONS, MAX_ENTRY, MAX_GUARDS,
     MAX_LEVEL, MAX_N, MAX_POINTS, MAX_REACH, MAX_STEPS, MIN_POINTS, MIN_LEVEL, POINT_KINDS,
-    READ_LIMIT, ROW, ROW_KINDS, UPPER, VERTEX, VERTICES, ZONOTOPE, Model, Set, direction, encode,
-    fitted, guard, head, zero_box, offsets, pattern, point, records, row, set_records,
+    READ_LIMIT, ROW, ROW_KINDS, UPPER, VERTEX, VERTICES, ZONOTOPE, Model, Set, direction, drift,
+    encode, fitted, guard, head, zero_box, offsets, pattern, point, records, row, set_records,
 )
 from listings import Refusal
 from models import NO_ENTRIES, SIGN
@@ -31,6 +31,7 @@ from models import NO_ENTRIES, SIGN
 File = tuple[str, bytes]  # what it is, and its bytes
 
 FORMS = (BOX, ZONOTOPE, VERTICES)
+LATER_KINDS = (FITTED, DRIFT)  # which have files of their own
 START = b""
 
 
@@ -110,6 +111,16 @@ def with_zero_corners(data: bytes) -> tuple[int, bytes] | None:
     return None
 
 
+def with_zero_drift(data: bytes) -> tuple[int, bytes] | None:
+    """Where the last row of a file without a drift ends, and the file with one of zeros there."""
+    n = data[1] if data[:1] == bytes([HEAD]) and len(data) > 1 else 0
+    rows = [at for at in itertools.islice(offsets(data), 1, 1 + n) if data[at] in ROW_KINDS]
+    at = rows[-1] + 1 + BODY_LENGTHS[data[rows[-1]]] if rows else len(data) + 1
+    if len(rows) < n or at > len(data) or data[at : at + 1] == bytes([DRIFT]):
+        return None
+    return at, data[:at] + drift(()) + data[at:]
+
+
 def accepted_files() -> Iterator[File]:
     yield "the sample of the specification", encode(SAMPLE)
     for form in FORMS:
@@ -142,9 +153,9 @@ def accepted_files() -> Iterator[File]:
 
 
 def order_files() -> Iterator[File]:
-    """Numbers 1, 2 and 3 at every place, each kind but that of fitted rows by its byte alone."""
+    """Numbers 1, 2 and 3 at every place, each kind by its byte alone; not those of LATER_KINDS."""
     unknown = (0x00, 0x04, 0x15, 0x25, 0x31, 0x41, 0xFE)
-    known = [kind for kind in BODY_LENGTHS if kind != FITTED]
+    known = [kind for kind in BODY_LENGTHS if kind not in LATER_KINDS]
     for index, (place, start) in enumerate(places().items()):
         if place:
             yield f"{place:02X} without its last byte", start[:-1]
@@ -334,7 +345,7 @@ def fitted_place_files() -> Iterator[File]:
     rows = head(1, 3) + fitted(0, [HALF])
     yield "03 without its last byte", rows[:-1]
     yield "after 03: no byte", rows
-    for kind in (0x00, *BODY_LENGTHS):
+    for kind in (0x00, *(kind for kind in BODY_LENGTHS if kind != DRIFT)):
         yield f"after 03: kind {kind:02X} alone", rows + bytes([kind])
     for first in (row(0, [0, 0]), fitted(0, [0, 0])):
         for kind in (*ROW_KINDS, INITIAL + LOWER, DIRECTION, END):

@@ -18,7 +18,7 @@ import sys
 import exact
 import files
 from layout import (
-    BODY_LENGTHS, BOX, CENTRE, DEFAULT_STEPS, DIRECTION, END, FITTED, GENERATOR, GUARD, HEAD,
+    BODY_LENGTHS, BOX, CENTRE, DEFAULT_STEPS, DIRECTION, DRIFT, END, FITTED, GENERATOR, GUARD, HEAD,
     INITIAL, INPUT, LOWER, MATRIX_UNIT, MAX_DIRECTION_ENTRY, MAX_DIRECTIONS, MAX_ENTRY, MAX_FACTOR,
     MAX_GENERATORS, MAX_GUARDS, MAX_N, MAX_REACH, MAX_STEPS, MAX_VERTICES, POINT_KINDS, ROW,
     ROW_KINDS, UPPER, VERTEX, Set, Vector,
@@ -51,8 +51,8 @@ def counted(what: str, number: int) -> str:
 def kind_name(kind: int) -> str:
     """A kind of record, with its byte."""
     names = {
-        HEAD: "the head", ROW: "a scaled row", FITTED: "a fitted row", DIRECTION: "a direction",
-        GUARD: "a guard",
+        HEAD: "the head", ROW: "a scaled row", FITTED: "a fitted row", DRIFT: "the drift",
+        DIRECTION: "a direction", GUARD: "a guard",
     }
     if kind in SET_KINDS:
         part, point = kind & 0xF0, kind & 0x0F
@@ -108,7 +108,9 @@ class Place:
                 return f"{counted(POINT_NAMES[point], count)} {which}"
             return f"the {POINT_NAMES[point]} {which}"
         names = {ROW: "row", FITTED: "fitted row", DIRECTION: "direction", GUARD: "guard"}
-        return counted(names[self.kind], count) if self.kind in names else "the head"
+        if self.kind in names:
+            return counted(names[self.kind], count)
+        return "the drift" if self.kind == DRIFT else "the head"
 
     # What is wrong, by the number of the refusal
 
@@ -146,6 +148,8 @@ class Place:
             more += ", also without an input set" if INPUT + LOWER in due else ""
         elif self.kind & 0xF0 == INPUT and self.bodies(DIRECTION):
             more = "; the input set comes before the directions"
+        elif self.kind == DRIFT and self.before:
+            more = "; it comes once at most, between the last row and the initial set"
         return f"{kind_name(self.kind)} stands where only {choice(due)} may stand{more}"
 
     def head(self) -> str:
@@ -159,10 +163,10 @@ class Place:
     def vector(self, body: bytes) -> Vector:
         return struct.unpack("<6i", body)[: self.n]
 
-    def beyond(self, entries: Vector, limit: int) -> list[str]:
+    def beyond(self, entries: Vector, limit: int, what: str = "column") -> list[str]:
         return [
-            f"entry {entry:,} in {counted('column', column)} must be {-limit:,} to {limit:,}"
-            for column, entry in enumerate(entries)
+            f"entry {entry:,} in {counted(what, number)} must be {-limit:,} to {limit:,}"
+            for number, entry in enumerate(entries)
             if abs(entry) > limit
         ]
 
@@ -186,24 +190,44 @@ class Place:
             told.insert(0, f"it says number {self.body[0]} and must say {number}")
         return f"{self.name}: {'; '.join(told)}"
 
-    def points(self) -> str:
+    def set_so_far(self) -> Set:
+        """The points of a set up to this record, and with it."""
         part = self.kind & 0xF0
         form = next(form for form, kinds in POINT_KINDS.items() if self.kind - part in kinds)
         bodies = self.bodies(*(part + point for point in POINT_NAMES)) + [self.body]
-        points = tuple(map(self.vector, bodies))
+        return Set(form, tuple(map(self.vector, bodies)))
+
+    def points(self) -> str:
+        set_ = self.set_so_far()
         told = [
             f"with it the set's reach in {counted('coordinate', i)} is {reach:,};"
             f" it must be at most {MAX_REACH:,}"
-            for i, reach in enumerate(exact.reach(Set(form, points), self.n))
+            for i, reach in enumerate(exact.reach(set_, self.n))
             if reach > MAX_REACH
         ]
-        if form == BOX:
+        if set_.form == BOX:
             told += [
                 f"upper {high:,} is below lower {low:,} in {counted('coordinate', i)};"
                 " it must be as large or larger"
-                for i, (low, high) in enumerate(zip(points[0], points[-1]))
+                for i, (low, high) in enumerate(zip(set_.points[0], set_.points[-1]))
                 if high < low
             ]
+        return f"{self.name}: {'; '.join(told)}"
+
+    def drift(self) -> str:
+        """What is wrong with the drift, or with the input set beside it."""
+        if self.kind == DRIFT:
+            told = self.beyond(self.vector(self.body), MAX_REACH, "coordinate")
+            return f"{self.name}: {'; '.join(told)}"
+        [drift] = map(self.vector, self.bodies(DRIFT))
+        set_ = self.set_so_far()
+        reaches = zip(exact.reach(set_, self.n), drift, exact.entering_reach(set_, drift))
+        told = [
+            f"with it the set's reach in {counted('coordinate', i)} is {reach:,}, which with the"
+            f" drift of {entry:,} makes {both:,}; together they must be at most {MAX_REACH:,}"
+            for i, (reach, entry, both) in enumerate(reaches)
+            if both > MAX_REACH
+        ]
         return f"{self.name}: {'; '.join(told)}"
 
     def direction(self) -> str:
@@ -232,7 +256,7 @@ class Place:
 WORDS = {
     1: Place.ends, 2: Place.unknown, 3: Place.not_here, 4: Place.head, 5: Place.row,
     6: Place.points, 7: Place.direction, 8: Place.guard, 9: Place.too_many, 10: Place.behind_end,
-    15: Place.row,
+    15: Place.row, 17: Place.drift,
 }
 
 

@@ -18,10 +18,11 @@ def box(*sides):
     return Set(BOX, tuple(zip(*sides)))
 
 
-def single(entry, initial, input_, direction, steps, guards=()):
+def single(entry, initial, input_, direction, steps, guards=(), drift=0):
     """A model of one coordinate, as most of the specification's figures are."""
     levels = tuple((0, level) for level in guards)
-    return Model(1, steps, ((entry,),), box(initial), box(input_), ((direction,),), levels)
+    sets = box(initial), box(input_)
+    return Model(1, steps, ((entry,),), *sets, ((direction,),), levels, (drift,))
 
 
 # Two error terms that are 1 at the last step: of two coordinates, of both sets, of two inputs.

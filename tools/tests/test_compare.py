@@ -45,7 +45,7 @@ class Compare(FolderTest):
         out = self.compare("sys.stdout.write(text)", "--count", 40, "--seed", 3)[0]
         told = f", with fitted rows:{fitted} without input:{without}), refused 1:"
         self.assertIn(told.encode(), out)
-        self.assertRegex(out, rb" 10:\d+ 15:\d+; directions")
+        self.assertRegex(out, rb" 10:\d+ 15:\d+ 17:\d+; directions")
 
     def test_models_without_input_come_seldom(self):
         files = models.stream(3, 400)

@@ -19,8 +19,9 @@ import listings
 import models
 import readerfiles
 from layout import (
-    BODY_LENGTHS, BOX, GROWTH_LIMIT, LONGEST_FILE, MIN_POINTS, VERTICES, ZONOTOPE, Model, Set,
-    direction, encode, fitted, fitted_rows_of, guard, head, pattern, point, row, states_input,
+    BODY_LENGTHS, BOX, FITTED, GROWTH_LIMIT, LONGEST_FILE, MIN_POINTS, ROW, VERTICES, ZONOTOPE,
+    Model, Set, direction, drift, encode, fitted, fitted_rows_of, guard, head, pattern, point, row,
+    states_input,
 )
 from listings import Growth, Listing, Refusal, Sweep, Verdict
 
@@ -65,7 +66,7 @@ def last(model):
 
 
 class Figures(unittest.TestCase):
-    """Figures 1 to 14 and 21 to 23, the sample, and further figures worked by hand."""
+    """Figures 1 to 14 and 21 to 27, the sample, and further figures worked by hand."""
 
     def test_case_1(self):
         told = swept(single(65_536, (2, 5), (-1, 1), 3, 2))
@@ -159,6 +160,32 @@ class Figures(unittest.TestCase):
             read = exact.read_model(data)
             found = read if isinstance(read, Refusal) else read.matrix[0][0]
             self.assertEqual(found, expected, hex(bits))
+
+    def test_cases_24_and_25(self):
+        for d in (1, -1):
+            told = swept(single(65_536, (0, 0), (0, 0), d, 2, drift=3 * d))
+            self.assertEqual((told.bounds, told.slacks), ((0, 3, 6), (0, 0, 0)))
+
+    def test_case_26(self):
+        for entry, high, expected in ((1_048_576, 0, None), (1_048_576, 1, Refusal(17, 130)),
+                                      (1_048_577, 0, Refusal(17, 30))):
+            for sign in (1, -1):
+                model = single(0, (0, 0), (0, high), 1, 1, drift=sign * entry)
+                self.assertEqual(exact.read_model(encode(model)), expected or model)
+
+    def test_case_27(self):
+        """r is 1,048,576, 16, 0, 0, .. and e is 0, 0, 1, 1, ..
+
+        Supports of what enters are 524,288 counts, 8 and then 0. It reaches 1,048,576, so that half
+        of T is 0.5, 1 and 1.5 counts from step 3 on; the moved input set reaches half as far.
+        """
+        model = single(1, (0, 0), (-524_288, 0), 1, 5, drift=524_288)
+        told = swept(model)
+        self.assertEqual(told.bounds, (0, 524_288, 524_296, 524_297, 524_297, 524_298))
+        self.assertEqual(told.slacks, (0, 0, 0, 2, 2, 4))
+        moved = swept(single(1, (0, 0), (0, 524_288), 1, 5))
+        self.assertEqual(moved.bounds, (*told.bounds[:5], 524_297))
+        self.assertEqual(moved.slacks, (*told.slacks[:5], 3))
 
     def test_sample(self):
         self.assertEqual(len(SAMPLE), 186)
@@ -307,7 +334,7 @@ class Reader(unittest.TestCase):
 
     def test_lengths(self):
         self.assertEqual([len(part) for part in (self.rows, self.sets, self.asked)], [30, 80, 105])
-        self.assertEqual(sum(BODY_LENGTHS.values()), 3 + 25 + 49 + 10 * 24 + 24 + 9)
+        self.assertEqual(sum(BODY_LENGTHS.values()), 3 + 25 + 49 + 24 + 10 * 24 + 24 + 9)
 
     def test_kind_before_body(self):
         self.refused(b"\x01", 1, 0)
@@ -374,12 +401,13 @@ class Reader(unittest.TestCase):
     def test_longest_file(self):
         points = Set(VERTICES, ((1,) * 6,) * 16)
         model = Model(6, 256, ((0,) * 6,) * 6, points, points, ((1,) * 6,) * 16, ((15, 0),) * 16)
-        for count in range(7):
-            data = encode(model, fitted_rows={number: [0] * 6 for number in range(count)})
-            self.assertEqual(len(data), 1_521 + 24 * count)
+        for stated, count in itertools.product((False, True), range(7)):
+            rows = {number: [0] * 6 for number in range(count)}
+            data = encode(model, fitted_rows=rows, drift_stated=stated)
+            self.assertEqual(len(data), 1_521 + 24 * count + 25 * stated)
             self.assertEqual(exact.read_model(data), model)
-        self.assertEqual((len(data), LONGEST_FILE), (1_665, 1_665))
-        self.refused(data + b"\0", 10, 1_665)
+        self.assertEqual((len(data), LONGEST_FILE), (1_690, 1_690))
+        self.refused(data + b"\0", 10, 1_690)
 
 
 def patterns():
@@ -510,6 +538,205 @@ class Fitted(unittest.TestCase):
                       ((1, 1),), ())
         for rows in ({}, {0: (5, 6)}, {1: (2**64 - 1, 7)}, {0: (0, 0), 1: (1, 2)}):
             self.assertEqual(fitted_rows_of(encode(model, fitted_rows=rows), 2), rows)
+
+
+LIMIT = 1_048_576
+
+
+def moved(set_, by):
+    """A set moved by a vector (Sets 20)."""
+    count = 1 if set_.form == ZONOTOPE else len(set_.points)
+    points = [tuple(map(sum, zip(point, by))) for point in set_.points[:count]]
+    return Set(set_.form, (*points, *set_.points[count:]))
+
+
+class Drift(unittest.TestCase):
+    """The drift record (File 5 to 7, File 15, Refusals 17) and what enters (Recurrence 15, 16)."""
+
+    rows = head(1, 3) + row(0, [5])  # 30 bytes
+    # By the kind of an input point: those before it, and with what it and they reach 100.
+    points = {0x20: ((), 100, -100), 0x21: ((-60,), 100), 0x22: ((), 100, -100),
+              0x23: ((-50, 9), 41, -41), 0x24: ((-70, 30), 100, -100)}
+
+    def refused(self, data, number, offset):
+        self.assertEqual(exact.read_model(data), Refusal(number, offset), data.hex())
+
+    def file(self, n, entries, *inputs, last=ROW):
+        """A file with this drift and these records of the input set; the last row is of `last`."""
+        rows = [row(i, []) for i in range(n)]
+        if last == FITTED:
+            rows[-1] = fitted(n - 1, [])
+        return b"".join([head(n, 1), *rows, drift(entries), point(0x14, []), *inputs,
+                         direction([1]), b"\xff"])
+
+    def test_each_entry_is_tested(self):
+        for n, last in itertools.product(range(1, 7), (ROW, FITTED)):
+            at = 4 + 26 * n + (24 if last == FITTED else 0)
+            for i, sign in itertools.product(range(n), (1, -1)):
+                for size in (0, 1, LIMIT, LIMIT + 1, 2**31 - (sign > 0)):
+                    entries = [sign * size if j == i else 0 for j in range(n)]
+                    read = exact.read_model(self.file(n, entries, last=last))
+                    if size <= LIMIT:
+                        self.assertEqual(read.drift, tuple(entries))
+                    else:
+                        self.assertEqual(read, Refusal(17, at))
+
+    def test_entries_beyond_n_are_ignored(self):
+        for n, rubbish in itertools.product(range(1, 6), (1, LIMIT + 1, -(2**31), 2**31 - 1)):
+            read = exact.read_model(self.file(n, [3] * n + [rubbish] * (6 - n)))
+            self.assertEqual(read.drift, (3,) * n)
+
+    def test_place(self):
+        """Straight after the last row, and nowhere else."""
+        parts = [head(2, 1), row(0, []), fitted(1, []), point(0x10, []), point(0x11, []),
+                 point(0x20, []), point(0x21, []), direction([1]), guard(0, 1), b"\xff"]
+        for at in range(len(parts) + 1):
+            start = b"".join(parts[:at])
+            read = exact.read_model(start + drift([7, -7]) + b"".join(parts[at:]))
+            if at == 3:
+                self.assertEqual(read.drift, (7, -7))
+            else:
+                self.assertEqual(read, Refusal(3 if at < len(parts) else 10, len(start)))
+        self.refused(self.rows + drift([1]) * 2, 3, 55)
+        self.refused(self.rows + drift([1]) + row(1, []), 3, 55)
+        self.refused(self.rows + drift([1]) + direction([1]), 3, 55)
+        for first, second in ((0x12, 0x13), (0x14, 0x14)):
+            self.refused(self.rows + point(first, []) + drift([1]), 3, 55)
+            self.refused(self.rows + point(first, []) + point(second, []) + drift([1]), 3, 80)
+
+    def test_place_then_body_then_values(self):
+        self.refused(b"\x05", 3, 0)
+        self.refused(self.rows + b"\x05", 1, 30)
+        self.refused(self.rows + drift([LIMIT + 1])[:-1], 1, 30)
+        self.refused(self.rows + drift([LIMIT + 1]), 17, 30)
+        self.refused(self.rows + drift([LIMIT]), 1, 55)
+        self.refused(self.rows + drift([1]) + drift([LIMIT + 1])[:-1], 3, 55)
+
+    def test_reach_with_the_drift(self):
+        """The sum is tested at the point with which it passes its limit, in each coordinate."""
+        start = head(2, 1) + row(0, []) + row(1, [])
+        firsts = {0x21: 0x20, 0x23: 0x22}
+        for kind, (before, *lasts) in self.points.items():
+            kinds = [firsts.get(kind, kind), *[kind] * len(before)][: len(before)] + [kind]
+            for i, sign, last in itertools.product(range(2), (1, -1), lasts):
+                for more in (0, 1):
+                    values = (*before, last + (more if last > 0 else -more))
+                    data = start + drift([0] * i + [sign * (LIMIT - 100)]) + point(0x14, [])
+                    data += b"".join(point(which, [0] * i + [value])
+                                     for which, value in zip(kinds, values))
+                    self.refused(data, *((17, len(data) - 25) if more else (1, len(data))))
+
+    def test_the_initial_set_has_no_part_in_it(self):
+        data = self.rows + drift([LIMIT]) + point(0x14, [LIMIT]) + direction([1]) + b"\xff"
+        self.assertEqual(exact.read_model(data).drift, (LIMIT,))
+        self.refused(self.rows + drift([LIMIT]) + point(0x14, [LIMIT + 1]), 6, 55)
+
+    def test_6_comes_before_17(self):
+        start = self.rows + drift([LIMIT]) + point(0x14, [0])  # 80 bytes
+        for kind in (0x20, 0x22, 0x24):
+            self.refused(start + point(kind, [LIMIT + 1]), 6, 80)
+            self.refused(start + point(kind, [LIMIT]), 17, 80)
+        self.refused(start + point(0x22, [0]) + point(0x23, [LIMIT + 1]), 6, 105)
+        self.refused(start + point(0x22, [0]) + point(0x23, [1]), 17, 105)
+        lower = start + point(0x20, [0])
+        self.refused(lower + point(0x21, [-1]), 6, 105)  # below the lower corner
+        self.refused(lower + point(0x21, [-LIMIT - 1]), 6, 105)
+        self.refused(lower + point(0x21, [1]), 17, 105)
+        # Crossed in one coordinate, and the sum beyond its limit in the other.
+        crossed = self.file(2, [0, LIMIT], point(0x20, [3, 0]), point(0x21, [2, 1]))
+        self.refused(crossed, 6, 4 + 2 * 26 + 3 * 25)
+
+    def test_the_reach_is_a_sum_of_magnitudes(self):
+        """Also where the drift takes the set toward zero."""
+        self.assertEqual(exact.entering_reach(box((-9, -7), (-1, 2)), (9, -2)), (18, 4))
+        read = exact.read_model(self.file(1, [LIMIT], point(0x20, [-1]), point(0x21, [0])))
+        self.assertEqual(read, Refusal(17, 80))
+
+    def test_support_of_what_enters(self):
+        set_ = Set(ZONOTOPE, ((1, -2), (3, 1), (-1, 2)))
+        self.assertEqual(exact.entering_support(set_, (10, -100), (1, 1)), 4 - 90)
+        self.assertEqual(exact.entering_support(box((-2, 1), (3, 4)), (5, 7), (-1, 1)), 6 + 2)
+
+    def test_a_drift_by_itself(self):
+        """Halved at each step, 3 adds up to 3, 4.5, 5.25 and 5.625, beside 8, 4, 2, 1, 0.5."""
+        model = single(32_768, (0, 8), (0, 0), 1, 4, drift=3)
+        self.assertEqual(exact.exact_values(model), [
+            [8, 7, Fraction(13, 2), Fraction(25, 4), Fraction(49, 8)]
+        ])
+        self.assertEqual((swept(model).bounds, swept(model).slacks),
+                         ((8, 7, 7, 7, 7), (0, 0, 1, 1, 1)))
+
+    def test_it_goes_on_by_the_matrix(self):
+        """Coordinate 1 passes its drift on to coordinate 0, one step later."""
+        zero = box((0, 0), (0, 0))
+        model = Model(2, 3, ((0, 65_536), (0, 0)), zero, zero, ((1, 0),), (), (1, 10))
+        self.assertEqual(swept(model).bounds, (0, 1, 11, 11))
+        self.assertEqual(exact.exact_values(model), [[0, 1, 11, 11]])
+
+    def accepted(self, count):
+        """Random models of `count` files, each with a drift that they can have."""
+        rng = random.Random(6)
+        for data in models.stream(16, count):
+            model = exact.read_model(data)
+            if isinstance(model, Refusal):
+                continue
+            model = replace(model, drift=())
+            room = [LIMIT - x for x in exact.reach(model.input, model.n)]
+            scale = rng.choice((1, 50, LIMIT))
+            by = tuple(rng.randint(-min(x, scale), min(x, scale)) for x in room)
+            yield model, replace(model, drift=by)
+
+    def test_the_moved_input_set(self):
+        """Runs 10: the same exact largest values; its bounds are never larger."""
+        seen = collections.Counter()
+        for without, model in self.accepted(500):
+            other = replace(without, input=moved(model.input, model.drift))
+            if exact.check_cost(model) < 100_000:
+                self.assertEqual(exact.exact_values(model), exact.exact_values(other))
+                exact.check_accuracy(model, exact.listing_of(model))
+                seen["values", model.input.form] += 1
+            for entries in model.directions:
+                told, of_other = exact.sweep(model, entries), exact.sweep(other, entries)
+                if isinstance(told, Growth):
+                    self.assertEqual(told, of_other)
+                    continue
+                self.assertEqual(told.spare, of_other.spare)
+                pairs = list(zip(told.bounds, of_other.bounds))
+                self.assertTrue(all(bound >= other for bound, other in pairs))
+                seen["larger"] += any(bound > other for bound, other in pairs)
+        self.assertEqual(len(seen), 4)
+        self.assertGreater(min(seen.values()), 20, seen)
+
+    def test_zero_record(self):
+        """File 15: the same model, or the same number, 25 bytes later from that place on."""
+        seen = collections.Counter()
+        for data in (*(data for _, data in readerfiles.all_files()), *models.stream(17, 900)):
+            found = readerfiles.with_zero_drift(data)
+            if found is None:
+                continue
+            at, with_drift = found
+            expected = read = exact.read_model(data)
+            reply = "model"
+            if isinstance(read, Refusal):
+                reply = "before" if read.offset < at else read.number
+                expected = Refusal(read.number, read.offset + 25 * (read.offset >= at))
+            else:
+                self.assertEqual(read.drift, (0,) * read.n)
+            self.assertEqual(exact.read_model(with_drift), expected, data.hex())
+            seen[reply] += 1
+        self.assertEqual(set(seen), {"model", "before", 1, 2, 3, *range(6, 11)})
+
+    def test_zero_drift_has_the_listing_of_before(self):
+        """Recurrence 17: supports and reaches are those of the input set alone."""
+        for without, _ in self.accepted(100):
+            none = (0,) * without.n
+            self.assertEqual(exact.entering_reach(without.input, none),
+                             exact.reach(without.input, without.n))
+            for r in without.directions:
+                self.assertEqual(exact.entering_support(without.input, none, r),
+                                 exact.support(without.input, r))
+            self.assertEqual(exact.listing(encode(without)),
+                             exact.listing(encode(without, drift_stated=True)))
 
 
 class NoInput(unittest.TestCase):
@@ -666,7 +893,7 @@ def values_by_runs(model):
                 for entries in model.matrix
             ]
             for chosen in inputs:
-                visit(step + 1, [x + u for x, u in zip(moved, chosen)])
+                visit(step + 1, [x + u + v for x, u, v in zip(moved, chosen, model.drift)])
 
     inputs = exact.corners(model.input)
     for state in exact.corners(model.initial):

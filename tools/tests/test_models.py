@@ -22,7 +22,7 @@ from listings import Growth, Refusal
 SEED, COUNT = 1, 1_500
 
 NEAREST = "(total + MATRIX_UNIT // 2) // MATRIX_UNIT"
-HALF_OF_T = "up(dot(e, initial_reach) + input_errors, 2)"
+HALF_OF_T = "up(dot(e, initial_reach) + entered_errors, 2)"
 SCALED = "nearest(MATRIX_UNIT * value)"
 TIE = "(rest == Fraction(1, 2) and below % 2 == 1)"
 WITHIN = "value is not None and abs(value) <= MAX_FACTOR"
@@ -57,12 +57,12 @@ EDITS = (
     ("sum_with_whole_e", "abs(x) + up(y, 2)", "abs(x) + y"),
     ("sum_with_half_of_e_rounded_down", "abs(x) + up(y, 2)", "abs(x) + y // 2"),
     ("e_rounded_down", "up(dot(magnitude, e), MATRIX_UNIT)", "dot(magnitude, e) // MATRIX_UNIT"),
-    ("half_of_t_rounded_down", HALF_OF_T, "(dot(e, initial_reach) + input_errors) // 2"),
-    ("whole_t_in_bound", "inputs + half", "inputs + dot(e, initial_reach) + input_errors"),
+    ("half_of_t_rounded_down", HALF_OF_T, "(dot(e, initial_reach) + entered_errors) // 2"),
+    ("whole_t_in_bound", "entered + half", "entered + dot(e, initial_reach) + entered_errors"),
     ("slack_not_doubled", "2 * half", "half"),
     ("slack_of_twice_t", "2 * half", "4 * half"),
     ("bound_rounded_down", "up(raw_bound, DIRECTION_UNIT)", "raw_bound // DIRECTION_UNIT"),
-    ("input_error_lost", "input_errors += dot(e, input_reach)", "pass"),
+    ("input_error_lost", "entered_errors += dot(e, entered_reach)", "pass"),
     ("lower_corner_taken", "high if x > 0 else low", "low if x > 0 else high"),
     ("generator_signed", "abs(dot(generator, r))", "dot(generator, r)"),
     ("first_generator_signed", GENERATORS,
@@ -116,7 +116,7 @@ EDITS = (
     ("fitted_entries_beyond_n_tested", '8], "little")) for i in range(n)]',
      '8], "little")) for i in range(6)]'),
     ("fitted_entries_refused_by_5", "for value in values), 15)", "for value in values), 5)"),
-    ("reach_of_one_point", "reach(Set(form, tuple(points))", "reach(Set(form, (points[-1],))"),
+    ("reach_of_one_point", "Set(form, tuple(points))\n", "Set(form, (points[-1],))\n"),
     ("corners_crossed", "in_reach and in_order", "in_reach"),
     ("big_endian", 'int.from_bytes(data, "little", signed=True)',
      'int.from_bytes(data, "big", signed=True)'),
@@ -125,7 +125,8 @@ EDITS = (
     ("zero_direction", "in_limits and any(entries)", "in_limits"),
     ("guard_on_no_direction", "body[0] < len(directions)", "True"),
     ("entry_limit_off_by_one", "<= MAX_ENTRY", "<= MAX_ENTRY + 1"),
-    ("reach_limit_off_by_one", "<= MAX_REACH", "<= MAX_REACH + 1"),
+    ("reach_limit_off_by_one", "max(reach(so_far, n)) <= MAX_REACH",
+     "max(reach(so_far, n)) <= MAX_REACH + 1"),
     ("direction_limit_off_by_one", "<= MAX_DIRECTION_ENTRY", "<= MAX_DIRECTION_ENTRY + 1"),
     ("steps_limit_off_by_one", "stated_steps <= MAX_STEPS", "stated_steps <= MAX_STEPS + 1"),
     ("ninth_generator", "len(points) == MAX_POINTS[form]", "len(points) == MAX_POINTS[form] + 1"),
@@ -154,7 +155,7 @@ LARGER_EDITS = (
     ("old_recurrence", (
         (NEAREST, "total // MATRIX_UNIT"),
         ("abs(x) + up(y, 2)", "abs(x) + y"),
-        (HALF_OF_T, "dot(e, initial_reach) + input_errors"),
+        (HALF_OF_T, "dot(e, initial_reach) + entered_errors"),
     )),
     ("guard_or_end_behind_the_initial_set", (
         ("INPUT + VERTEX, DIRECTION}", "INPUT + VERTEX, DIRECTION, GUARD, END}"),
@@ -165,18 +166,18 @@ LARGER_EDITS = (
         ("allowed = {DIRECTION, GUARD, END}\n", "allowed = {DIRECTION, GUARD, END} | later\n"),
         ("    guards: list[tuple[int, int]] = []\n",
          "    if file.data[file.at] & 0xF0 == INPUT:\n"
-         "        input_ = _read_set(file, INPUT, n, {GUARD, END})\n"
+         "        input_ = _read_set(file, INPUT, drift, {GUARD, END})\n"
          "    guards: list[tuple[int, int]] = []\n"),
     )),
 )
 # The same with a model that shows it, where a random file seldom or never does.
 SHOWN = (
     ("coordinates_halved_apart", HALF_OF_T,
-     "sum(up(x * y, 2) for x, y in zip(e, initial_reach)) + up(input_errors, 2)", HALVED_ONCE[0]),
-    ("sets_halved_apart", HALF_OF_T, "up(dot(e, initial_reach), 2) + up(input_errors, 2)",
+     "sum(up(x * y, 2) for x, y in zip(e, initial_reach)) + up(entered_errors, 2)", HALVED_ONCE[0]),
+    ("sets_halved_apart", HALF_OF_T, "up(dot(e, initial_reach), 2) + up(entered_errors, 2)",
      HALVED_ONCE[1]),
-    ("steps_halved_apart", "input_errors += dot(e, input_reach)",
-     "input_errors += 2 * up(dot(e, input_reach), 2)", HALVED_ONCE[2]),
+    ("steps_halved_apart", "entered_errors += dot(e, entered_reach)",
+     "entered_errors += 2 * up(dot(e, entered_reach), 2)", HALVED_ONCE[2]),
     ("growth_with_half_of_e_rounded_down", "if largest > GROWTH_LIMIT",
      "if max(abs(x) + y // 2 for x, y in zip(r, e)) > GROWTH_LIMIT", BEYOND_BY_HALF),
 )
@@ -228,7 +229,7 @@ class Strength(unittest.TestCase):
 
     def test_a_slack_of_t_is_the_same(self):
         """T in place of two halves of it, rounded up: no odd T is a multiple of 1,048,576."""
-        program = edited(("2 * half", "dot(e, initial_reach) + input_errors"))
+        program = edited(("2 * half", "dot(e, initial_reach) + entered_errors"))
         self.assertFalse(any(self.differs(program, index) for index in range(500)))
 
     def test_no_edit(self):

@@ -6,7 +6,7 @@ from pathlib import Path
 from helpers import FolderTest, run_tool
 
 import refusal
-from layout import direction, fitted, guard, head, pattern, point, row
+from layout import direction, drift, fitted, guard, head, pattern, point, row
 
 ROOT = Path(__file__).resolve().parents[2]
 ROWS = head(1, 3) + row(0, [5])
@@ -18,6 +18,7 @@ FIRST_POINTS = (
     "the lower corner of the initial set (10), the centre of the initial set (12) or a vertex of"
     " the initial set (14)"
 )
+BEHIND_ROWS = f"the drift (05), {FIRST_POINTS}"
 FIRST_INPUTS = (
     "the lower corner of the input set (20), the centre of the input set (22), a vertex of the"
     " input set (24)"
@@ -34,7 +35,7 @@ class Words(unittest.TestCase):
     def test_1_the_file_ends(self):
         self.told(b"", "refused 1 at 0: the file is empty: a packed model starts with the head")
         self.told(b"\x01", "refused 1 at 0: the file ends within the head: 3 of its 4 bytes are")
-        self.told(ROWS, f"refused 1 at 30: the file ends where {FIRST_POINTS} should come")
+        self.told(ROWS, f"refused 1 at 30: the file ends where {BEHIND_ROWS} should come")
         self.told(TWO[:-1], "refused 1 at 30: the file ends within row 1 (the second): 1 of its 26"
                             " bytes is missing; get the whole file")
         self.told(head(1, 3),
@@ -55,9 +56,9 @@ class Words(unittest.TestCase):
         self.told(b"\x02",
                   "refused 3 at 0: a scaled row (02) stands where only the head (01) may", START)
         self.told(ROWS + row(1, [5]),
-                  f"refused 3 at 30: a scaled row (02) stands where only {FIRST_POINTS} may stand")
+                  f"refused 3 at 30: a scaled row (02) stands where only {BEHIND_ROWS} may stand")
         self.told(ROWS + fitted(1, []),
-                  f"refused 3 at 30: a fitted row (03) stands where only {FIRST_POINTS} may stand")
+                  f"refused 3 at 30: a fitted row (03) stands where only {BEHIND_ROWS} may stand")
         self.told(head(2, 3) + fitted(0, []) + direction([1]),
                   "a direction (30) stands where only a scaled row (02) or a fitted row (03) may")
         self.told(ROWS + point(0x12, [1]) + point(0x24, [1]),
@@ -161,6 +162,28 @@ class Words(unittest.TestCase):
         said = refusal.message("rail", head(2, 3) + wrong)
         self.assertEqual(said.count("must be a number"), 2)
         self.assertNotIn("says number", said)
+
+    def test_17_the_drift(self):
+        self.told(TWO + drift([1_048_577, -(2**31), 9]),
+                  "refused 17 at 56: the drift: entry 1,048,577 in coordinate 0 (the first) must be"
+                  " -1,048,576 to 1,048,576; entry -2,147,483,648 in coordinate 1 (the second)")
+        start = TWO + drift([9, -1_048_570]) + point(0x14, [])
+        sums = ("with it the set's reach in coordinate 1 (the second) is 7, which with the drift of"
+                " -1,048,570 makes 1,048,577; together they must be at most 1,048,576")
+        self.told(start + point(0x24, [0, 7]),
+                  f"refused 17 at 106: vertex 0 (the first) of the input set: {sums}")
+        self.told(start + point(0x22, [0, 4]) + point(0x23, [0, -3]),
+                  f"refused 17 at 131: generator 0 (the first) of the input set: {sums}")
+
+    def test_the_drift_at_its_place(self):
+        self.told(ROWS + drift([1])[:-1], "refused 1 at 30: the file ends within the drift: 1 of")
+        self.told(ROWS + drift([1]), f"refused 1 at 55: the file ends where {FIRST_POINTS} should")
+        once = "; it comes once at most, between the last row and the initial set"
+        self.told(ROWS + drift([1]) * 2, "refused 3 at 55: the drift (05) stands where only"
+                                         f" {FIRST_POINTS} may stand{once}")
+        for start in (head(1, 3), SETS, ASKED):
+            self.told(start + drift([1]), f"refused 3 at {len(start)}: the drift (05) stands", once)
+        self.told(drift([1]), f"where only the head (01) may stand; {START}")
 
     def test_not_refused(self):
         self.assertEqual(refusal.message("rail", ASKED + b"\xff"),
