@@ -1,8 +1,9 @@
 /* The C interface in use. Makes the specification's sample file (Listing 8), sweeps its direction, judges its guards, sweeps the
- * same model with a fitted row, makes two steps of Figures 5 and two of Figures 17, lists the sample in one call, and shows
- * refusals: three files, a direction with growth (Figures 8), calls that ask for what isn't there, and a buffer that is too small.
- * What it writes is compared with expected.txt. Returns 1 where a call is refused that should not be, or finishes that should
- * not, or where a number is taken for one that refuses the file and isn't, or the other way round. */
+ * same model with a fitted row, sweeps and judges the model of Figures 24, which has a drift, makes two steps of Figures 5 and two
+ * of Figures 17, lists the sample in one call, and shows refusals: five files, a direction with growth (Figures 8), calls that ask
+ * for what isn't there, and a buffer that is too small. What it writes is compared with expected.txt. Returns 1 where a call is
+ * refused that should not be, or finishes that should not, or where a number is taken for one that refuses the file and isn't, or
+ * the other way round. */
 #include "pepperscarp.h"
 
 #include <inttypes.h>
@@ -70,6 +71,11 @@ static void put_fitted(struct file *f, double entry)
     put(f, bits, 8);
     for (i = 1; i < 6; i++)
         put(f, 0, 8);
+}
+
+static void put_drift(struct file *f, int32_t entry)
+{
+    put_record(f, 0x05, entry);
 }
 
 /* The boxes [low, high] of the initial and the input set, and direction 1. Without an input set its records are left out, and the
@@ -197,7 +203,7 @@ static void list(const struct file *f, size_t room, int finished)
  * taken once. */
 static void expect_file_refused(void)
 {
-    static const int refused[256] = {0, 1, 1, 1, 1, 1, 1, 1, 1, 1, 1, 0, 0, 0, 0, 1};
+    static const int refused[256] = {0, 1, 1, 1, 1, 1, 1, 1, 1, 1, 1, 0, 0, 0, 0, 1, 0, 1};
     uint64_t answers[256];
     const uint64_t *next = answers;
     unsigned number;
@@ -228,6 +234,7 @@ int main(void)
     int64_t r[6] = {1048576};
     int64_t e[6] = {0};
     struct file sample = model(3), fitted = model(3), beyond = model(3), growing = model(11);
+    struct file drifting = model(2), too_far = model(3), together = model(3);
     int64_t level;
 
     put_scaled(&sample, 32768);
@@ -238,12 +245,26 @@ int main(void)
     put_sets(&beyond, none, to_one);
     put_scaled(&growing, 131072);
     put_sets(&growing, none, NULL);
+    put_scaled(&drifting, 65536);
+    put_drift(&drifting, 3);
+    put_sets(&drifting, none, none);
+    put_guard(&drifting, 6);
+    put_guard(&drifting, 7);
+    put_scaled(&too_far, 32768);
+    put_drift(&too_far, -1048577);
+    put_sets(&too_far, none, to_one);
+    put_scaled(&together, 32768);
+    put_drift(&together, 1048576);
+    put_sets(&together, none, to_one);
     for (level = 1; level <= 3; level++)
         put_guard(&sample, level);
     put_end(&sample);
     put_end(&fitted);
     put_end(&beyond);
     put_end(&growing);
+    put_end(&drifting);
+    put_end(&too_far);
+    put_end(&together);
 
     printf("sample %zu bytes\n", sample.length);
     sweep(&sample, sample.length, 0, 4, PEPPERSCARP_FINISHED);
@@ -253,6 +274,11 @@ int main(void)
 
     printf("fitted %zu bytes\n", fitted.length);
     sweep(&fitted, fitted.length, 0, 4, PEPPERSCARP_FINISHED);
+
+    printf("drifting %zu bytes\n", drifting.length);
+    sweep(&drifting, drifting.length, 0, 3, PEPPERSCARP_FINISHED);
+    judge(&drifting, 0, 3, PEPPERSCARP_FINISHED);
+    judge(&drifting, 1, 3, PEPPERSCARP_FINISHED);
 
     step(1, fading, r, e, PEPPERSCARP_FINISHED);
     step(1, fading, r, e, PEPPERSCARP_FINISHED);
@@ -271,6 +297,8 @@ int main(void)
     sweep(&sample, 0, 0, 4, 1);
     sweep(&sample, 185, 0, 4, 1);
     sweep(&beyond, beyond.length, 0, 4, 15);
+    sweep(&too_far, too_far.length, 0, 4, 17);
+    judge(&together, 0, 4, 17);
     sweep(&sample, sample.length, 1, 4, PEPPERSCARP_NOT_THERE);
     sweep(&sample, sample.length, 0, 3, PEPPERSCARP_WRONG_LENGTH);
     judge(&sample, 3, 4, PEPPERSCARP_NOT_THERE);

@@ -4,8 +4,8 @@
  * that looks like one of them.
  *
  * The calls: steps that are accepted and steps that are refused; the files that the arguments name; the largest models with scaled
- * and with fitted rows and every pair of kinds of sets, and those with two of a kind cut at every length and with every third byte
- * changed; growth; directions and guards that aren't there, and lists and buffers of a wrong length.
+ * rows and with fitted ones and a drift, and every pair of kinds of sets, and those with two of a kind cut at every length and with
+ * every third byte changed; growth; directions and guards that aren't there, and lists and buffers of a wrong length.
  *
  * What is measured is how far the stack pointer went: each deepest path ends in a function that pushes registers.
  * Returns 1 where a need is above its figure, or a figure above twice the need, or a call isn't answered as it should be. */
@@ -266,7 +266,7 @@ static void put_set(struct model *m, int first_kind, int set)
 #define FITTED 0x03
 
 /* The largest model: 6 coordinates, 256 steps, 16 directions, 16 guards. Its rows are of this kind, and all entries are the same.
- * An input set of NO_INPUT has no records. */
+ * One with fitted rows has a drift. An input set of NO_INPUT has no records. */
 static struct model largest(int kind, int32_t entry, int initial, int input)
 {
     struct model m;
@@ -284,6 +284,8 @@ static struct model largest(int kind, int32_t entry, int initial, int input)
         for (k = 0; k < 6; k++)
             put(&m, kind == FITTED ? bits : entry, kind == FITTED ? 8 : 4);
     }
+    if (kind == FITTED)
+        put_point(&m, 0x05, -500);
     put_set(&m, 0x10, initial);
     if (input != NO_INPUT)
         put_set(&m, 0x20, input);

@@ -126,7 +126,7 @@ class Text(unittest.TestCase):
                 )
                 self.assertEqual(none, said, path.name)
                 replies.add(none.split(b"\n")[0].split(b" at ")[0])
-        refused = {f"refused {number}".encode() for number in (*range(1, 11), 15)}
+        refused = {f"refused {number}".encode() for number in (*range(1, 11), 15, 17)}
         self.assertLessEqual({b"model 1 120", b"model 6 120", *refused}, replies)
 
     def test_every_other_head_says_its_own_steps(self) -> None:
@@ -230,8 +230,8 @@ class Text(unittest.TestCase):
             expected = exact.listing(with_corners)
             self.assertEqual(reply(with_corners).decode(), expected, path.name)
             if refused := re.fullmatch(r"refused (\d+) at (\d+)\n", expected):
-                expected = f"refused {refused[1]} at {int(refused[2]) - 50}\n"
-                self.assertGreaterEqual(int(refused[2]) - 50, at)
+                earlier = int(refused[2]) - (50 if int(refused[2]) >= at else 0)
+                expected = f"refused {refused[1]} at {earlier}\n"
             self.assertEqual(reply(data).decode(), expected, path.name)
             replies.add(expected.split("\n")[0].split(" at ")[0])
         refused = {f"refused {number}" for number in (1, 3, 7, 8, 9, 10)}
@@ -242,11 +242,12 @@ class Text(unittest.TestCase):
         directions = tuple((d + 1,) * MAX_N for d in range(MAX_DIRECTIONS))
         guards = tuple((d, 1_000) for d in range(MAX_GUARDS))
         matrix = ((9_000, -9_000) * 3,) * MAX_N
-        model = Model(MAX_N, MAX_STEPS, matrix, vertices, vertices, directions, guards)
+        sets, drift = (vertices, vertices), (MAX_REACH - 15, 15 - MAX_REACH, 3, -4, 0, 0)
+        model = Model(MAX_N, MAX_STEPS, matrix, *sets, directions, guards, drift)
         data = encode(model, fitted_rows=readerfiles.fitted_rows(model))
-        self.assertEqual(len(data), LONGEST_FILE)
+        self.assertEqual((len(data), LONGEST_FILE), (1_690, 1_690))
         self.assertEqual(reply(data).decode(), exact.listing(encode(model)))
-        self.assertEqual(reply(data + b"\xff"), b"refused 10 at 1665\n")
+        self.assertEqual(reply(data + b"\xff"), b"refused 10 at 1690\n")
 
     def test_an_empty_file_is_refused_by_1_at_0(self) -> None:
         self.assertEqual(reply(b""), b"refused 1 at 0\n")
@@ -328,6 +329,94 @@ class Fitted(unittest.TestCase):
         self.assertEqual(reply(self.file(f"02 00 {'00' * 24}", f"03 01 {self.NAN} {self.REST}")),
                          b"refused 15 at 30\n")
         self.assertEqual(reply(wrong), b"refused 3 at 0\n")
+
+
+def number(value: int) -> bytes:
+    """Four bytes, and zeros up to six numbers."""
+    return value.to_bytes(4, "little", signed=True) + bytes(20)
+
+
+class Drift(unittest.TestCase):
+    """The drift by its bytes: what it adds, where it stands and what is refused.
+
+    Models have one coordinate and an initial set of zeros. The record of the drift is at 30, the
+    initial corners are at 55 and 80, the input corners at 105 and 130.
+    """
+
+    def file(
+        self, drift: int | None, entry: int, input_: tuple[int, int], direction: int, steps: int
+    ) -> bytes:
+        head, row = bytes([1, 1, steps, 0]), b"\x02\0" + number(entry)
+        middle = b"" if drift is None else b"\x05" + number(drift)
+        corners = zip((0x10, 0x11, 0x20, 0x21), (0, 0, *input_))
+        points = (bytes([kind]) + number(corner) for kind, corner in corners)
+        return b"".join([head, row, middle, *points, b"\x30", number(direction), b"\xff"])
+
+    def told(self, data: bytes) -> str:
+        """The steps, bounds and slacks of the only direction, in one row."""
+        return "/".join(reply(data).decode().splitlines()[2:])
+
+    def test_figures_24_and_25(self) -> None:
+        for direction in (1, -1):
+            data = self.file(3 * direction, 65_536, (0, 0), direction, 2)
+            self.assertEqual(self.told(data), "0 0 0/1 3 0/2 6 0")
+        # Against the direction it takes away.
+        self.assertEqual(self.told(self.file(-3, 65_536, (0, 1), 1, 2)), "0 0 0/1 -2 0/2 -4 0")
+
+    def test_figures_26(self) -> None:
+        for sign in (1, -1):
+            said = [
+                reply(self.file(sign * entry, 0, (0, high), 1, 1)).decode().split("\n")[0]
+                for entry, high in ((MAX_REACH, 0), (MAX_REACH, 1), (MAX_REACH + 1, 0))
+            ]
+            self.assertEqual(said, ["model 1 1", "refused 17 at 130", "refused 17 at 30"])
+
+    def test_figures_27(self) -> None:
+        start = "0 0 0/1 524288 0/2 524296 0/3 524297 2/4 524297 2"
+        data = self.file(524_288, 1, (-524_288, 0), 1, 5)
+        self.assertEqual(self.told(data), f"{start}/5 524298 4")
+        moved = self.file(None, 1, (0, 524_288), 1, 5)
+        self.assertEqual(self.told(moved), f"{start}/5 524297 3")
+
+    def test_the_numbers_at_each_place(self) -> None:
+        good = self.file(7, 9, (-1, 1), 1, 1)
+        drift = good[30:55]
+        for at in (0, 4, 55, 80, 105, 130, 155, 180):
+            self.assertEqual(reply(good[:at] + drift + good[at:]), b"refused 3 at %d\n" % at)
+        self.assertEqual(reply(good + drift), b"refused 10 at 181\n")
+        for length in range(31, 55):
+            self.assertEqual(reply(good[:length]), b"refused 1 at 30\n")
+        # 6 comes before 17, also where the upper corner is below the lower.
+        for low, high, expected in ((0, -1, "6 at 130"), (0, MAX_REACH + 1, "6 at 130"),
+                                    (MAX_REACH + 1, 0, "6 at 105"), (1, 1, "17 at 105"),
+                                    (0, 1, "17 at 130")):
+            data = self.file(MAX_REACH, 9, (low, high), 1, 1)
+            self.assertEqual(reply(data).decode(), f"refused {expected}\n")
+
+    def test_a_drift_of_zeros_gets_the_reply_to_none(self) -> None:
+        # File 15, of every file of the reader's tests that comes to the place without a drift. What
+        # is expected of both is the exact program's reply to the one without.
+        replies = set()
+        for path in sorted(READER_FILES.iterdir()):
+            data = path.read_bytes()
+            found = readerfiles.with_zero_drift(data)
+            if found is None:
+                continue
+            at, with_zeros = found
+            expected = exact.listing(data)
+            self.assertEqual(reply(data).decode(), expected, path.name)
+            if refused := re.fullmatch(r"refused (\d+) at (\d+)\n", expected):
+                later = int(refused[2]) + (25 if int(refused[2]) >= at else 0)
+                expected = f"refused {refused[1]} at {later}\n"
+            self.assertEqual(reply(with_zeros).decode(), expected, path.name)
+            replies.add(expected.split("\n")[0].split(" at ")[0])
+        refused = {f"refused {number}" for number in (1, 2, 3, 6, 7, 8, 9, 10)}
+        self.assertLessEqual({"model 1 1", "model 1 120", "model 6 256", *refused}, replies)
+
+    def test_numbers_beyond_n_are_not_looked_at(self) -> None:
+        good = self.file(7, 9, (-1, 1), 1, 1)
+        for rubbish in (b"\xff", b"\x80", b"\x7f", b"\x01"):
+            self.assertEqual(reply(good[:35] + 20 * rubbish + good[55:]), reply(good))
 
 
 class OnePointMore(unittest.TestCase):

@@ -21,7 +21,7 @@ import exact
 import files
 import listings
 import models
-from layout import DEFAULT_STEPS, MAX_N, MAX_STEPS, fitted_rows_of, states_input
+from layout import DEFAULT_STEPS, MAX_N, MAX_STEPS, fitted_rows_of, states_drift, states_input
 from listings import CLEAR, GROWTH, HIT, UNKNOWN, Growth, Refusal
 
 TIME_LIMIT = 10  # seconds for one file
@@ -67,6 +67,7 @@ class Counts:
             return
         self.seen["accepted"] += 1
         self.seen["with fitted rows"] += bool(fitted_rows_of(data, told.n))
+        self.seen["with a drift"] += states_drift(data)
         self.seen["without input"] += not states_input(data)
         self.seen[f"n {told.n}"] += 1
         self.seen[f"K {told.steps}"] += 1
@@ -82,7 +83,7 @@ class Counts:
         return (
             f"{self.seen['accepted']} accepted (n {counted('n ', list(range(1, MAX_N + 1)))},"
             f" K {counted('K ', [DEFAULT_STEPS, MAX_STEPS])},"
-            f" {counted('', ['with fitted rows', 'without input'])}),"
+            f" {counted('', ['with fitted rows', 'with a drift', 'without input'])}),"
             f" refused {counted('refused ', list(exact.REASONS))};"
             f" directions {counted('', ['swept', 'growth'])};"
             f" guards {counted('', [HIT, UNKNOWN, CLEAR, GROWTH])};"

@@ -23,7 +23,7 @@ from layout import (
     BODY_LENGTHS, BOX, DIRECTION, END, FITTED, GUARD, HEAD, INITIAL, INPUT, LONGEST_FILE,
     MATRIX_UNIT, MAX_DIRECTION_ENTRY, MAX_DIRECTIONS, MAX_ENTRY, MAX_GUARDS, MAX_LEVEL, MAX_N,
     MAX_POINTS, MAX_REACH, MAX_STEPS, MIN_LEVEL, READ_LIMIT, ROW, ROW_KINDS, VERTICES, ZONOTOPE,
-    Model, Set, Vector, guard, head, zero_box, pattern, point, records,
+    Model, Set, Vector, drift, guard, head, zero_box, pattern, point, records,
 )
 from listings import Growth
 
@@ -154,6 +154,18 @@ def stretch(points: list[list[int]], form: str, index: int, i: int, reach: int) 
     points[index][i] = sign * (reach - others)
 
 
+def _drift(rng: random.Random, model: Model, largest: bool = False) -> Vector:
+    """A drift that the model can have: of any size, or as large as its input set leaves room."""
+    scale = rng.choice((1, 9, 2_000, MAX_REACH))
+    entries = []
+    for reach in exact.reach(model.input, model.n):
+        room = MAX_REACH - reach
+        at_limit = largest or scale == MAX_REACH and rng.random() < 0.5
+        size = room if at_limit else rng.randint(0, min(scale, room))
+        entries.append(rng.choice((-1, 1)) * size)
+    return tuple(entries)
+
+
 def _direction(rng: random.Random, n: int) -> Vector:
     limit = rng.choice((1, 1, 3, 20, MAX_DIRECTION_ENTRY))
     entries = [rng.randint(-limit, limit) for _ in range(n)]
@@ -174,20 +186,24 @@ def _level(rng: random.Random, swept: exact.Sweep | Growth) -> int:
 
 
 def _largest(rng: random.Random) -> Model:
-    """A model with every count, the sets' reaches and the steps at their limits."""
+    """A model with every count, the reaches and the steps at their limits.
+
+    Either the input set reaches as far as it may, or it does so together with a drift.
+    """
     n = MAX_N
     extreme = MAX_DIRECTION_ENTRY
-    return Model(
+    model = Model(
         n=n,
         steps=MAX_STEPS,
         matrix=_matrix(rng, n, rng.choice(("shuffled", "calm"))),
         initial=_set(rng, n, largest=True),
-        input=_set(rng, n, largest=True),
+        input=_set(rng, n, largest=rng.random() < 0.5),
         directions=tuple(
             tuple(rng.choice((-extreme, extreme)) for _ in range(n)) for _ in range(MAX_DIRECTIONS)
         ),
         guards=(),
     )
+    return replace(model, drift=_drift(rng, model, largest=True))
 
 
 def random_model(rng: random.Random) -> Model:
@@ -203,10 +219,12 @@ def random_model(rng: random.Random) -> Model:
     choice = rng.random()
     if choice < 0.03:
         model = _edge(rng, model)
-    elif choice < 0.032:
-        model = _largest(rng)
     if rng.random() < 0.08:
         model = replace(model, input=zero_box(model.n))
+    if rng.random() < 0.5:
+        model = replace(model, drift=_drift(rng, model))
+    if 0.03 <= choice < 0.032:
+        model = _largest(rng)
     return replace(model, guards=_guards(rng, model))
 
 
@@ -252,9 +270,10 @@ def _fitted_rows(rng: random.Random, model: Model) -> dict[int, Vector]:
 
 
 def _records(rng: random.Random, model: Model, stated_steps: int | None = None) -> list[bytes]:
-    """The records of a model, most of the time without those of an input set that is zero."""
+    """The records of a model, most of the time without those of what is zero."""
     left_out = model.input == zero_box(model.n) and rng.random() < 0.8
-    return records(model, stated_steps, not left_out, _fitted_rows(rng, model))
+    fitted_rows = _fitted_rows(rng, model)
+    return records(model, stated_steps, not left_out, fitted_rows, rng.random() < 0.15)
 
 
 def _stated(rng: random.Random, model: Model) -> list[bytes]:
@@ -351,6 +370,30 @@ def _overreaching(rng: random.Random, model: Model) -> list[bytes]:
     return _records(rng, replace(model, **{name: Set(set_.form, tuple(map(tuple, points)))}))
 
 
+def _overdrifting(rng: random.Random, model: Model) -> list[bytes]:
+    """The records of a model whose drift is beyond its limit, or is so with the input set.
+
+    The sum is at its limit or beyond it by one; or the input set is wrong by itself as well.
+    """
+    i = rng.randrange(model.n)
+    size = rng.choice((1, MAX_REACH // 2, MAX_REACH, rng.randint(1, MAX_REACH)))
+    points = [list(p) for p in model.input.points]
+    how = rng.choice(("own", *("sum",) * 4, *("both",) * 2))
+    if how == "own":
+        size = rng.choice((MAX_REACH + 1, 2**31 - 1))
+    elif how == "sum":
+        reach = MAX_REACH - size + rng.choice((0, 1, 1))
+        stretch(points, model.input.form, rng.randrange(len(points)), i, reach)
+    elif model.input.form == BOX and rng.random() < 0.5:
+        points[1][i] = points[0][i] - 1
+        size = MAX_REACH - abs(points[0][i])
+    else:
+        stretch(points, model.input.form, rng.randrange(len(points)), i, MAX_REACH + 1)
+    entries = tuple(rng.choice((-1, 1)) * size if j == i else 0 for j in range(model.n))
+    set_ = Set(model.input.form, tuple(map(tuple, points)))
+    return _records(rng, replace(model, input=set_, drift=entries))
+
+
 def _crowded(rng: random.Random, model: Model) -> list[bytes]:
     """The records of a model with one list at its largest count, or one beyond it."""
     extra = rng.choice((0, 1))
@@ -365,6 +408,7 @@ def _crowded(rng: random.Random, model: Model) -> list[bytes]:
         points = [[rng.randint(-9, 9) for _ in range(model.n)] for _ in range(MAX_POINTS[form])]
         points = sorted(points) + [points[0]] * extra
         model = replace(model, **{what: Set(form, tuple(map(tuple, points)))})
+        model = replace(model, drift=() if what == "input" else model.drift)
     return _records(rng, model)
 
 
@@ -396,11 +440,11 @@ def _with_wrong_sets(rng: random.Random, model: Model) -> list[bytes]:
 def _disordered(rng: random.Random, model: Model) -> list[bytes]:
     """The records of a model with one or two swapped, dropped, doubled, put elsewhere or new.
 
-    Or a guard or the end stands right behind the initial set.
+    Or a drift stands anywhere, or a guard or the end right behind the initial set.
     """
     parts = _records(rng, model)
     for _ in range(rng.choice((1, 1, 2))):
-        how = rng.choice(("swap", "drop", "double", "move", "kind", "unknown", "early"))
+        how = rng.choice(("swap", "drop", "double", "move", "kind", "unknown", "early", "drift"))
         i, j = rng.randrange(len(parts)), rng.randrange(len(parts))
         if how == "swap":
             parts[i], parts[j] = parts[j], parts[i]
@@ -413,6 +457,8 @@ def _disordered(rng: random.Random, model: Model) -> list[bytes]:
         elif how == "early":
             behind = max(_of_part(parts, INITIAL), default=0) + 1
             parts.insert(behind, rng.choice((guard(0, 1), bytes([END]))))
+        elif how == "drift":
+            parts.insert(j, drift(model.drift))
         else:
             kinds = BODY_LENGTHS if how == "kind" else range(256)
             parts[i] = bytes([rng.choice(list(kinds))]) + parts[i][1:]
@@ -449,13 +495,15 @@ def random_file(rng: random.Random) -> bytes:
         parts = _stated(rng, model)
     elif choice < 0.70:
         parts = _strained(rng, model)
-    elif choice < 0.76:
+    elif choice < 0.74:
         parts = _overreaching(rng, model)
-    elif choice < 0.81:
+    elif choice < 0.78:
+        parts = _overdrifting(rng, model)
+    elif choice < 0.82:
         parts = _crowded(rng, model)
-    elif choice < 0.85:
+    elif choice < 0.86:
         parts = _with_wrong_sets(rng, model)
-    elif choice < 0.91:
+    elif choice < 0.92:
         parts = _disordered(rng, model)
     else:
         return _damaged(rng, _records(rng, model))

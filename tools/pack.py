@@ -13,6 +13,7 @@ A text has one statement in a row, and `#` starts a comment:
     row [NAME] ENTRY ..           a row of the matrix, in the order of the coordinates
     scaled [NAME] ENTRY ..        the same, in whole numbers of 1/65,536
     fitted [NAME] ENTRY ..        the same, in numbers of binary64, as a fitting tool exports them
+    drift ENTRY ..                what every step adds beside the input; left out, it is zero
     initial FORM                  the initial set; FORM is box, zonotope or vertices, and below it:
       lower .., upper ..          the two corners of a box
       centre .., generator ..     the centre of a zonotope and its 1 to 8 generators
@@ -29,9 +30,9 @@ rounding shows in the text. An ENTRY of a `fitted` row, from -2 to 2 as well, is
 length, as 0.97 or -9.7e-3, or a hexadecimal float, as -0x1.8p-3. The file has the nearest number of
 binary64, bit by bit, and the reader rounds that one to the nearest multiple, in the same way and
 without a `~`. `pack` says on standard error how much was rounded, and that there is no input set
-where there is none, unless it is to be quiet. Points and levels are whole counts. What the reader
-would refuse is refused here: all mistakes, up to twenty, are told with the text's name, or NAME,
-and the row.
+where there is none, unless it is to be quiet. Points, the drift and levels are whole counts. What
+the reader would refuse is refused here: all mistakes, up to twenty, are told with the text's name,
+or NAME, and the row.
 
 A file has no names, units or time. Unpacked, its coordinates are x0, x1, .. and its directions d0,
 d1, .., or all of these are those of the text that `--names` gives. Fitted rows stay so: each entry
@@ -57,7 +58,7 @@ import exact
 import files
 import refusal
 from layout import (
-    DEFAULT_STEPS, HEAD, MATRIX_UNIT, MAX_N, ROW_KINDS, fitted_rows_of, states_input,
+    DEFAULT_STEPS, HEAD, MATRIX_UNIT, MAX_N, ROW_KINDS, fitted_rows_of, states_drift, states_input,
 )
 from listings import Refusal
 from spelling import FLOAT, decimal_text, float_text
@@ -84,6 +85,7 @@ def read_source(data: bytes, name: str = "file") -> Source:
         (None,) * len(model.directions),
         fitted=fitted,
         rounded=tuple(rounded),
+        drift_stated=states_drift(data),
     )
 
 
@@ -148,6 +150,7 @@ def write_text(source: Source) -> str:
         word = "scaled" if fitted is None else "fitted"
         written = entries if fitted is None else map(float_text, fitted)
         rows.append(statement(word if made_up else f"{word} {name}", written))
+    rows += ["", statement("drift", model.drift)] if source.drift_stated else []
     inputs = [("input", model.input)] if source.input_stated else []
     for which, set_ in [("initial", model.initial), *inputs]:
         rows += ["", f"{which} {set_.form}"]

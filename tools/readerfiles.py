@@ -14,7 +14,7 @@ import argparse
 import itertools
 import os
 from dataclasses import replace
-from typing import Iterator
+from typing import Iterator, Sequence
 
 import exact
 import files
@@ -422,7 +422,7 @@ def fitted_value_files() -> Iterator[File]:
 
 
 def fitted_length_files() -> Iterator[File]:
-    """The longest files (File 9), and what comes behind the longest of all."""
+    """The longest files without a drift, and what comes behind the longest of them."""
     for form in FORMS:
         model = made_model(form, MAX_N, full=True)
         rows = fitted_rows(model)
@@ -435,12 +435,154 @@ def fitted_length_files() -> Iterator[File]:
     )
 
 
+def with_drift(model: Model, entries: Sequence[int]) -> bytes:
+    """The file of a model with a drift record of these entries, which may be beyond n."""
+    parts = records(model)
+    return b"".join([*parts[: 1 + model.n], drift(entries), *parts[1 + model.n :]])
+
+
+def drift_place_files() -> Iterator[File]:
+    """Kind 05 at every place, and every kind behind a drift, each by its byte alone."""
+    for place, start in places().items():
+        yield f"{behind(place)}: kind 05 alone", start + bytes([DRIFT])
+    rows = {"02": places()[ROW], "03": head(1, 3) + fitted(0, [HALF])}
+    yield "after 03: kind 05 alone", rows["03"] + bytes([DRIFT])
+    for what, start in rows.items():
+        yield f"after {what}: 05 without its last byte", start + drift([1])[:-1]
+        yield f"after {what}: a drift, then no byte", start + drift([1])
+    for kind in (0x04, *BODY_LENGTHS):
+        yield f"after 05: kind {kind:02X} alone", rows["02"] + drift([1]) + bytes([kind])
+    for first in (row(0, [0, 0]), fitted(0, [0, 0])):
+        yield f"a drift after {first[0]:02X} of 2 rows", head(2, 3) + first + drift([1, 1])
+    yield "a drift before the head", drift([1]) + encode(SAMPLE)
+
+    parts = records(replace(WIDE, drift=(3, -4)))  # the drift is the fourth
+    yield "a drift in its place", b"".join(parts)
+    for at in range(1, len(parts) + 1):
+        if parts[at - 1][0] != ROW:
+            start = b"".join(parts[:at])
+            yield f"a second drift at {len(start)}", start + parts[3] + b"".join(parts[at:])
+    others = parts[:3] + parts[4:]
+    for at in range(1, len(others)):
+        if at != 3:
+            moved = [*others[:at], parts[3], *others[at:]]
+            yield f"the only drift behind {others[at - 1][0]:02X}", b"".join(moved)
+
+
+def drift_value_files() -> Iterator[File]:
+    """Entries of the drift at and beyond their limit, each of every n; and any beyond n."""
+    for n in range(1, MAX_N + 1):
+        model = replace(made_model(BOX, n), input=zero_box(n))
+        last = {n - 1: [HALF] * n} if n % 2 else {}
+        for i, size in itertools.product(range(n), (MAX_REACH, MAX_REACH + 1)):
+            for sign in (1, -1):
+                entries = tuple(sign * size if j == i else 0 for j in range(n))
+                about = f"drift entry {i} of {n} is {sign * size}"
+                # Without the input set's records the drift alone counts.
+                stated = (i + n) % 2 == 0
+                yield about, encode(replace(model, drift=entries), None, stated, last)
+    limits = itertools.cycle((MAX_REACH, -MAX_REACH))
+    for n in range(1, MAX_N + 1):
+        model = replace(made_model(VERTICES, n), drift=tuple(itertools.islice(limits, n)))
+        yield f"no input set: drift at its limits, n {n}", encode(model, input_stated=False)
+    for entry in (2**31 - 1, -(2**31)):
+        yield f"drift of {entry}", encode(replace(SAMPLE, drift=(entry,)))
+    for n in range(1, MAX_N):
+        model = made_model(FORMS[n % 3], n)
+        yield f"drift, any numbers beyond n {n}", with_drift(model, [7] * n + RUBBISH[n - 1 :])
+    wrong = drift([MAX_REACH + 1])
+    yield "a wrong drift without its last byte", places()[ROW] + wrong[:-1]
+    yield "a wrong drift a second time", places()[ROW] + drift([1]) + wrong
+    for form in FORMS:
+        model = made_model(form, n=2)
+        yield f"no drift: {form}", encode(model)
+        yield f"drift of zeros: {form}", encode(model, drift_stated=True)
+
+
+def drifting(n: int, i: int, entry: int) -> bytes:
+    """The start of a file with this drift in coordinate i, up to its initial set."""
+    rows = b"".join(records(made_model(VERTICES, n))[: 1 + n])
+    return rows + drift([0] * i + [entry]) + point(INITIAL + VERTEX, [])
+
+
+def entering_files() -> Iterator[File]:
+    """The sum of the input set's reach and the drift: at its limit, beyond by one, and 6 before."""
+    # By the kind of a point: those before it in its coordinate, and what makes the reach 100.
+    points = {
+        LOWER: ((), -100, 100), UPPER: ((-60,), 100), CENTRE: ((), -100, 100),
+        GENERATOR: ((-50, 9), -41, 41), VERTEX: ((-70, 30), -100, 100),
+    }
+    firsts = {UPPER: LOWER, GENERATOR: CENTRE}
+    signs, coordinates = itertools.cycle((1, 1, -1, -1)), itertools.cycle(range(MAX_N))
+    for which, (before, *lasts) in points.items():
+        kinds = [firsts.get(which, which)] * bool(before) + [which] * max(len(before), 1)
+        for last in lasts:
+            i, sign = next(coordinates), next(signs)
+            for more in (0, 1):
+                values = (*before, last + (more if last > 0 else -more))
+                data = drifting(MAX_N, i, sign * (MAX_REACH - 100)) + b"".join(
+                    point(INPUT + kind, [0] * i + [value]) for kind, value in zip(kinds, values)
+                )
+                what = "beyond its limit by one" if more else "at its limit"
+                about = f"sum {what} at {INPUT + which:02X}, {last} in {i} with a drift of {sign}"
+                yield about, data if more else data + bytes([END])
+    for i, sign, side in itertools.product(range(MAX_N), (1, -1), (1, -1)):
+        about = f"sum beyond its limit in the last coordinate of {i + 1}, {sign} and {side}"
+        entry = sign * (MAX_REACH // 2)
+        last_point = point(INPUT + VERTEX, [0] * i + [side * (MAX_REACH // 2 + 1)])
+        yield about, drifting(i + 1, i, entry) + last_point
+
+    two = ROWS + drift([0, MAX_REACH]) + point(INITIAL + VERTEX, [MAX_REACH, MAX_REACH])
+    upper, generator = INPUT + UPPER, INPUT + GENERATOR
+    corner, centre = point(INPUT + LOWER, [3, 0]), point(INPUT + CENTRE, [0, 0])
+    for what, data in (
+        ("reach beyond its limit at 20", two + point(INPUT + LOWER, [0, MAX_REACH + 1])),
+        ("reach beyond its limit at 21", two + corner + point(upper, [3, MAX_REACH + 1])),
+        ("crossed corners", two + corner + point(upper, [3, -1])),
+        ("crossed corners in the other coordinate", two + corner + point(upper, [2, 1])),
+        ("reach beyond its limit at 22", two + point(INPUT + CENTRE, [0, -MAX_REACH - 1])),
+        ("reach beyond its limit at 23", two + centre + point(generator, [0, MAX_REACH + 1])),
+        ("reach beyond its limit at 24", two + point(INPUT + VERTEX, [0, -(2**31)])),
+        ("reach beyond in the other coordinate", two + point(INPUT + VERTEX, [MAX_REACH + 1, 1])),
+    ):
+        yield f"6 before 17: {what}", data
+    yield "17 at the upper corner", two + corner + point(upper, [3, 1])
+    yield "17 at a corner without its last byte", two + point(INPUT + LOWER, [0, 1])[:-1]
+    yield "17 at a ninth generator", two + centre + point(generator, [0, 0]) * 8 + point(
+        generator, [0, 1]
+    )
+    yield "17 toward zero", two + point(INPUT + VERTEX, [0, -1])
+    yield "the initial set beside the drift", two + ASKED + bytes([END])
+    yield "6 at the initial set", ROWS + drift([0, MAX_REACH]) + point(
+        INITIAL + VERTEX, [0, MAX_REACH + 1]
+    )
+    spread = Set(ZONOTOPE, ((-9, 8), *((1, -2),) * 8))
+    full = replace(made_model(BOX, n=2), input=spread, drift=(17 - MAX_REACH, MAX_REACH - 24))
+    yield "sums at their limit with eight generators", encode(full)
+    box = Set(BOX, ((-7, 5), (6, 5)))
+    full = replace(made_model(BOX, n=2), input=box, drift=(7 - MAX_REACH, 5 - MAX_REACH))
+    yield "sums at their limit with corners", encode(full)
+
+
+def drift_length_files() -> Iterator[File]:
+    """The longest files (File 9), and what comes behind the longest of all."""
+    for form in FORMS:
+        model = replace(made_model(form, MAX_N, full=True), drift=(1, -2, 3, -4, 5, -6))
+        rows = fitted_rows(model)
+        yield f"longest with {form}, fitted rows and a drift", encode(model, fitted_rows=rows)
+    longest = encode(model, fitted_rows=rows)
+    yield "the longest file, then a byte", longest + b"\0"
+    yield "the longest file without its end", longest[:-1]
+    yield "longest with a drift and scaled rows", encode(model)
+
+
 def all_files() -> list[File]:
     """All files, in their order."""
     makers = (
         accepted_files, order_files, count_files, value_files, spoilt_files, steps_files,
         behind_initial_files, no_input_files, fitted_place_files, mixed_files, fitted_value_files,
-        fitted_length_files,
+        fitted_length_files, drift_place_files, drift_value_files, entering_files,
+        drift_length_files,
     )
     return [file for maker in makers for file in maker()]
 

@@ -84,10 +84,12 @@ class Source:
     time: tuple[Fraction, str] | None = None  # how long a step takes, and in which unit
     fitted: dict[int, Vector] = field(default_factory=dict)  # the fitted rows, by their numbers
     rounded: tuple[Rounded, ...] = ()  # in the order of the matrix
+    drift_stated: bool = False  # which it may be also where it is zero
 
     @property
     def data(self) -> bytes:
-        return encode(self.model, self.stated_steps, self.input_stated, self.fitted)
+        stated = self.stated_steps, self.input_stated
+        return encode(self.model, *stated, self.fitted, self.drift_stated)
 
 
 class _Wrong(Exception):
@@ -147,6 +149,16 @@ class _SetText:
     doubtful: bool = False
     points: list[list[int | None]] = field(default_factory=list)
 
+    @property
+    def sure_form(self) -> str:
+        """Its form; where that is not sure, the one that has the least reach."""
+        return VERTICES if self.doubtful or self.form is None else self.form
+
+    def reach(self, column: int, *more: int) -> int:
+        """How far its points reach, wrong numbers left out, with more of them behind."""
+        entries = [point[column] or 0 for point in self.points] + [*more]
+        return exact.reach(Set(self.sure_form, tuple((x,) for x in entries or [0])), 1)[0]
+
 
 class _Parser:
     """Takes the statements of a text one by one, and tests each against its limits."""
@@ -173,6 +185,7 @@ class _Parser:
         self.surplus: list[tuple[int, str]] = []  # rows behind the last: where, message
         self.fitted: dict[int, list[str]] = {}  # the entries of each fitted row
         self.rounded: list[Rounded] = []
+        self.drift: list[int | None] = []
         self.sets: dict[str, _SetText] = {}
         self.open: _SetText | None = None  # the set that points belong to
         self.lost_sets = 0  # sets and points that may have been meant for a set that is missing
@@ -185,6 +198,7 @@ class _Parser:
             "steps": self.take_steps,
             "time": self.take_time,
             **{word: partial(self.take_row, form) for word, form in ROW_FORMS.items()},
+            "drift": self.take_drift,
             "initial": lambda words: self.take_set("initial", words),
             "input": lambda words: self.take_set("input", words),
             "direction": self.take_direction,
@@ -328,18 +342,34 @@ class _Parser:
         )
 
     def point_entry(self, set_: _SetText, column: int, word: str) -> int:
-        """A point's number, tested with the points before it."""
+        """A point's number, tested with the points before it, and with the drift above it."""
         value, name = int(word), self.coordinates[column]
-        form = VERTICES if set_.doubtful or set_.form is None else set_.form
-        before = [point[column] for point in set_.points]
-        told = tuple((entry or 0,) for entry in before) + ((value,),)
-        reach = exact.reach(Set(form, told), 1)[0]
+        reach = set_.reach(column, value)
         if reach > MAX_REACH:
             which = f"the {set_.which} set" if set_.which else "the set"
             _fail(f"the reach of {which} in {name!r} is {reach:,}, beyond {MAX_REACH:,}")
-        if form == BOX and before and before[0] is not None and value < before[0]:
+        before = [point[column] for point in set_.points]
+        if set_.sure_form == BOX and before and before[0] is not None and value < before[0]:
             _fail(f"upper {value:,} is below lower {before[0]:,} in {name!r}")
+        if set_.which == "input" and self.drift:
+            self.test_entering(column, reach, self.drift[column])
         return value
+
+    def drift_entry(self, column: int, word: str) -> int:
+        """A number of the drift, tested by itself, and with the input set above it."""
+        value = self.column_limit(MAX_REACH, "drift")(column)(word)
+        if "input" in self.sets:
+            self.test_entering(column, self.sets["input"].reach(column), value)
+        return value
+
+    def test_entering(self, column: int, reach: int, drift: int | None) -> None:
+        """Refuse a sum of the input set's reach and the drift's magnitude beyond its limit."""
+        both = reach + abs(drift or 0)
+        if both > MAX_REACH:
+            _fail(
+                f"the reach of the input set in {self.coordinates[column]!r}, {reach:,}, and the"
+                f" drift of {drift:,} make {both:,}, beyond {MAX_REACH:,}"
+            )
 
     # Words
 
@@ -385,6 +415,7 @@ class _Parser:
             return list(POINTS)
         words += [word for word in ("steps", "time") if word not in self.seen]
         words += ROW_FORMS if None in self.matrix else []
+        words += ["drift"] if "drift" not in self.seen else []
         words += [which for which in ("initial", "input") if which not in self.sets]
         words += ["direction"] if len(self.directions) < MAX_DIRECTIONS else []
         words += ["unit"] if len(self.units) < len(self.directions) else []
@@ -524,6 +555,10 @@ class _Parser:
         if form is FLOAT:
             self.fitted[number] = words
 
+    def take_drift(self, words: list[str]) -> None:
+        self.once("drift")
+        self.drift = self.entries(words, lambda column: partial(self.drift_entry, column))
+
     def take_set(self, which: str, words: list[str]) -> None:
         forms = list(POINT_WORDS)
         takes = f"{which} takes one of {', '.join(forms)}"
@@ -656,6 +691,7 @@ class _Parser:
             sets.get("input", zero_box(n)),
             tuple(map(tuple, self.directions.values())),
             tuple((names.index(name), level) for name, level in self.guards),
+            tuple(self.drift),
         )
         return Source(
             model,
@@ -667,6 +703,7 @@ class _Parser:
             self.time,
             {number: tuple(map(pattern_of, words)) for number, words in self.fitted.items()},
             tuple(self.rounded),
+            "drift" in self.seen,
         )
 
 

@@ -32,6 +32,9 @@ pub fn sweep(model: &Model, direction: usize, values: &mut [f64]) {
     for value in values.iter_mut().take(model.steps + 1) {
         *value = support(&model.initial, &r) + inputs;
         inputs += support(&model.input, &r);
+        for i in 0..6 {
+            inputs += r[i] * f64::from(model.drift[i]);
+        }
         let mut next = [0.0; 6];
         for p in 0..6 {
             for i in 0..6 {

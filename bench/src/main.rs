@@ -1,7 +1,7 @@
 //! Measures the sweep through the C interface against Rust of the same recurrence. Called by bench/run:
 //!
 //!     bench report ROUNDS         agreement, the sweep, and how its time grows, as Markdown
-//!     bench count WHO SETS TIMES  does one thing so often, for an instruction counter
+//!     bench count WHO SETS TIMES  does one thing so often, for an instruction counter; SETS may end in `-drift`
 //!     bench file PATH             writes the model with the largest listing
 //!     bench listing PATH          prints the listing of a model file, from the calls alone
 
@@ -12,7 +12,7 @@ mod plain;
 mod tuned;
 
 use clock::{measure, Contender, Times};
-use models::{calm, wordy, Sets};
+use models::{calm, drift, wordy, Sets};
 use pepperscarp::{Refusal, LISTING_ROOM};
 use std::hint::black_box;
 use std::process::exit;
@@ -35,6 +35,13 @@ impl Subject {
         let model = calm(SEED, n, steps, sets, directions);
         let bytes = file(&of_model(&model));
         Subject { model, bytes, bounds: vec![0; steps + 1], slacks: vec![0; steps + 1] }
+    }
+
+    /// The same with a drift.
+    fn drifting(mut self) -> Subject {
+        self.model.drift = drift(SEED, self.model.n);
+        self.bytes = file(&of_model(&self.model));
+        self
     }
 
     /// The same with fitted rows, whose numbers are those of the scaled ones.
@@ -125,11 +132,12 @@ fn report(rounds: usize) {
 fn agreement() {
     let mut compared = 0usize;
     let (mut below, mut above, mut outside, mut figures) = (0f64, 0f64, 0usize, 0usize);
-    for sets in [Sets::Boxes, Sets::Vertices] {
+    for (sets, drift) in CASES {
         for n in 1..=6 {
             for steps in [1, 32, 64, 128, 256] {
-                let mut subject = Subject::new(n, steps, sets, 16);
-                let mut with_fitted = Subject::new(n, steps, sets, 16).fitted();
+                let size = Size { n, steps, sets, drift, ..Size::FULL };
+                let mut subject = size.subject();
+                let mut with_fitted = size.subject().fitted();
                 let mut values = vec![0.0; steps + 1];
                 for direction in 0..16 {
                     let spare =
@@ -142,7 +150,7 @@ fn agreement() {
                     let read = with_fitted.call(direction);
                     let same = same && (&with_fitted.bounds, &with_fitted.slacks) == (&bounds, &slacks);
                     if !same || plain != Ok(spare) || tuned != Ok(spare) || read != Ok(spare) {
-                        fail(&format!("results differ: n {n}, K {steps}, {}, direction {direction}", sets.name()));
+                        fail(&format!("results differ: n {n}, K {steps}, {}, direction {direction}", size.name()));
                     }
                     if subject.refused(direction) != Err(Refusal::WrongLength) {
                         fail("a list that is too short isn't refused by 13");
@@ -162,8 +170,8 @@ fn agreement() {
     }
     println!("## Agreement\n");
     println!(
-        "{compared} sweeps: bounds, slacks and spare figures of the C interface, with scaled and with fitted rows, plain and tuned Rust agree \
-         to the last number."
+        "{compared} sweeps, half of them with a drift: bounds, slacks and spare figures of the C interface, with scaled and with \
+         fitted rows, plain and tuned Rust agree to the last number."
     );
     println!(
         "The float version, without error terms, is at most {below:.1} counts below and {above:.6} above the bound; of its {figures} \
@@ -180,13 +188,26 @@ struct Size {
     steps: usize,
     sets: Sets,
     directions: usize,
+    drift: bool,
 }
 
+/// The sets of a model, and whether it has a drift.
+const CASES: [(Sets, bool); 4] = [(Sets::Boxes, false), (Sets::Vertices, false), (Sets::Boxes, true), (Sets::Vertices, true)];
+
 impl Size {
-    const FULL: Size = Size { n: 6, steps: 256, sets: Sets::Boxes, directions: 16 };
+    const FULL: Size = Size { n: 6, steps: 256, sets: Sets::Boxes, directions: 16, drift: false };
+
+    fn name(self) -> String {
+        format!("{}{}", self.sets.name(), if self.drift { ", a drift" } else { "" })
+    }
 
     fn subject(self) -> Subject {
-        Subject::new(self.n, self.steps, self.sets, self.directions)
+        let subject = Subject::new(self.n, self.steps, self.sets, self.directions);
+        if self.drift {
+            subject.drifting()
+        } else {
+            subject
+        }
     }
 
     /// A contender that takes all directions in turn, at least sixteen sweeps.
@@ -240,9 +261,9 @@ fn times_of(sizes: &[Size], rounds: usize) -> Vec<Measured> {
 
 fn sweep_times(rounds: usize) {
     println!("## One sweep, n = 6, K = 256\n");
-    let both = [Sets::Boxes, Sets::Vertices];
-    for (sets, times) in both.iter().zip(times_of(&both.map(|sets| Size { sets, ..Size::FULL }), rounds)) {
-        println!("| {} | ns, median | quartiles | to tuned | to plain |\n|---|---|---|---|---|", sets.name());
+    let all = CASES.map(|(sets, drift)| Size { sets, drift, ..Size::FULL });
+    for (size, times) in all.iter().zip(times_of(&all, rounds)) {
+        println!("| {} | ns, median | quartiles | to tuned | to plain |\n|---|---|---|---|---|", size.name());
         for one in [&times.call, &times.refused, &times.fitted, &times.sweep, &times.plain, &times.tuned, &times.float] {
             let spread = one.spread();
             println!(
@@ -339,13 +360,15 @@ fn listing_times(rounds: usize) {
 // One thing, so often, for an instruction counter.
 
 fn count(who: &str, sets: &str, times: usize) {
+    let (sets, drift) = sets.strip_suffix("-drift").map_or((sets, false), |sets| (sets, true));
     let sets = match sets {
         "boxes" => Sets::Boxes,
         "vertices" => Sets::Vertices,
-        _ => fail("SETS is boxes or vertices"),
+        _ => fail("SETS is boxes or vertices, or one of these and -drift"),
     };
-    let mut subject = Subject::new(6, 256, sets, 16);
-    let mut with_fitted = Subject::new(6, 256, sets, 16).fitted();
+    let size = Size { sets, drift, ..Size::FULL };
+    let mut subject = size.subject();
+    let mut with_fitted = size.subject().fitted();
     let mut values = vec![0.0; 257];
     for k in 0..times {
         let direction = k % 16;

@@ -78,7 +78,12 @@ pub fn calm(seed: u64, n: usize, steps: usize, sets: Sets, directions: usize) ->
             direction
         })
         .collect();
-    Model { n, steps, matrix, initial, input, directions, guards: Vec::new() }
+    Model { n, steps, matrix, drift: [0; 6], initial, input, directions, guards: Vec::new() }
+}
+
+/// A drift for a model of this seed and n that `calm` makes.
+pub fn drift(seed: u64, n: usize) -> Six {
+    Random::new(seed).point(n, -200_000, 200_000)
 }
 
 /// A model with about the largest listing there is: 16 directions and guards, 256 steps, long negative bounds and long slacks.
@@ -94,5 +99,5 @@ pub fn wordy(seed: u64) -> Model {
     let (initial, input) = (far(), far());
     let directions = (0..16).map(|_| random.point(6, 900, 1_000)).collect();
     let guards = (0..16).map(|k| (k, -100_000_000_000 * k as i64)).collect();
-    Model { n: 6, steps: 256, matrix, initial, input, directions, guards }
+    Model { n: 6, steps: 256, matrix, drift: [0; 6], initial, input, directions, guards }
 }

@@ -1,9 +1,9 @@
 //! Tuned Rust of the specification's recurrence, for speed alone: flat arrays by reference, every loop to the constant 6,
-//! magnitudes and reaches taken once for a sweep, no test inside a step but that of growth. It is made for a model that has been
-//! tested, with boxes or vertex lists.
+//! magnitudes and reaches taken once for a sweep, no test inside a step but that of growth. The input set is laid out moved by the
+//! drift, which then costs a step nothing. It is made for a model that has been tested, with boxes or vertex lists.
 
 use pepperscarp::Refusal;
-use support::specification::{Form, Model, Set};
+use support::specification::{Form, Model, Set, Six};
 
 const GROWTH_LIMIT: u64 = 1_073_741_824;
 
@@ -25,13 +25,17 @@ struct Points {
     reach: [u64; 6],
 }
 
-fn lay_set(set: &Set) -> Points {
+/// A set moved by a vector, with the sum of both reaches (Recurrence 16).
+fn lay_set(set: &Set, by: &Six) -> Points {
     let mut laid = Points { is_box: set.form == Form::Box, count: set.points.len(), points: [0; 96], reach: [0; 6] };
     for (k, point) in set.points.iter().enumerate() {
         for i in 0..6 {
-            laid.points[6 * k + i] = point[i];
+            laid.points[6 * k + i] = point[i] + by[i];
             laid.reach[i] = laid.reach[i].max(u64::from(point[i].unsigned_abs()));
         }
+    }
+    for i in 0..6 {
+        laid.reach[i] += u64::from(by[i].unsigned_abs());
     }
     laid
 }
@@ -42,8 +46,8 @@ pub fn lay(model: &Model) -> Laid {
         steps: model.steps,
         matrix: [0; 36],
         magnitudes: [0; 36],
-        initial: lay_set(&model.initial),
-        input: lay_set(&model.input),
+        initial: lay_set(&model.initial, &[0; 6]),
+        input: lay_set(&model.input, &model.drift),
         directions: [[0; 6]; 16],
         count: model.directions.len(),
     };

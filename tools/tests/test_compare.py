@@ -9,7 +9,7 @@ from helpers import TOOLS, FolderTest, run_tool
 
 import exact
 import models
-from layout import FITTED, Model, offsets, states_input
+from layout import FITTED, Model, offsets, states_drift, states_input
 
 
 class Compare(FolderTest):
@@ -34,7 +34,7 @@ class Compare(FolderTest):
         accepted = sum(reply.startswith("model") for reply in replies)
         self.assertTrue(out.startswith(b"12 files of seed 3 agree: %d accepted" % accepted), out)
 
-    def test_models_without_input_and_with_fitted_rows_are_counted(self):
+    def test_models_of_each_sort_are_counted(self):
         files = list(models.stream(3, 40))
         accepted = [data for data in files if exact.listing(data).startswith("model")]
         without = sum(not states_input(data) for data in accepted)
@@ -43,7 +43,11 @@ class Compare(FolderTest):
         fitted = sum(any(data[at] == FITTED for at in offsets(data)) for data in accepted)
         self.assertTrue(len(accepted) / 4 < fitted < len(accepted) * 3 / 4, fitted)
         out = self.compare("sys.stdout.write(text)", "--count", 40, "--seed", 3)[0]
-        told = f", with fitted rows:{fitted} without input:{without}), refused 1:"
+        drifting = sum(map(states_drift, accepted))
+        self.assertTrue(len(accepted) / 4 < drifting < len(accepted) * 3 / 4, drifting)
+        self.assertNotEqual(drifting, fitted)
+        sorts = f"with fitted rows:{fitted} with a drift:{drifting} without input:{without}"
+        told = f", {sorts}), refused 1:"
         self.assertIn(told.encode(), out)
         self.assertRegex(out, rb" 10:\d+ 15:\d+ 17:\d+; directions")
 

@@ -617,7 +617,7 @@ class Drift(unittest.TestCase):
         start = head(2, 1) + row(0, []) + row(1, [])
         firsts = {0x21: 0x20, 0x23: 0x22}
         for kind, (before, *lasts) in self.points.items():
-            kinds = [firsts.get(kind, kind), *[kind] * len(before)][: len(before)] + [kind]
+            kinds = [firsts.get(kind, kind)] * bool(before) + [kind] * max(len(before), 1)
             for i, sign, last in itertools.product(range(2), (1, -1), lasts):
                 for more in (0, 1):
                     values = (*before, last + (more if last > 0 else -more))
@@ -826,7 +826,7 @@ class NoInput(unittest.TestCase):
     def damaged(self):
         """Files that have no input set, and each of them damaged in many ways."""
         rnd = random.Random(2)
-        for data in models.stream(15, 900):
+        for data in models.stream(12, 900):
             if states_input(data):
                 continue
             yield data
@@ -858,7 +858,7 @@ class NoInput(unittest.TestCase):
         self.assertGreater(min(replies.values()), 5, replies)
 
     def test_no_input_is_checked_with_the_zero_input_alone(self):
-        """Runs 8: exact largest values are those of the initial corners, moved by the matrix."""
+        """Runs 8: exact largest values are those of the initial corners, moved without an input."""
         checked = 0
         for data in models.stream(13, 400):
             model = exact.read_model(data)
@@ -871,7 +871,8 @@ class NoInput(unittest.TestCase):
                 for entries, value in zip(model.directions, values):
                     self.assertEqual(value, max(exact.dot(entries, state) for state in states), k)
                 states = [
-                    [exact.dot(entries, state) / 65_536 for entries in model.matrix]
+                    [exact.dot(entries, state) / 65_536 + x
+                     for entries, x in zip(model.matrix, model.drift)]
                     for state in states
                 ]
             checked += 1
@@ -917,7 +918,7 @@ class ExactValues(unittest.TestCase):
         self.assertEqual(values, [[0, 1, Fraction(3, 2), Fraction(7, 4)]])
 
     def test_against_all_corner_runs(self):
-        checked = 0
+        checked = drifting = 0
         for data in models.stream(7, 400):
             model = exact.read_model(data)
             if isinstance(model, Refusal) or model.steps > 4:
@@ -926,18 +927,22 @@ class ExactValues(unittest.TestCase):
             if len(states) * len(inputs) ** model.steps <= 300:
                 self.assertEqual(exact.exact_values(model), values_by_runs(model))
                 checked += 1
+                drifting += any(model.drift)
         self.assertGreater(checked, 20)
+        self.assertGreater(drifting, 10)
 
     def test_accuracy_of_random_models(self):
-        checked = without_input = 0
+        checked = without_input = drifting = 0
         for data in models.stream(8, 250):
             model = exact.read_model(data)
             if not isinstance(model, Refusal) and exact.check_cost(model) < 100_000:
                 exact.check_accuracy(model, exact.listing_of(model))
                 checked += 1
                 without_input += not states_input(data)
+                drifting += any(model.drift)
         self.assertGreater(checked, 100)
         self.assertGreater(without_input, 10)
+        self.assertGreater(drifting, 40)
 
 
 class Accuracy(unittest.TestCase):

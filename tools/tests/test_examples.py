@@ -29,7 +29,7 @@ class Examples(unittest.TestCase):
 
     def test_up_to_date(self):
         self.assertEqual(examples.stale(), [])
-        self.assertGreaterEqual(len(self.names), 9)
+        self.assertGreaterEqual(len(self.names), 10)
 
     def test_stale_is_seen(self):
         with tempfile.TemporaryDirectory() as name:
@@ -62,6 +62,8 @@ class Examples(unittest.TestCase):
         self.assertEqual(still, ["cooling"])
         fitted = {name: sorted(source_of(name).fitted) for name in self.names}
         self.assertEqual(fitted, {**dict.fromkeys(self.names, []), "fitted": [0, 1]})
+        drifting = [name for name in self.names if source_of(name).drift_stated]
+        self.assertEqual(drifting, ["summer"])
         self.assertEqual((listing_of("receipt").steps, listing_of("cooling").steps), (120, 60))
         self.assertEqual(source_of("budget").model.input.form, VERTICES)
         self.assertEqual(source_of("head").model.initial.form, ZONOTOPE)
@@ -104,6 +106,22 @@ class Examples(unittest.TestCase):
         self.assertEqual([verdict.word for verdict in said], ["CLEAR"] * 3)
         first = listing_of("receipt").guards[0]
         self.assertEqual((first.word, 60 < first.step <= 120), ("HIT", True))
+
+    def test_summer_without_its_drift(self):
+        """Its text and `examples/README.md` say which guards the drift turns, and from what."""
+        text = (examples.FOLDER / "summer.model").read_text()
+        model = pack.parse(text).model
+        self.assertEqual(model.drift, (16, 8))
+        told = [str(verdict) for verdict in listing_of("summer").guards]
+        self.assertEqual(told, ["HIT 185", "HIT 191", "CLEAR", "CLEAR", "CLEAR"])
+        without = pack.parse(text.replace("\ndrift 16 8", "")).model
+        said = [verdict.word for verdict in exact.listing_of(without).guards]
+        self.assertEqual(said, ["CLEAR"] * 4 + ["HIT"])
+        # What the rows lack to 1, of 16 degrees in counts of 1/256 and of 1/16.
+        shares = [65_536 - sum(row) for row in model.matrix]
+        for counts, places, expected in ((4_096, 1, [16.4, 8.2]), (256, 2, [1.03, 0.51])):
+            found = [round(counts * share / 65_536, places) for share in shares]
+            self.assertEqual(found, expected)
 
     def test_cooling_with_corners_of_zeros(self):
         """Its text has no input set; one from zero to zero gives the same listing and chart."""

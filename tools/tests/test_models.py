@@ -13,9 +13,10 @@ from helpers import BEYOND_BY_HALF, HALVED_ONCE, single
 
 import exact
 import models
+import refusal
 from layout import (
-    BOX, FITTED, GROWTH_LIMIT, READ_LIMIT, VERTICES, ZONOTOPE, encode, fitted_rows_of, offsets,
-    pattern, zero_box, states_input,
+    BOX, FITTED, GROWTH_LIMIT, MAX_REACH, READ_LIMIT, VERTICES, ZONOTOPE, encode, fitted_rows_of,
+    offsets, pattern, zero_box, states_drift, states_input,
 )
 from listings import Growth, Refusal
 
@@ -26,6 +27,9 @@ HALF_OF_T = "up(dot(e, initial_reach) + entered_errors, 2)"
 SCALED = "nearest(MATRIX_UNIT * value)"
 TIE = "(rest == Fraction(1, 2) and below % 2 == 1)"
 WITHIN = "value is not None and abs(value) <= MAX_FACTOR"
+ENTERING = "support(input_, r) + dot(drift, r)"
+OWN = "all(abs(entry) <= MAX_REACH for entry in drift)"
+SUM = "max(entering_reach(so_far, drift)) <= MAX_REACH"
 GENERATORS = "sum(abs(dot(generator, r)) for generator in generators)"
 LARGEST = "max(dot(vertex, r) for vertex in set_.points)"
 
@@ -129,6 +133,46 @@ EDITS = (
      "max(reach(so_far, n)) <= MAX_REACH + 1"),
     ("direction_limit_off_by_one", "<= MAX_DIRECTION_ENTRY", "<= MAX_DIRECTION_ENTRY + 1"),
     ("steps_limit_off_by_one", "stated_steps <= MAX_STEPS", "stated_steps <= MAX_STEPS + 1"),
+    ("no_drift", "file.kind({DRIFT, INITIAL", "file.kind({INITIAL"),
+    ("drift_lost", ENTERING, "support(input_, r)"),
+    ("drift_turned_round", ENTERING, "support(input_, r) - dot(drift, r)"),
+    ("drift_by_magnitude", ENTERING, "support(input_, r) + abs(dot(drift, r))"),
+    ("drift_in_place_of_the_input", ENTERING,
+     "dot(drift, r) if any(drift) else support(input_, r)"),
+    ("drift_reach_lost", "map(add, reach(input_, len(drift)), map(abs, drift))",
+     "reach(input_, len(drift))"),
+    ("drift_reach_signed", "map(abs, drift)", "drift"),
+    ("reach_of_the_moved_set", "reach(input_, len(drift)), map(abs, drift)",
+     "reach(Set(input_.form, tuple(tuple(map(add, p, drift)) if p is input_.points[0] or"
+     " input_.form != ZONOTOPE else p for p in input_.points)), len(drift)), [0] * 6"),
+    ("drift_at_the_start", "entered = entered_errors = 0",
+     "entered, entered_errors = dot(model.drift, steps[0][0]), 0"),
+    ("drift_reach_of_the_initial_set", "initial_reach = reach(model.initial, model.n)",
+     "initial_reach = entering_reach(model.initial, model.drift)"),
+    ("drift_limit_off_by_one", OWN, OWN.replace("<=", "<= 1 +")),
+    ("drift_at_its_limit_refused", OWN, OWN.replace("<=", "<")),
+    ("drift_limit_of_one_sign", OWN, OWN.replace("abs(entry)", "entry")),
+    ("drift_limit_untested", f"file.require({OWN}, 17)", "pass"),
+    ("drift_refused_by_6", f"{OWN}, 17", f"{OWN}, 6"),
+    ("drift_entries_beyond_n_tested", OWN,
+     "max(map(abs, _vector(file.data[file.start + 1 : file.at], 6))) <= MAX_REACH"),
+    ("sum_limit_off_by_one", SUM, SUM.replace("<=", "<= 1 +")),
+    ("sum_at_its_limit_refused", SUM, SUM.replace("<=", "<")),
+    ("sum_untested", f"file.require({SUM}, 17)", "pass"),
+    ("sum_refused_by_6", f"{SUM}, 17", f"{SUM}, 6"),
+    ("sum_of_one_point", SUM, SUM.replace("so_far", "Set(form, (points[-1],))")),
+    ("sum_of_the_first_coordinate_alone", SUM, "entering_reach(so_far, drift)[0] <= MAX_REACH"),
+    ("sum_of_the_whole_set_alone", SUM, f"len(points) < MIN_POINTS[form] or {SUM}"),
+    ("sum_of_the_initial_set", "file, INITIAL, (0,) * n", "file, INITIAL, drift"),
+    ("sum_before_6", "file.require(in_reach and in_order, 6)",
+     f"file.require({SUM}, 17)\n        file.require(in_reach and in_order, 6)"),
+    ("sum_before_crossed_corners", "file.require(in_reach and in_order, 6)",
+     f"file.require(in_reach, 6)\n        file.require({SUM}, 17)\n"
+     "        file.require(in_order, 6)"),
+    ("second_drift", "drift = _read_drift(file, n)\n",
+     "drift = _read_drift(file, n)\n"
+     "    if file.data[file.at : file.at + 1] == b'\\x05':\n"
+     "        drift = _read_drift(file, n)\n"),
     ("ninth_generator", "len(points) == MAX_POINTS[form]", "len(points) == MAX_POINTS[form] + 1"),
     ("seventeenth_direction", "len(directions) == MAX_DIRECTIONS", "len(directions) == 17"),
     ("seventeenth_guard", "len(guards) == MAX_GUARDS", "len(guards) == 17"),
@@ -248,7 +292,7 @@ class Stream(unittest.TestCase):
         replies = [exact.read_model(data) for data in files]
         accepted = [reply for reply in replies if not isinstance(reply, Refusal)]
         refused = {reply.number for reply in replies if isinstance(reply, Refusal)}
-        self.assertEqual(refused, {*range(1, 11), 15})
+        self.assertEqual(refused, {*range(1, 11), 15, 17})
         forms = {(model.initial.form, model.input.form) for model in accepted}
         self.assertEqual(forms, set(itertools.product((BOX, ZONOTOPE, VERTICES), repeat=2)))
         self.assertEqual({model.n for model in accepted}, set(range(1, 7)))
@@ -259,19 +303,19 @@ class Stream(unittest.TestCase):
 
     def test_no_input(self):
         """About one in ten of the accepted models, with every form and n; few state it."""
-        files = list(models.stream(SEED, 2_000))
+        files = list(models.stream(SEED, 3_000))
         replies = [(states_input(data), exact.read_model(data)) for data in files]
         accepted = [(stated, model) for stated, model in replies if not isinstance(model, Refusal)]
         zero = [stated for stated, model in accepted if model.input == zero_box(model.n)]
         without = [model for stated, model in accepted if not stated]
-        self.assertTrue(0.07 < len(zero) / len(accepted) < 0.14, (len(zero), len(accepted)))
+        self.assertTrue(0.07 < len(zero) / len(accepted) < 0.16, (len(zero), len(accepted)))
         self.assertTrue(0.7 < len(without) / len(zero) < 0.9, (len(without), len(zero)))
         self.assertEqual({model.initial.form for model in without}, {BOX, ZONOTOPE, VERTICES})
         self.assertEqual({model.n for model in without}, set(range(1, 7)))
         refused = {
             reply.number for stated, reply in replies if isinstance(reply, Refusal) and not stated
         }
-        self.assertEqual(refused, {*range(1, 11), 15})
+        self.assertEqual(refused, {*range(1, 11), 15, 17})
 
     def test_fitted_rows(self):
         """Models with and without them and with both sorts; entries of every sort; 5 before 15."""
@@ -295,6 +339,35 @@ class Stream(unittest.TestCase):
         for number, wrong in ((15, True), (5, True), (5, False)):
             self.assertGreater(seen[number, wrong], 5, seen)
 
+    def test_drift(self):
+        """About half of the models have one, of each sort; 17 and 6 come at each kind of point."""
+        seen = collections.Counter()
+        accepted = 0
+        for data in models.stream(SEED, 3_000):
+            model = exact.read_model(data)
+            if isinstance(model, Refusal):
+                seen[model.number, data[model.offset] if model.offset < len(data) else None] += 1
+                # Of a point that 6 refuses, the sum is beyond its limit too.
+                seen["6 before 17"] += model.number == 6 and sum_passed(data, model.offset)
+                continue
+            accepted += 1
+            stated, zero = states_drift(data), not any(model.drift)
+            seen["stated" if stated else "not stated"] += 1
+            seen["zero, stated"] += stated and zero
+            seen["without input"] += not zero and not states_input(data)
+            reach = exact.entering_reach(model.input, model.drift)
+            seen["sum at its limit"] += any(
+                x == MAX_REACH and y for x, y in zip(reach, model.drift)
+            )
+            seen["both signs"] += min(model.drift) < 0 < max(model.drift)
+        self.assertTrue(0.4 < seen["stated"] / accepted < 0.65, seen)
+        for what in ("zero, stated", "without input", "sum at its limit", "both signs"):
+            self.assertGreater(seen[what] / accepted, 0.02, (what, seen))
+        for kind in (0x05, *range(0x20, 0x25)):
+            self.assertGreater(seen[17, kind], 3, (hex(kind), seen))
+        self.assertGreater(seen[3, 0x05], 10, seen)
+        self.assertGreater(seen["6 before 17"], 10, seen)
+
     def test_patterns_that_become_an_entry(self):
         rng = random.Random(6)
         for entry in (0, 1, -1, 2, -2, 131_072, -131_072, 131_071, -131_071, 9_999, -65_536) * 200:
@@ -316,6 +389,15 @@ class Stream(unittest.TestCase):
             seen.update(halves_of(model))
         for what, share in (("above 0", 0.02), ("below 0", 0.02), ("odd T", 0.3)):
             self.assertGreater(seen[what] / accepted, share, seen)
+
+
+def sum_passed(data, offset):
+    """Whether the input points up to an offset, and the one there, pass the limit with a drift."""
+    place = refusal.Place(data, offset)
+    drifts = [place.vector(body) for body in place.bodies(0x05)]
+    if not drifts or place.kind & 0xF0 != 0x20:
+        return False
+    return max(exact.entering_reach(place.set_so_far(), drifts[0])) > MAX_REACH
 
 
 def no_entry(bits):
@@ -346,17 +428,18 @@ def halves_of(model):
     """Whether the sweeps of a model round halves above and below 0, and halve an odd T."""
     found = set()
     columns = list(zip(*model.matrix))
-    initial, input_ = (exact.reach(set_, model.n) for set_ in (model.initial, model.input))
+    initial = exact.reach(model.initial, model.n)
+    entering = exact.entering_reach(model.input, model.drift)
     for direction in model.directions:
         if isinstance(exact.sweep(model, direction), Growth):
             continue
-        errors = 0  # those of the inputs
+        errors = 0  # those of what enters
         for r, e in itertools.islice(exact.working(model, direction), model.steps):
             totals = [exact.dot(column, r) for column in columns]
             halves = [total for total in totals if total % 65_536 == 32_768]
             found |= {"above 0" if total > 0 else "below 0" for total in halves}
             found |= {"odd T"} if (exact.dot(e, initial) + errors) % 2 else set()
-            errors += exact.dot(e, input_)
+            errors += exact.dot(e, entering)
     return found
 
 

@@ -4,6 +4,7 @@ import math
 import random
 import re
 import unittest
+from dataclasses import replace
 from fractions import Fraction
 
 import helpers
@@ -16,7 +17,7 @@ import pack
 import spelling
 from layout import (
     FITTED, VERTICES, ZONOTOPE, Model, Set, encode, fitted_rows_of, float_of, guard, offsets,
-    pattern, states_input,
+    pattern, states_drift, states_input,
 )
 from listings import Refusal
 
@@ -164,20 +165,95 @@ class Pack(unittest.TestCase):
             self.assertEqual(pack.rounding(pack.parse(GOOD.replace("0.5 -0.25", row))), told)
 
     def test_round_trip(self):
-        count = without_input = 0
+        count = without_input = with_drift = 0
         for data in models.stream(11, 150):
             if isinstance(exact.read_model(data), Refusal):
                 continue
             source = pack.read_source(data)
             self.assertEqual(source.input_stated, states_input(source.data))
+            self.assertEqual(source.drift_stated, states_drift(data))
             self.assertEqual(len(source.data), len(data))
             self.assertEqual(pack.parse(pack.write_text(source)).data, source.data)
             count += 1
             without_input += not source.input_stated
+            with_drift += source.drift_stated
         self.assertGreater(count, 60)
         self.assertGreater(without_input, 5)
+        self.assertGreater(with_drift, 20)
         data = pack.parse(GOOD).data
         self.assertEqual(pack.parse(pack.unpack(data)).data, data)
+
+
+class Drift(unittest.TestCase):
+    """The drift: its record, anywhere in a text, and the same text again."""
+
+    def text(self, entries, before="initial", text=GOOD):
+        """A text with this drift in front of its statement that starts so."""
+        return text.replace(before, f"drift {entries}\n{before}", 1)
+
+    def test_by_hand(self):
+        source = pack.parse(self.text("3 -1048570"))
+        self.assertEqual(source.model, replace(pack.parse(GOOD).model, drift=(3, -1_048_570)))
+        at = 4 + 2 * 26  # behind head and rows
+        record = bytes.fromhex("05 03000000 0600f0ff") + bytes(16)
+        good = pack.parse(GOOD).data
+        self.assertEqual(source.data, good[:at] + record + good[at:])
+
+    def test_anywhere(self):
+        for before in ("steps", "row", "input", "direction", "guard warm"):
+            self.assertEqual(pack.parse(self.text("3 -4", before)), pack.parse(self.text("3 -4")))
+        self.assertEqual(pack.parse(GOOD + "drift 3 -4\n"), pack.parse(self.text("3 -4")))
+
+    def test_zero_and_left_out(self):
+        """A file tells by its own records whether its text has a drift."""
+        without, zero = pack.parse(GOOD), pack.parse(self.text("0 0"))
+        self.assertEqual(zero.model, without.model)
+        self.assertEqual(len(zero.data), len(without.data) + 25)
+        self.assertNotIn("drift", pack.unpack(without.data))
+        self.assertIn("\n\ndrift 0 0\n\ninitial", pack.unpack(zero.data))
+        self.assertIn("\nscaled 1 -131072\n\ndrift 3 -4\n\ninitial zonotope\n",
+                      pack.unpack(pack.parse(self.text("3 -4")).data))
+        # Bytes 05 within records are no records.
+        data = pack.parse(GOOD.replace("vertex 5", "vertex 1285")).data
+        self.assertFalse(pack.read_source(data).drift_stated)
+
+    def test_limits(self):
+        for entries in ("1048571 0", "-1048571 1048570", "0 -1048570"):  # the input reaches 5, 6
+            for before in ("steps", "initial", "direction"):
+                self.assertTrue(pack.parse(self.text(entries, before)).drift_stated)
+        self.assertTrue(pack.parse(self.text("1048576 -1048576", text=NO_INPUT)).drift_stated)
+
+    def test_mistakes(self):
+        makes = "the reach of the input set in 'cold', 6, and the drift of"
+        for text, told in (
+            (self.text("1 2").replace("guard gap", "drift 1 2\nguard gap"), "15: a second 'drift'"),
+            (self.text("1048577 0"),
+             "6: drift 1,048,577 in column 'hot' is beyond -1,048,576 to 1,048,576"),
+            (self.text("1 -2147483648"), "6: drift -2,147,483,648 in column 'cold' is beyond"),
+            (self.text("1"), "6: expected 2 numbers, one for each coordinate, found 1"),
+            (self.text("1 2.5"), "6: '2.5' is no whole number"),
+            (self.text("hot 1"), "6: 'hot' is no whole number"),
+            (self.text("0 1048571"),
+             f"12: {makes} 1,048,571 make 1,048,577, beyond 1,048,576"),
+            (self.text("0 -1048571", "direction"),
+             f"12: {makes} -1,048,571 make 1,048,577, beyond 1,048,576"),
+            # 6 comes first, of one point.
+            (self.text("0 1048576").replace("vertex 5 -6", "vertex 5 -1048577"),
+             "12: the reach of the input set in 'cold' is 1,048,577, beyond 1,048,576"),
+        ):
+            with self.subTest(told):
+                said = mistakes(text)
+                self.assertEqual(len(said), 1, said)
+                self.assertTrue(said[0].startswith(told), said)
+
+    def test_sums_of_a_zonotope(self):
+        """The centre and the generators so far, told where the sum passes its limit."""
+        zonotope = "input zonotope\n  centre 0 -5\n  generator 0 2\n  generator 0 -4\n"
+        text = GOOD.replace(INPUT, zonotope)
+        self.assertEqual(pack.parse(self.text("0 1048565", text=text)).model.drift, (0, 1_048_565))
+        for entry, told in ((1_048_566, ["13: "]), (1_048_570, ["12: ", "13: "])):
+            said = mistakes(self.text(f"0 {entry}", text=text))
+            self.assertEqual([each[:4] for each in said], told)
 
 
 class Fitted(unittest.TestCase):
@@ -686,19 +762,20 @@ class Messages(unittest.TestCase):
             ("centre", "center", 7, "centre", "centre"),
             ("generator", "generators", 8, "generator", "generator"),
             ("centre", "mid", 7, "centre", "centre"),
-            ("vertex 5", "point 5", 11, "vertex", "vertex, time, direction"),
+            ("vertex 5", "point 5", 11, "vertex", "vertex, time, drift, direction"),
             ("row hot", "matrix hot", 4, "row",
-             "time, row, scaled, fitted, initial, input, direction"),
+             "time, row, scaled, fitted, drift, initial, input, direction"),
             ("row hot", "Row hot", 4, "row",
-             "time, row, scaled, fitted, initial, input, direction"),
+             "time, row, scaled, fitted, drift, initial, input, direction"),
             ("row hot", "fit hot", 4, "fitted",
-             "time, row, scaled, fitted, initial, input, direction"),
+             "time, row, scaled, fitted, drift, initial, input, direction"),
             ("steps 7", "stops 7", 3, "steps",
-             "steps, time, row, scaled, fitted, initial, input, direction"),
-            ("initial", "init", 6, "initial", "time, initial, input, direction"),
-            ("input", "inputs", 9, "input", "generator, time, input, direction"),
-            ("direction gap", "dir gap", 13, "direction", "time, direction, unit"),
-            ("guard gap", "limit gap", 14, "guard", "time, direction, unit, guard"),
+             "steps, time, row, scaled, fitted, drift, initial, input, direction"),
+            ("initial", "offset 1 2\ninitial", 6, "drift", "time, drift, initial, input"),
+            ("initial", "init", 6, "initial", "time, drift, initial, input, direction"),
+            ("input", "inputs", 9, "input", "generator, time, drift, input, direction"),
+            ("direction gap", "dir gap", 13, "direction", "time, drift, direction, unit"),
+            ("guard gap", "limit gap", 14, "guard", "time, drift, direction, unit, guard"),
         ):
             with self.subTest(new):
                 word = new.split()[0]

@@ -109,13 +109,50 @@ class ReaderFiles(unittest.TestCase):
             ("a fitted row, all bits changed of byte 13", "refused 15 at 4"),  # sign, exponent
             ("longest with vertices and fitted rows", "model 6 256"),
             ("the longest file with fitted rows, then a byte", "refused 10 at 1665"),
+            ("at the start: kind 05 alone", "refused 3 at 0"),
+            ("after 01: kind 05 alone", "refused 3 at 4"),
+            ("after 02: kind 05 alone", "refused 1 at 30"),
+            ("after 03: kind 05 alone", "refused 1 at 54"),
+            ("after 14: kind 05 alone", "refused 3 at 55"),
+            ("after 40: kind 05 alone", "refused 3 at 140"),
+            ("after 05: kind 05 alone", "refused 3 at 55"),
+            ("after 05: kind 12 alone", "refused 1 at 55"),
+            ("after 05: kind 30 alone", "refused 3 at 55"),
+            ("after 03: 05 without its last byte", "refused 1 at 54"),
+            ("a drift after 02 of 2 rows", "refused 3 at 30"),
+            ("a drift in its place", "model 2 1"),
+            ("a second drift at 81", "refused 3 at 81"),  # 4 + 2 * 26 + 25
+            ("a second drift at 217", "refused 10 at 217"),
+            ("the only drift behind 10", "refused 3 at 81"),
+            ("drift entry 0 of 1 is -1048576", "model 1 1"),
+            ("drift entry 0 of 1 is -1048577", "refused 17 at 54"),
+            ("drift entry 5 of 6 is 1048577", "refused 17 at 160"),  # 4 + 6 * 26
+            ("no input set: drift at its limits, n 6", "model 6 1"),
+            ("drift of -2147483648", "refused 17 at 30"),
+            ("drift, any numbers beyond n 1", "model 1 1"),
+            ("a wrong drift without its last byte", "refused 1 at 30"),
+            ("a wrong drift a second time", "refused 3 at 55"),
+            # 4 + 6 * 26 + 25 + 25 is 210; accepted so far, where the end may not stand.
+            ("sum at its limit at 21, 100 in 2 with a drift of -1", "refused 3 at 260"),
+            ("sum beyond its limit by one at 21, 100 in 2 with a drift of -1", "refused 17 at 235"),
+            ("sum beyond its limit by one at 23, 41 in 0 with a drift of -1", "refused 17 at 260"),
+            ("sum beyond its limit in the last coordinate of 2, -1 and 1", "refused 17 at 106"),
+            ("6 before 17: crossed corners in the other coordinate", "refused 6 at 131"),
+            ("6 before 17: reach beyond its limit at 24", "refused 6 at 106"),
+            ("17 at the upper corner", "refused 17 at 131"),
+            ("17 at a corner without its last byte", "refused 1 at 106"),
+            ("17 at a ninth generator", "refused 9 at 331"),
+            ("the initial set beside the drift", "model 2 3"),
+            ("6 at the initial set", "refused 6 at 81"),
+            ("longest with vertices, fitted rows and a drift", "model 6 256"),
+            ("the longest file, then a byte", "refused 10 at 1690"),
         ):
             self.assertEqual(self.replies.get(what), reply, what)
 
     def test_every_number(self):
         refused = [reply for reply in self.replies.values() if reply.startswith("refused")]
-        self.assertEqual({int(reply.split()[1]) for reply in refused}, {*range(1, 11), 15})
-        self.assertLess(len(self.files), 850)
+        self.assertEqual({int(reply.split()[1]) for reply in refused}, {*range(1, 11), 15, 17})
+        self.assertLess(len(self.files), 1_100)
 
     def test_a_head_that_says_0_is_read_as_one_that_says_120(self):
         """File 4, of every file with a whole head, whatever it holds and wherever it is refused."""
@@ -127,16 +164,16 @@ class ReaderFiles(unittest.TestCase):
                 )
                 self.assertEqual(none, said, what)
                 replies.add(int(none.split()[1]) if none.startswith("refused") else none)
-        self.assertLessEqual({"model 1 120", "model 6 120", *range(1, 11), 15}, replies)
+        self.assertLessEqual({"model 1 120", "model 6 120", *range(1, 11), 15, 17}, replies)
 
     def test_places(self):
-        """The start and behind each of 15 kinds; 37 pairs of a place and a kind are allowed."""
+        """The start and behind each of 16 kinds; 42 pairs of a place and a kind are allowed."""
         alone = [reply for what, reply in self.replies.items() if what.endswith(" alone")
                  and what.startswith(("at the start", "after"))]
         self.assertEqual(len(readerfiles.places()), 15)
-        self.assertEqual(len(alone), 16 * 17)
+        self.assertEqual(len(alone), 17 * 18)
         wrong = [reply for reply in alone if reply.startswith(("refused 2", "refused 3"))]
-        self.assertEqual(len(alone) - len(wrong), 37)
+        self.assertEqual(len(alone) - len(wrong), 42)
 
     def test_mixtures(self):
         """Rows of both kinds in each mixture are read as the scaled ones."""
@@ -152,8 +189,34 @@ class ReaderFiles(unittest.TestCase):
     def test_longest(self):
         accepted = [file for file in self.files if self.replies[file[0]].startswith("model")]
         longest = [what for what, data in accepted if len(data) >= LONGEST_FILE]
-        self.assertEqual(longest, ["longest with vertices and fitted rows"])
+        self.assertEqual(longest, ["longest with vertices, fitted rows and a drift"])
         self.assertEqual(len(dict(accepted)[longest[0]]), LONGEST_FILE)
+
+    def test_drift(self):
+        """A drift of zeros is none; numbers beyond n are none; each sum at its limit is let in."""
+        files = dict(self.files)
+        zero = [what for what in files if what.startswith("drift of zeros: ")]
+        self.assertEqual(len(zero), 3)
+        for what in zero:
+            without = files[what.replace("drift of zeros", "no drift")]
+            self.assertEqual(readerfiles.with_zero_drift(without)[1], files[what])
+            self.assertEqual(exact.read_model(files[what]), exact.read_model(without))
+        for n in range(1, 6):
+            read = exact.read_model(files[f"drift, any numbers beyond n {n}"])
+            self.assertEqual(read.drift, (7,) * n)
+        for what in ("eight generators", "corners"):
+            read = exact.read_model(files[f"sums at their limit with {what}"])
+            self.assertEqual(exact.entering_reach(read.input, read.drift), (1_048_576,) * 2)
+
+    def test_with_zero_drift(self):
+        rows, rest = readerfiles.ROWS, point(0x14, [1, 2])
+        zeros = b"\x05" + bytes(24)
+        for behind in (b"", rest, rest[:3], b"\x31", rest + zeros):
+            found = readerfiles.with_zero_drift(rows + behind)
+            self.assertEqual(found, (len(rows), rows + zeros + behind))
+        for data in (b"", b"\x01", rows[:-1], rows[:30], rows + zeros, rows + zeros[:1],
+                     b"\x01\x03" + rows[2:] + rest, rest + rows, b"\x01\0" + rows[2:]):
+            self.assertIsNone(readerfiles.with_zero_drift(data))
 
     def test_no_input_set(self):
         """Whole models without one are read as the same files with two corners of zeros."""

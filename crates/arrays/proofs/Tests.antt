@@ -11,11 +11,10 @@ use lib.Dec.{ltb, eqb}
 use lib.ListN.{length, List·getD-eq-default}
 use lib.IntN.{ℤ, pos, negℤ, natAbs}
 use lib.Signed.{leZ}
-use Rattle.integers.specs.Whole.{_⩽_}
 use Rattle.integers.specs.Sums.{vector, matrix}
 use Rattle.integers.proofs.Booleans.{and-true, and-false, or-true, or-false}
-use Rattle.integers.proofs.SignedParts.{v, #, neg, _⊕_, le!, le?, abs!, abs?}
-use Rattle.integers.proofs.Order.{⩽-of-leZ, lt-of-leZ-false}
+use Rattle.integers.proofs.SignedParts.{v, #, neg, le!, le?, abs!, abs?}
+use Rattle.integers.proofs.Order.{⩽-of-leZ, leZ-of-⩽}
 use Rattle.integers.proofs.Sums.{allBelow-at, allBelow-intro}
 use Rattle.integers.proofs.Machine.{zero-of-natAbs}
 use Rattle.arrays.specs.Tests.{between, allBetween, zeroUnless, zeroOutside}
@@ -90,17 +89,10 @@ zeroOutside-of rows columns xs z = allBelow-intro (length xs) (λ k. zeroUnless 
 pub record Small (limit : ℕ) (xs : List ℤ) : Type 0 where
   pub at : (p i : ℕ) → i < 6 → natAbs (matrix xs p i) ≤ limit
 
-leZ-of : (a b : ℤ) → a ⩽ b → leZ a b ≡ true
-leZ-of a b h = split (leZ a b) refl
-  where
-    split : (t : Bool) → leZ a b ≡ t → leZ a b ≡ true
-    split true e = e
-    split false e = absurd (omega (arith, le? (v b ⊕ # 1) (v a) (lt-of-leZ-false a b e), le? (v a) (v b) h))
-
 between-of : (limit : ℕ) (x : ℤ) → natAbs x ≤ limit → between (negℤ (pos limit)) (pos limit) x ≡ true
 between-of limit x h =
     let both = abs? (v x) limit h in
-    ap₂ _&&_ (leZ-of (negℤ (pos limit)) x (le! (neg (# limit)) (v x) (omega (arith, both .0, both .1)))) (leZ-of x (pos limit) (le! (v x) (# limit) (omega (arith, both .0, both .1))))
+    ap₂ _&&_ (leZ-of-⩽ (le! (neg (# limit)) (v x) (omega (arith, both .0, both .1)))) (leZ-of-⩽ (le! (v x) (# limit) (omega (arith, both .0, both .1))))
 
 pub allBetween-of : (limit : ℕ) (xs : List ℤ) → Small limit xs → allBetween (negℤ (pos limit)) (pos limit) xs ≡ true
 allBetween-of limit xs s = allBelow-intro (length xs) (λ k. between (negℤ (pos limit)) (pos limit) (vector xs k)) (λ k h. between-of limit (vector xs k) (subst (λ (j : ℕ). natAbs (vector xs j) ≤ limit) (place k) (s .at (k / 6) (k % 6) (omega arith))))

@@ -34,12 +34,21 @@ fn entries_of(cells: &[i64; 258]) -> [i32; 96] {
     entries
 }
 
+// The first two coordinates of the drift.
+fn drift_of(cells: &[i64; 258]) -> [i32; 6] {
+    let mut drift = [0i32; 6];
+    drift[0] = entry(cells, 0x71);
+    drift[1] = entry(cells, 0x72);
+    drift
+}
+
 // The model of a row: one direction with two entries, and the first guard's direction and level.
 fn model_of(cells: &[i64; 258]) -> Model {
     Model {
         n: count(cells, 0x02),
         steps: count(cells, 0x03),
         matrix: matrix_of(cells),
+        drift: drift_of(cells),
         initial: set_of(cells, 0x30),
         input: set_of(cells, 0x40),
         directions: 1,

@@ -78,6 +78,13 @@ leZ-of-ltZ-false (negsuc a) (negsuc b) e = le-leb a b (ltb-false b a e)
 pub ⩽-of-leZ : (a b : ℤ) → leZ a b ≡ true → a ⩽ b
 ⩽-of-leZ a b e = record { le = subst T (sym e) tt }
 
+pub leZ-of-⩽ : {a b : ℤ} → a ⩽ b → leZ a b ≡ true
+leZ-of-⩽ {a} {b} h = told (leZ a b) (h .le)
+  where
+    told : (t : Bool) → T t → t ≡ true
+    told true h = refl
+    told false h = absurd h
+
 pub lt-of-leZ-false : (a b : ℤ) → leZ a b ≡ false → b +ℤ pos 1 ⩽ a
 lt-of-leZ-false (pos a) (pos b) e = le! (# b ⊕ # 1) (# a) (omega (arith, leb-false a b e))
 lt-of-leZ-false (pos a) (negsuc b) e = le! (v (negsuc b) ⊕ # 1) (# a) (omega arith)

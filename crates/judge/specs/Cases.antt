@@ -1,4 +1,4 @@
--- Figures 1 to 12 and 16 to 22, the marked cases, as one list, and what it means that they hold. Definitions only. A case is the
+-- Figures 1 to 12, 16 to 22 and 24 to 27, the marked cases, as one list, and what it means that they hold. Definitions only. A case is the
 -- list of what the specification says in it; a saying sets a figure beside what the contracts of `support`, `reach`, `sweep` and `judge`
 -- say is answered or left, or beside the r, e, T or raw slack by which they say it. Sweeps are of direction 0 and judges of guard 0,
 -- with K + 1 elements in both lists. Where the specification names no K, it is the last step that has a figure.
@@ -46,12 +46,13 @@ abbrev pub interval : ℤ → ℤ → Set
 interval low high = setOf Box ((low ∷ []) ∷ (high ∷ []) ∷ [])
 
 -- A model with one direction, and guards with these levels on it.
-abbrev pub modelOf : ℕ → ℕ → List (List ℤ) → Set → Set → List ℤ → List ℤ → Model
-modelOf n steps matrix initial input direction levels =
+abbrev pub modelOf : ℕ → ℕ → List (List ℤ) → List ℤ → Set → Set → List ℤ → List ℤ → Model
+modelOf n steps matrix drift initial input direction levels =
     record {
       n = n;
       steps = steps;
       matrix = padded 36 (rows matrix);
+      drift = padded 6 drift;
       initial = initial;
       input = input;
       directions = 1;
@@ -61,9 +62,12 @@ modelOf n steps matrix initial input direction levels =
       levels = padded 16 levels;
     }
 
--- Of one coordinate.
+-- Of one coordinate, without a drift and with one.
 abbrev pub single : ℕ → ℤ → Set → Set → ℤ → List ℤ → Model
-single steps entry initial input direction levels = modelOf 1 steps ((entry ∷ []) ∷ []) initial input (direction ∷ []) levels
+single steps entry initial input direction levels = modelOf 1 steps ((entry ∷ []) ∷ []) [] initial input (direction ∷ []) levels
+
+abbrev pub drifting : ℕ → ℤ → ℤ → Set → Set → ℤ → Model
+drifting steps entry drift initial input direction = modelOf 1 steps ((entry ∷ []) ∷ []) (drift ∷ []) initial input (direction ∷ []) []
 
 -- ---- sayings
 
@@ -172,6 +176,7 @@ moved =
     2
     1
     ((pos 0 ∷ pos 65536 ∷ []) ∷ (pos 0 ∷ pos 0 ∷ []) ∷ [])
+    []
     (setOf Box ((pos 0 ∷ pos 7 ∷ []) ∷ (pos 1 ∷ pos 9 ∷ []) ∷ []))
     zeroBox
     (pos 1 ∷ pos 0 ∷ [])
@@ -184,6 +189,18 @@ halfway = single 2 (pos 32) (interval (negℤ (pos 1048576)) (pos 0)) zeroBox (n
 -- Figures 18, 19 and 20: entry 99,334, K, and the direction.
 abbrev pub widened : ℕ → ℤ → Model
 widened steps direction = single steps (pos 99334) zeroBox zeroBox direction []
+
+-- Figures 24 and 25: entry 65,536, the drift and the direction.
+abbrev pub pushed : ℤ → ℤ → Model
+pushed drift direction = drifting 2 (pos 65536) drift zeroBox zeroBox direction
+
+-- Figures 26: the drift, and the upper end of the input box.
+abbrev pub filled : ℤ → ℤ → Model
+filled drift high = drifting 1 (pos 65536) drift zeroBox (interval (pos 0) high) (pos 1)
+
+-- Figures 27: entry 1, the input box and the drift.
+abbrev pub shifted : ℤ → ℤ → ℤ → Model
+shifted low high drift = drifting 5 (pos 1) drift zeroBox (interval low high) (pos 1)
 
 -- ---- the cases
 
@@ -324,7 +341,42 @@ case22 =
     ∷ reaches 2 vertices (pos 4 ∷ pos 3 ∷ [])
     ∷ []
 
--- Figures 1 to 12 and 16 to 22, in one list.
+-- Figures 24.
+abbrev pub case24 : Case
+case24 =
+    numbered (pushed (pos 3) (pos 1)) 0
+    ∷ bounds (pushed (pos 3) (pos 1)) (pos 0 ∷ pos 3 ∷ pos 6 ∷ [])
+    ∷ slacks (pushed (pos 3) (pos 1)) (pos 0 ∷ pos 0 ∷ pos 0 ∷ [])
+    ∷ []
+
+-- Figures 25.
+abbrev pub case25 : Case
+case25 =
+    numbered (pushed (negℤ (pos 3)) (negℤ (pos 1))) 0
+    ∷ bounds (pushed (negℤ (pos 3)) (negℤ (pos 1))) (pos 0 ∷ pos 3 ∷ pos 6 ∷ [])
+    ∷ slacks (pushed (negℤ (pos 3)) (negℤ (pos 1))) (pos 0 ∷ pos 0 ∷ pos 0 ∷ [])
+    ∷ []
+
+-- Figures 26, of models made by hand.
+abbrev pub case26 : Case
+case26 =
+    numbered (filled (pos 1048576) (pos 0)) 0
+    ∷ numbered (filled (pos 1048576) (pos 1)) 11
+    ∷ numbered (filled (pos 1048577) (pos 0)) 11
+    ∷ []
+
+-- Figures 27.
+abbrev pub case27 : Case
+case27 =
+    numbered (shifted (negℤ (pos 524288)) (pos 0) (pos 524288)) 0
+    ∷ bounds (shifted (negℤ (pos 524288)) (pos 0) (pos 524288)) (pos 0 ∷ pos 524288 ∷ pos 524296 ∷ pos 524297 ∷ pos 524297 ∷ pos 524298 ∷ [])
+    ∷ slacks (shifted (negℤ (pos 524288)) (pos 0) (pos 524288)) (pos 0 ∷ pos 0 ∷ pos 0 ∷ pos 2 ∷ pos 2 ∷ pos 4 ∷ [])
+    ∷ numbered (shifted (pos 0) (pos 524288) (pos 0)) 0
+    ∷ bounds (shifted (pos 0) (pos 524288) (pos 0)) (pos 0 ∷ pos 524288 ∷ pos 524296 ∷ pos 524297 ∷ pos 524297 ∷ pos 524297 ∷ [])
+    ∷ slacks (shifted (pos 0) (pos 524288) (pos 0)) (pos 0 ∷ pos 0 ∷ pos 0 ∷ pos 2 ∷ pos 2 ∷ pos 3 ∷ [])
+    ∷ []
+
+-- Figures 1 to 12, 16 to 22 and 24 to 27, in one list.
 abbrev pub cases : List Case
 cases =
     case1
@@ -346,4 +398,8 @@ cases =
     ∷ case20
     ∷ case21
     ∷ case22
+    ∷ case24
+    ∷ case25
+    ∷ case26
+    ∷ case27
     ∷ []

@@ -20,10 +20,9 @@ use Rattle.integers.proofs.Machine.{getD-tabulate}
 use Rattle.stepping.specs.Limits.{matrixUnit, directionUnit}
 use Rattle.stepping.specs.Recurrence.{firstR, halfUp}
 use Rattle.stepping.proofs.Stands.{stands-first}
-use Rattle.reachability.specs.Sets.{points, supportOf, reachOf, Member}
 use Rattle.reachability.specs.Limits.{accepted}
-use Rattle.reachability.specs.Runs.{moves, direction, Run, state, denominator, Largest}
-use Rattle.reachability.specs.Recurrence.{first, errorTotal, supportTotal, rawBound, bound, slack, firstPlace}
+use Rattle.reachability.specs.Runs.{moves, direction, InSet, Run, entering, state, denominator, Largest}
+use Rattle.reachability.specs.Recurrence.{first, initialSupport, initialReach, enteringSupportOf, enteringReachOf, errorTotal, supportTotal, rawBound, bound, slack, firstPlace}
 use Rattle.reachability.specs.Verdicts.{hitAt, unknownAt, verdict}
 use Rattle.reachability.specs.Accuracy.{NoRunPasses, SomeRunWithin, ReachedBy, WithinSlackOf, VerdictHolds, Accurate, AccuracyRule}
 use Rattle.reachability.specs.Answers.{boundsOf, slacksOf}
@@ -31,10 +30,11 @@ use Rattle.reachability.specs.declared.model.Model.{Model}
 use Rattle.reachability.specs.declared.verdicts.Judged.{Judged}
 use Rattle.reachability.specs.declared.verdicts.Judged.the-variants.{Hit, Unknown, Clear, Invalid, NoGuard, WrongLength, Growth}
 use Rattle.reachability.proofs.sets.Laws.{SetLaws}
+use Rattle.reachability.proofs.sets.Shifted.{Shifted, shifted-laws}
 use Rattle.reachability.proofs.model.Facts.{ModelFacts, model-facts}
 use Rattle.reachability.proofs.FirstPlace.{firstPlace-passes, firstPlace-before}
 use Rattle.reachability.proofs.VerdictLaws.{reaches-le, reaches-false-le, reaches-mono, reaches-scale, reaches-unscale}
-use Rattle.reachability.proofs.Walks.{one-times, top, value-le-top, attains, halves-sums}
+use Rattle.reachability.proofs.Walks.{one-times, state-same, top, value-le-top, attains, halves-sums}
 
 -- ---- facts of numbers: x is the exact largest value and f that value in 1 / 1,048,576, p is 65,536 ^ k, s the sum of supports, e
 -- half of the errors
@@ -71,11 +71,12 @@ between p level x b s high low below above =
 -- ---- the exact largest value
 
 module _ (m : Model) (facts : ModelFacts m) where
-  lawsI : SetLaws (m .n) (Member (m .n) (m .initial .shape) (m .initial .count) (points (m .initial .points))) (supportOf (m .n) (m .initial .shape) (m .initial .count) (points (m .initial .points))) (reachOf (m .initial .shape) (m .initial .count) (points (m .initial .points)))
+  lawsI : SetLaws (m .n) (InSet (m .n) (m .initial)) (initialSupport m) (initialReach m)
   lawsI = facts .initial .laws
 
-  lawsU : SetLaws (m .n) (Member (m .n) (m .input .shape) (m .input .count) (points (m .input .points))) (supportOf (m .n) (m .input .shape) (m .input .count) (points (m .input .points))) (reachOf (m .input .shape) (m .input .count) (points (m .input .points)))
-  lawsU = facts .input .laws
+  -- of what enters: the input set, moved by the drift
+  lawsU : SetLaws (m .n) (Shifted (InSet (m .n) (m .input)) (vector (m .drift))) (enteringSupportOf m) (enteringReachOf m)
+  lawsU = shifted-laws (facts .input .laws) (vector (m .drift))
 
   -- of a direction x at step k, in 1 / 65,536 ^ k
   exactAt : (ℕ → ℤ) → ℕ → ℤ
@@ -83,13 +84,16 @@ module _ (m : Model) (facts : ModelFacts m) where
 
   value-le : (x : ℕ → ℤ) (k : ℕ) → k ≤ m .steps → (q : ℕ) (run : Run m q) → dot (m .n) x (state m run k) ⩽ pos q *ℤ exactAt x k
   unfolding exactAt
-  value-le x k h q run = value-le-top (m .n) (moves m) lawsI lawsU q (run .start) (run .inputs) k (run .starts) (λ j l. run .enters j (lt-of-lt-of-le l h)) x
+  value-le x k h q run =
+      value-le-top (m .n) (moves m) lawsI lawsU q (run .start) (entering m run) k (run .starts) (λ j l. record { point = run .inputs j; inside = run .enters j (lt-of-lt-of-le l h); is = refl }) x
 
   attaining : (x : ℕ → ℤ) (k : ℕ) → (run : Run m 1) × (dot (m .n) x (state m run k) ≡ exactAt x k)
   unfolding exactAt
   attaining x k =
-      let w = attains (m .n) (moves m) lawsI lawsU k x in
-      (record { positive = le-refl 1; start = w .start; inputs = w .inputs; starts = w .starts; enters = λ j l. w .enters j }, w .attains)
+      let w = attains (m .n) (moves m) lawsI lawsU k x in (
+        record { positive = le-refl 1; start = w .start; inputs = λ j. w .enters j .point; starts = w .starts; enters = λ j l. w .enters j .inside },
+        sum-cong (m .n) (λ i h. ap (λ (z : ℤ). x i *ℤ z) (state-same (m .n) (moves m) (w .start) _ (w .inputs) k (λ j l. sym (w .enters j .is)) i)) ∙ w .attains,
+      )
 
   largest-is : (x : ℕ → ℤ) (k : ℕ) → k ≤ m .steps → Largest m x k (exactAt x k)
   largest-is x k h =

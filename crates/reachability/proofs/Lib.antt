@@ -3,3 +3,5 @@ pub mod VerdictLaws
 pub mod Walks
 pub mod AccuracyRule
 pub mod ZeroInput
+pub mod NoDrift
+pub mod MovedInput

@@ -5,25 +5,17 @@ use mathlib.Core.Bool.{Bool, true, false, cond}
 use Prim.Native.Nat.{ℕ, zero, suc, _≤_, _<_}
 use native.Mathlib.Omega.{arith}
 use borrow.Author.Tests.{lt-ltb, le-ltb}
-use lib.Dec.{T, ltb}
+use lib.Dec.{ltb}
 use lib.IntN.{ℤ, pos, _-ℤ_, _+ℤ_, _*ℤ_}
-use lib.Signed.{leZ}
 use Rattle.integers.specs.Whole.{_⩽_}
 use Rattle.integers.proofs.SignedParts.{v, #, _⊕_, le!, le?}
-use Rattle.integers.proofs.Order.{⩽-trans, ⩽-scale, ⩽-unscale, ⩽-of-leZ, lt-of-leZ-false}
+use Rattle.integers.proofs.Order.{⩽-trans, ⩽-scale, ⩽-unscale, ⩽-of-leZ, leZ-of-⩽, lt-of-leZ-false}
 use Rattle.reachability.specs.Recurrence.{firstPlace}
 use Rattle.reachability.specs.Verdicts.{reaches, hitAt, unknownAt, verdictBelow}
 use Rattle.reachability.specs.declared.verdicts.Judged.the-variants.{Hit, Unknown, Clear}
 use Rattle.reachability.proofs.FirstPlace.{firstPlace-cong}
 
 -- ---- values against a level
-
-leZ-of-⩽ : {a b : ℤ} → a ⩽ b → leZ a b ≡ true
-leZ-of-⩽ {a} {b} h = told (leZ a b) (h .le)
-  where
-    told : (t : Bool) → T t → t ≡ true
-    told true h = refl
-    told false h = absurd h
 
 pub reaches-le : (level x : ℤ) → reaches level x ≡ true → level ⩽ x
 reaches-le level x t = ⩽-of-leZ level x t

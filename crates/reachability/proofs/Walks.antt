@@ -53,8 +53,8 @@ dot-next n moves start inputs k r =
     dot-add n r (times n (moves k) (stateOf n moves start inputs k)) (λ i. pos (matrixUnit ^ suc k) *ℤ inputs k i)
     ∙ ap₂ _+ℤ_ (dot-times n (moves k) r (stateOf n moves start inputs k)) (dot-scale n (pos (matrixUnit ^ suc k)) r (inputs k))
 
--- a state looks only at the inputs before it
-state-same : (n : ℕ) (moves : ℕ → ℕ → ℕ → ℤ) (start : ℕ → ℤ) (u w : ℕ → ℕ → ℤ) (k : ℕ) → ((j : ℕ) → j < k → u j ≡ w j) → (i : ℕ) → stateOf n moves start u k i ≡ stateOf n moves start w k i
+-- a state looks only at what entered before it
+pub state-same : (n : ℕ) (moves : ℕ → ℕ → ℕ → ℤ) (start : ℕ → ℤ) (u w : ℕ → ℕ → ℤ) (k : ℕ) → ((j : ℕ) → j < k → u j ≡ w j) → (i : ℕ) → stateOf n moves start u k i ≡ stateOf n moves start w k i
 unfolding stateOf
 state-same n moves start u w zero e i = refl
 state-same n moves start u w (suc k) e i =

@@ -1,10 +1,15 @@
 pub mod Sets
 pub mod OneMore
+pub mod Entering
+pub mod Moved
 pub mod Limits
 pub mod Runs
 pub mod Recurrence
 pub mod Verdicts
 pub mod Accuracy
 pub mod Answers
+pub mod NoDrift
+pub mod MovedInput
 pub mod SetsInner
+pub mod EnteringInner
 pub mod SweepInner

@@ -1,4 +1,4 @@
--- Recurrence 7 to 14, of a model: its working directions, growth and the spare figure over all steps, bounds and slacks. Definitions
+-- Recurrence 7 to 16, of a model: its working directions, growth and the spare figure over all steps, bounds and slacks. Definitions
 -- only. What is of one step is in the crate `stepping`.
 -- The walk of step k takes the direction back over the moves before that step, the latest first. With one matrix (Model 6) the walk of
 -- every step is the same, and after j moves it is at the specification's r(j) and e(j).
@@ -9,8 +9,8 @@ use lib.IntN.{ℤ, pos, _+ℤ_}
 use Rattle.integers.specs.Sums.{sum, sumℕ, maxℕ, dotℕ, transposed}
 use Rattle.stepping.specs.Recurrence.{firstR, firstE, nextR, nextE, halfUp, growthSum, grows, spare, boundOf, slackOf}
 use Rattle.reachability.specs.Sets.{points, supportOf, reachOf}
+use Rattle.reachability.specs.Entering.{enteringSupport, enteringReach}
 use Rattle.reachability.specs.Runs.{moves, direction}
-use Rattle.reachability.specs.declared.sets.Set.{Set}
 use Rattle.reachability.specs.declared.model.Model.{Model}
 
 -- Recurrence 1: a working direction r with its errors e, which count half units.
@@ -59,31 +59,45 @@ growthStep m d = firstPlace (suc (m .steps)) (growsAt m d)
 abbrev pub spareFigure : Model → ℕ → ℕ
 spareFigure m d = spare (maxℕ (suc (m .steps)) (sumAt m d))
 
--- Sets 9: a set's support at a working direction.
-abbrev pub supportAt : ℕ → Set → Working → ℤ
-supportAt n s w = supportOf n (s .shape) (s .count) (points (s .points)) (w .r)
+-- Sets 9 and Sets 13: support and reach of the initial set.
+abbrev pub initialSupport : Model → (ℕ → ℤ) → ℤ
+initialSupport m = supportOf (m .n) (m .initial .shape) (m .initial .count) (points (m .initial .points))
 
--- Recurrence 10: the error term.
-abbrev pub errorAt : ℕ → Set → Working → ℕ
-errorAt n s w = dotℕ n (w .e) (reachOf (s .shape) (s .count) (points (s .points)))
+abbrev pub initialReach : Model → ℕ → ℕ
+initialReach m = reachOf (m .initial .shape) (m .initial .count) (points (m .initial .points))
 
--- Recurrence 10: T, the error terms of step k. The initial set counts at k, the input set at each j below k.
+-- Recurrence 15 and 16: support and reach of what enters at a move.
+abbrev pub enteringSupportOf : Model → (ℕ → ℤ) → ℤ
+enteringSupportOf m = enteringSupport (m .n) (m .input .shape) (m .input .count) (m .input .points) (m .drift)
+
+abbrev pub enteringReachOf : Model → ℕ → ℕ
+enteringReachOf m = enteringReach (m .input .shape) (m .input .count) (m .input .points) (m .drift)
+
+-- Recurrence 10: the error term of a reach.
+abbrev pub errorAt : ℕ → (ℕ → ℕ) → Working → ℕ
+errorAt n reach w = dotℕ n (w .e) reach
+
+-- Recurrence 10: T, the error terms of step k. The initial set counts at k, what enters at each j below k.
 abbrev pub errorTotal : Model → ℕ → ℕ → ℕ
 errorTotal m d k =
-    errorAt (m .n) (m .initial) (working m d k k) + sumℕ k (λ j. errorAt (m .n) (m .input) (working m d k j))
+    errorAt (m .n) (initialReach m) (working m d k k) + sumℕ k (λ j. errorAt (m .n) (enteringReachOf m) (working m d k j))
 
 -- Recurrence 11: the supports of step k, counted in the same way.
 abbrev pub supportTotal : Model → ℕ → ℕ → ℤ
-supportTotal m d k =
-    supportAt (m .n) (m .initial) (working m d k k) +ℤ sum k (λ j. supportAt (m .n) (m .input) (working m d k j))
+supportTotal m d k = initialSupport m (working m d k k .r) +ℤ sum k (λ j. enteringSupportOf m (working m d k j .r))
 
--- Recurrence 11: the raw bound.
+-- Recurrence 11 and 12: the raw bound and the raw slack, of a sum of supports and of error terms.
+abbrev pub rawBoundOf : ℤ → ℕ → ℤ
+rawBoundOf supports errors = supports +ℤ pos (halfUp errors)
+
+abbrev pub rawSlackOf : ℕ → ℕ
+rawSlackOf errors = 2 * halfUp errors
+
 abbrev pub rawBound : Model → ℕ → ℕ → ℤ
-rawBound m d k = supportTotal m d k +ℤ pos (halfUp (errorTotal m d k))
+rawBound m d k = rawBoundOf (supportTotal m d k) (errorTotal m d k)
 
--- Recurrence 12: the raw slack.
 abbrev pub rawSlack : Model → ℕ → ℕ → ℕ
-rawSlack m d k = 2 * halfUp (errorTotal m d k)
+rawSlack m d k = rawSlackOf (errorTotal m d k)
 
 -- Recurrence 13 and 14: the bound and the slack of a step, rounded.
 abbrev pub bound : Model → ℕ → ℕ → ℤ

@@ -1,12 +1,12 @@
--- Runs 1 to 7: moves, runs with a common denominator, states over whole numbers, the exact largest value. Definitions only.
--- Runs 3 and 5: the first state and the inputs are counted in 1 / q, and state k in 1 / (q × 65,536 ^ k), so that all is said over
+-- Runs 1 to 7 and 9: moves, runs with a common denominator, what enters, states over whole numbers, the exact largest value.
+-- Definitions only. Runs 3 and 5: the first state, the inputs and the drift are counted in 1 / q, and state k in 1 / (q × 65,536 ^ k), so that all is said over
 -- whole numbers.
 -- Assumes nothing.
 use mathlib.Core.Path.{_≡_}
 use Prim.Native.Nat.{ℕ, zero, suc, _*_, _^_, _≤_, _<_}
 use lib.IntN.{ℤ, pos, _+ℤ_, _*ℤ_}
 use Rattle.integers.specs.Whole.{_⩽_}
-use Rattle.integers.specs.Sums.{matrix, dot, times}
+use Rattle.integers.specs.Sums.{vector, matrix, dot, times}
 use Rattle.stepping.specs.Limits.{matrixUnit}
 use Rattle.reachability.specs.Sets.{points, Member}
 use Rattle.reachability.specs.declared.sets.Set.{Set}
@@ -32,13 +32,17 @@ pub record Run (m : Model) (q : ℕ) : Type 0 where
   pub starts : InSet (m .n) (m .initial) q start
   pub enters : (j : ℕ) → j < m .steps → InSet (m .n) (m .input) q (inputs j)
 
+-- Runs 9: what enters at move j, the input and the drift, in q-ths.
+abbrev pub entering : (m : Model) {q : ℕ} → Run m q → ℕ → ℕ → ℤ
+entering m {q} run j i = run .inputs j i +ℤ pos q *ℤ vector (m .drift) i
+
 -- Runs 4: the motion. Runs 5: state k, in 1 / (q × 65,536 ^ k).
 unfoldable pub stateOf : ℕ → (ℕ → ℕ → ℕ → ℤ) → (ℕ → ℤ) → (ℕ → ℕ → ℤ) → ℕ → ℕ → ℤ
-stateOf n moves start inputs zero i = start i
-stateOf n moves start inputs (suc k) i = times n (moves k) (stateOf n moves start inputs k) i +ℤ pos (matrixUnit ^ suc k) *ℤ inputs k i
+stateOf n moves start entering zero i = start i
+stateOf n moves start entering (suc k) i = times n (moves k) (stateOf n moves start entering k) i +ℤ pos (matrixUnit ^ suc k) *ℤ entering k i
 
 abbrev pub state : (m : Model) {q : ℕ} → Run m q → ℕ → ℕ → ℤ
-state m run = stateOf (m .n) (moves m) (run .start) (run .inputs)
+state m run = stateOf (m .n) (moves m) (run .start) (entering m run)
 
 -- Runs 6: the value of a run at step k, in 1 / (q × 65,536 ^ k).
 abbrev pub value : (m : Model) (d : ℕ → ℤ) {q : ℕ} → Run m q → ℕ → ℤ

@@ -11,13 +11,13 @@ use lib.Signed.{nonNeg}
 use Rattle.integers.specs.Sums.{vector, magnitudes, maxℕ, dotℕ, tabulate}
 use Rattle.stepping.specs.Limits.{errorLimit}
 use Rattle.stepping.specs.Recurrence.{firstR, firstE, halfUp, Rounds}
-use Rattle.reachability.specs.Sets.{points, supportOf, reachOf, reachLimit}
+use Rattle.reachability.specs.Sets.{points, supportOf, reachLimit}
+use Rattle.reachability.specs.Moved.{movedPoints}
 use Rattle.reachability.specs.SetsInner.{Counted, Tested, termLimit}
 use Rattle.reachability.specs.Runs.{direction}
 use Rattle.reachability.specs.declared.sets.Shape.{Shape}
-use Rattle.reachability.specs.declared.sets.Set.{Set}
 use Rattle.reachability.specs.Limits.{accepted}
-use Rattle.reachability.specs.Recurrence.{growthStep, sumAt, bound, slack}
+use Rattle.reachability.specs.Recurrence.{growthStep, sumAt, initialReach, enteringReachOf, bound, slack}
 use Rattle.reachability.specs.declared.model.Model.{Model}
 
 -- The most that e · reach can come to. For a support it is `termLimit`.
@@ -45,7 +45,7 @@ pub record TermsAsk (shape : Shape) (count : ℕ) (xs reaches r e : List ℤ) : 
   pub errors : ErrorsWithReach e reaches
   pub support-small : natAbs (termSupport shape count xs r) ≤ termLimit
 
--- ---- one step: both sets' terms, after what at most 257 steps gave; supports and errors are summed apart
+-- ---- one step: the terms of both sets, after what at most 257 steps gave; supports and errors are summed apart
 
 pub record StepAsks (shapeI : Shape) (countI : ℕ) (pointsI reachesI : List ℤ) (shapeU : Shape) (countU : ℕ) (pointsU reachesU r e : List ℤ) (inputs : ℤ) (errors : ℕ) : Type 0 where
   pub initial : TermsAsk shapeI countI pointsI reachesI r e
@@ -67,22 +67,27 @@ pub record FillAsks (m : Model) (d : ℕ) (b s : List ℤ) : Type 0 where
   pub bounds-long : 257 ≡ length b
   pub slacks-long : 257 ≡ length s
 
--- A set's six reaches, as they are stored.
-abbrev pub reachesOf : Set → List ℤ
-reachesOf s = tabulate 6 (λ i. pos (reachOf (s .shape) (s .count) (points (s .points)) i))
+-- Six reaches, as they are stored.
+abbrev pub storedReaches : (ℕ → ℕ) → List ℤ
+storedReaches reach = tabulate 6 (λ i. pos (reach i))
 
--- The model's own arrays, its sets' reaches, and the first working direction.
+-- The points of the input set moved by the drift (Sets 20).
+abbrev pub inputPoints : Model → List ℤ
+inputPoints m = movedPoints (m .input .shape) (m .input .count) (m .input .points) (m .drift)
+
+-- The model's own arrays, the input set being moved; the reaches of the initial set and of what enters; the
+-- first working direction.
 pub record Prepared (m : Model) (d n : ℕ) (mat : List ℤ) (shapeI : Shape) (countI : ℕ) (pointsI reachesI : List ℤ) (shapeU : Shape) (countU : ℕ) (pointsU reachesU r e : List ℤ) : Type 0 where
   pub n-is : n ≡ m .n
   pub matrix-is : mat ≡ m .matrix
   pub shape-is : shapeI ≡ m .initial .shape
   pub count-is : countI ≡ m .initial .count
   pub points-are : pointsI ≡ m .initial .points
-  pub reaches-are : reachesI ≡ reachesOf (m .initial)
+  pub reaches-are : reachesI ≡ storedReaches (initialReach m)
   pub input-shape-is : shapeU ≡ m .input .shape
   pub input-count-is : countU ≡ m .input .count
-  pub input-points-are : pointsU ≡ m .input .points
-  pub input-reaches-are : reachesU ≡ reachesOf (m .input)
+  pub input-points-are : pointsU ≡ inputPoints m
+  pub input-reaches-are : reachesU ≡ storedReaches (enteringReachOf m)
   pub r-is : r ≡ tabulate 6 (firstR (direction m d))
   pub e-is : e ≡ tabulate 6 (λ i. pos (firstE i))
 

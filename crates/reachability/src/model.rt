@@ -1,16 +1,18 @@
 // The model, as a value that anyone can make by hand, and the rules that number 11 tests.
+use crate::entering::entering_within;
 use crate::sets::Set;
 use crate::sets::set_ok;
 ghost use mathlib.Core.Path.{_≡_};
 ghost use Rattle.reachability.specs.Limits.{accepted};
 
-// Model 1, as stored. n coordinates, `steps` steps, the matrix in six rows of six, the initial set and the input set, the
-// directions in sixteen rows of six, and the guards, each the number of the direction that it watches and a level. Every
-// number that n and the counts leave unused is zero.
+// Model 1, as stored. n coordinates, `steps` steps, the matrix in six rows of six, the drift, the initial set and the input set, the
+// directions in sixteen rows of six, and the guards, each the number of the direction that it watches and a level. Every number
+// that n and the counts leave unused is zero.
 pub struct Model {
     pub n: usize,
     pub steps: usize,
     pub matrix: [i32; 36],
+    pub drift: [i32; 6],
     pub initial: Set,
     pub input: Set,
     pub directions: usize,
@@ -35,6 +37,16 @@ pub fn accepts(model: Model) -> bool
     }
     let input = model.input;
     if !set_ok(n, input) {
+        return false;
+    }
+    let drift = model.drift;
+    if !arrays::zero_outside(1, n, &drift) {
+        return false;
+    }
+    let shape = input.shape;
+    let count = input.count;
+    let points = input.points;
+    if !entering_within(shape, count, &points, &drift) {
         return false;
     }
     let directions = model.directions;

@@ -4,6 +4,7 @@ mod reaches;
 mod supports;
 
 pub(crate) use checks::set_ok;
+pub(crate) use reaches::reach_at;
 pub(crate) use reaches::reaches_of;
 pub(crate) use supports::support_of;
 ghost use mathlib.Core.Path.{_≡_};
@@ -82,7 +83,7 @@ pub fn reach_within(shape: Shape, count: usize, points: &[i32; 96]) -> bool
     }
     let mut i: usize = 0;
     while i < 6 {
-        if 1048576 < reaches::reach_at(shape, count, points, i) {
+        if 1048576 < reach_at(shape, count, points, i) {
             return false;
         }
         i += 1;

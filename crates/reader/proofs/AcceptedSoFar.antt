@@ -15,6 +15,7 @@ use Rattle.integers.proofs.Booleans.{and-true}
 use Rattle.integers.proofs.Sums.{allBelow-intro}
 use Rattle.integers.proofs.Machine.{getD-replicate-default}
 use Rattle.arrays.proofs.Tests.{zeroOutside-of}
+use Rattle.arrays.proofs.FirstOf.{firstOf-zero}
 use Rattle.stepping.specs.Limits.{entryLimit}
 use Rattle.stepping.specs.Refusals.{dimensionOk}
 use Rattle.coefficients.specs.Entries.{entryValue}
@@ -25,18 +26,18 @@ use Rattle.limits.specs.Limits.{directionLimit, stepsOk}
 use Rattle.reachability.specs.declared.sets.Shape.the-variants.{Box}
 use Rattle.reachability.specs.Sets.{points, orderedOk, zeroBox}
 use Rattle.records.specs.declared.order.Part.{Part}
-use Rattle.records.specs.declared.order.Part.the-variants.{Head, Row, Initial, Input, Direction, Guard, End}
+use Rattle.records.specs.declared.order.Part.the-variants.{Head, Row, Drift, Initial, Input, Direction, Guard, End}
 use Rattle.reader.specs.declared.state.State.{State}
 use Rattle.records.specs.Order.{partOf}
 use Rattle.reader.specs.Order.{mostOf}
-use Rattle.reader.specs.Models.{zeros, blankSet, blankModel, start, firstByte, usualSteps, defaultSteps, rowAnswer, rowPlace, withHead, withRow, withPoint, withSetPoint, inputAt, withDirection, withGuard}
-use Rattle.reader.specs.Values.{headOk, pointOk, directionOk, guardOk, valueNumber}
+use Rattle.reader.specs.Models.{zeros, blankSet, blankModel, start, firstByte, usualSteps, defaultSteps, rowAnswer, rowPlace, withHead, withRow, withDrift, withPoint, withSetPoint, inputAt, withDirection, withGuard}
+use Rattle.reader.specs.Values.{headOk, driftOk, pointOk, enteringPointOk, directionOk, guardOk, valueNumber}
 use Rattle.reader.specs.Refusals.{countOf, kindNumber, storedIn, stored}
 use Rattle.reader.proofs.order.KindNumbers.{kindNumber-zero, lt-of-mostOf}
 use Rattle.reader.proofs.RowAnswers.{rowAnswer-ind}
 use Rattle.reader.proofs.RowsOfSix.{vector-zeros, zeros-blank, small-blank, nonzero-none, guarded-more, guarded-set}
 use Rattle.reader.proofs.OrderFacts.{isDone, pointMay, point-low, point-high, fact, order-fact, isDone-late, isDone-early}
-use Rattle.reader.proofs.PartsSoFar.{passed, FrameAt, n-least, frame-on, frame-row, SetAt, set-early, set-late, set-point, DirectionsAt, directions-early, directions-late, directions-more, GuardsAt}
+use Rattle.reader.proofs.PartsSoFar.{passed, FrameAt, n-least, frame-on, frame-row, SetAt, set-early, set-late, set-point, DriftAt, drift-early, drift-blank, drift-new, drift-point, drift-late, drift-zero-box, DirectionsAt, directions-early, directions-late, directions-more, GuardsAt}
 
 -- ---- the whole state
 
@@ -45,6 +46,7 @@ pub record AcceptedSoFar (s : State) : Type 0 where
   pub frame : FrameAt (s .last) (s .rows) (s .model .n) (s .model .steps) (s .model .matrix)
   pub initial : SetAt 0x10 (s .last) (s .model .n) (s .model .initial)
   pub input : SetAt 0x20 (s .last) (s .model .n) (s .model .input)
+  pub drift : DriftAt (s .last) (s .model .n) (s .model .input) (s .model .drift)
   pub directions : DirectionsAt (s .last) (s .model .n) (s .model .directions) (s .model .entries)
   pub guards : GuardsAt (s .model .directions) (s .model .guards) (s .model .watched) (s .model .levels)
 
@@ -114,6 +116,7 @@ acceptedSoFar-start =
           };
       initial = blank-set 0x10 0 0 (omega arith);
       input = blank-set 0x20 0 0 (omega arith);
+      drift = drift-blank 0 (omega arith);
       directions = blank-directions 0 0 (omega arith);
       guards = blank-guards;
     }
@@ -146,6 +149,7 @@ so-far-head body ok =
           };
       initial = blank-set 0x10 1 n (omega arith);
       input = blank-set 0x20 1 n (omega arith);
+      drift = drift-blank 1 (omega arith);
       directions = blank-directions 1 n (omega arith);
       guards = blank-guards;
     }
@@ -175,7 +179,21 @@ module _ (s : State) (kind : ℕ) (body : List ℕ) (g : AcceptedSoFar s) where
         frame = frame-row (g .frame) (storedSix (s .model .n) (rowAnswer kind body)) e (storedSix-within (s .model .n) (rowAnswer kind body) (answer-within kind body)) (storedSix-beyond (s .model .n) (rowAnswer kind body));
         initial = set-early (g .initial) p (omega arith) (omega (arith, r .1));
         input = set-early (g .input) p (omega arith) (omega (arith, r .1));
+        drift = drift-early p (omega (arith, r .1)) (λ l. g .drift .none (omega arith)) (g .drift .beyond) (g .drift .small);
         directions = directions-early (g .directions) p (omega (arith, r .1));
+        guards = g .guards;
+      }
+
+  so-far-drift : kind ≡ 0x05 → s .last ≡ 0x02 → driftOk (s .model .n) body ≡ true → AcceptedSoFar (withDrift s kind body)
+  unfolding withDrift
+  so-far-drift k place ok =
+      record {
+        first = λ z. absurd (omega arith);
+        frame = frame-on (g .frame) kind (omega arith) (omega arith);
+        initial = set-early (g .initial) kind (omega arith) (omega arith);
+        input = set-early (g .input) kind (omega arith) (omega arith);
+        drift = drift-new kind body (omega arith) (omega arith) ok;
+        directions = directions-early (g .directions) kind (omega arith);
         guards = g .guards;
       }
 
@@ -192,13 +210,14 @@ module _ (s : State) (kind : ℕ) (body : List ℕ) (g : AcceptedSoFar s) where
         frame = frame-on (g .frame) kind (omega arith) (omega arith);
         initial = p;
         input = set-early (g .input) kind h (omega arith);
+        drift = drift-early kind (omega arith) (λ k. absurd (omega arith)) (g .drift .beyond) (g .drift .small);
         directions = directions-early (g .directions) kind (omega arith);
         guards = g .guards;
       }
 
-  so-far-input : pointMay 0x20 (s .last) kind ≡ true → isDone 0x10 (s .last) ≡ true → leb 0x02 (s .last) ≡ true → s .model .input .count < mostOf kind → pointOk (s .model .n) kind (withPoint (s .model .n) (s .model .input) kind body) ≡ true → AcceptedSoFar (withSetPoint true s kind body)
+  so-far-input : pointMay 0x20 (s .last) kind ≡ true → isDone 0x10 (s .last) ≡ true → leb 0x02 (s .last) ≡ true → s .model .input .count < mostOf kind → pointOk (s .model .n) kind (withPoint (s .model .n) (s .model .input) kind body) ≡ true → enteringPointOk true (withPoint (s .model .n) (s .model .input) kind body) (s .model .drift) ≡ true → AcceptedSoFar (withSetPoint true s kind body)
   unfolding withSetPoint
-  so-far-input may done late few ok =
+  so-far-input may done late few ok enters =
       let l = leb-true 0x02 (s .last) late in
       let p = set-point 0x20 (s .last) (s .model .n) (s .model .input) kind body (g .input) refl may few ok in
       let a = point-low 0x20 (s .last) kind may in
@@ -208,6 +227,7 @@ module _ (s : State) (kind : ℕ) (body : List ℕ) (g : AcceptedSoFar s) where
         frame = frame-on (g .frame) kind (omega arith) (omega arith);
         initial = set-late (g .initial) kind (omega arith) done;
         input = p;
+        drift = drift-point (g .drift) kind body (omega arith) enters;
         directions = directions-early (g .directions) kind (omega arith);
         guards = g .guards;
       }
@@ -220,6 +240,13 @@ module _ (s : State) (kind : ℕ) (body : List ℕ) (g : AcceptedSoFar s) where
       split true e t = zero-box kind (s .model .n) h
       split false e t = set-late (g .input) kind h t
 
+  so-far-drift-at : 0x24 < kind → ltb (s .last) 0x20 || isDone 0x20 (s .last) ≡ true → DriftAt kind (s .model .n) (inputAt (s .last) (s .model)) (s .model .drift)
+  so-far-drift-at h t = split (ltb (s .last) 0x20) t
+    where
+      split : (b : Bool) → b || isDone 0x20 (s .last) ≡ true → DriftAt kind (s .model .n) (cond b zeroBox (s .model .input)) (s .model .drift)
+      split true t = drift-zero-box (g .drift) kind (omega arith)
+      split false t = drift-late (g .drift) kind (omega arith) t
+
   so-far-direction : kind ≡ 0x30 → isDone 0x10 (s .last) ≡ true → 0x02 ≤ s .last → ltb (s .last) 0x20 || isDone 0x20 (s .last) ≡ true → s .model .directions < 16 → directionOk (s .model .n) body ≡ true → AcceptedSoFar (withDirection s kind body)
   unfolding withDirection
   so-far-direction k done late input few ok =
@@ -228,6 +255,7 @@ module _ (s : State) (kind : ℕ) (body : List ℕ) (g : AcceptedSoFar s) where
         frame = frame-on (g .frame) kind (omega arith) (omega arith);
         initial = set-late (g .initial) kind (omega arith) done;
         input = so-far-input-at (omega arith) input;
+        drift = so-far-drift-at (omega arith) input;
         directions = directions-more (g .directions) kind body few ok;
         guards = record { watched-length = g .guards .watched-length; few = g .guards .few; guarded = guarded-more _ _ _ _ (g .guards .guarded) };
       }
@@ -240,6 +268,7 @@ module _ (s : State) (kind : ℕ) (body : List ℕ) (g : AcceptedSoFar s) where
         frame = frame-on (g .frame) kind (omega arith) (omega arith);
         initial = set-late (g .initial) kind (omega arith) (isDone-late 0x10 (s .last) (omega arith));
         input = set-late (g .input) kind (omega arith) (isDone-late 0x20 (s .last) (omega arith));
+        drift = drift-late (g .drift) kind (omega arith) (isDone-late 0x20 (s .last) (omega arith));
         directions = directions-late (g .directions) kind late;
         guards =
             record {
@@ -258,14 +287,18 @@ module _ (s : State) (kind : ℕ) (body : List ℕ) (g : AcceptedSoFar s) where
   so-far-part Head f few z =
       subst (λ (x : State). AcceptedSoFar (withHead x body)) (sym (g .first (eqb-true (s .last) 0x00 f))) (so-far-head body (passed (headOk body) 4 (omega arith) z))
   so-far-part Row f few z = so-far-row (eqb-true (s .last) 0x01 f)
+  so-far-part Drift f few z =
+      let both = and-true (eqb kind 0x05) (eqb (s .last) 0x02) f in
+      so-far-drift (eqb-true kind 0x05 (both .0)) (eqb-true (s .last) 0x02 (both .1)) (passed _ 17 (omega arith) z)
   so-far-part Initial f few z =
       let a = and-true (pointMay 0x10 (s .last) kind) (leb 0x02 (s .last) && ltb (s .last) 0x20) f in
       let b = and-true (leb 0x02 (s .last)) (ltb (s .last) 0x20) (a .1) in
-      so-far-initial (a .0) (b .0) (b .1) few (passed _ 6 (omega arith) z)
+      so-far-initial (a .0) (b .0) (b .1) few (passed _ 6 (omega arith) (firstOf-zero _ _ z .0))
   so-far-part Input f few z =
       let a = and-true (pointMay 0x20 (s .last) kind) (isDone 0x10 (s .last) && leb 0x02 (s .last)) f in
       let b = and-true (isDone 0x10 (s .last)) (leb 0x02 (s .last)) (a .1) in
-      so-far-input (a .0) (b .0) (b .1) few (passed _ 6 (omega arith) z)
+      let numbers = firstOf-zero _ _ z in
+      so-far-input (a .0) (b .0) (b .1) few (passed _ 6 (omega arith) (numbers .0)) (passed _ 17 (omega arith) (numbers .1))
   so-far-part Direction f few z =
       let a = and-true (eqb kind 0x30) ((isDone 0x10 (s .last) && leb 0x02 (s .last)) && (ltb (s .last) 0x20 || isDone 0x20 (s .last))) f in
       let b = and-true (isDone 0x10 (s .last) && leb 0x02 (s .last)) (ltb (s .last) 0x20 || isDone 0x20 (s .last)) (a .1) in

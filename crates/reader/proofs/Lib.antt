@@ -10,7 +10,10 @@ pub mod AcceptedSoFar
 pub mod Sizes
 pub mod ReadModels
 pub mod OnePointMore
+pub mod ZeroBody
 pub mod NoInput
+pub mod NoDrift
 pub mod Answers
 pub mod Sample
 pub mod Longest
+pub mod DriftFigures

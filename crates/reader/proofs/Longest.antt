@@ -1,4 +1,4 @@
--- File 9: a file of 1,665 bytes is accepted. By computation. That none is longer: `ReadModels`. Assumes nothing.
+-- File 9: a file of 1,690 bytes is accepted. By computation. That none is longer: `ReadModels`. Assumes nothing.
 use mathlib.Core.Path.{_≡_, refl}
 use mathlib.Core.List.{List, _∷_, _++_, []}
 use Prim.Native.Nat.{ℕ, zero, suc}
@@ -13,8 +13,8 @@ use Rattle.records.specs.Records.{recordAt}
 use Rattle.records.specs.Numbers.{littleEndian}
 use Rattle.records.specs.Order.{mayFollow, partOf}
 use Rattle.reader.specs.declared.Status.the-variants.{Read}
-use Rattle.reader.specs.Models.{zeros, blankSet, blankModel, start, sixAt, putRow, withHead, withRow, withPoint, withSetPoint, withDirection, withGuard}
-use Rattle.reader.specs.Values.{rowNumber, pointOk, directionOk}
+use Rattle.reader.specs.Models.{zeros, blankSet, blankModel, start, sixAt, putRow, withHead, withRow, withDrift, withPoint, withSetPoint, withDirection, withGuard}
+use Rattle.reader.specs.Values.{rowNumber, driftOk, pointOk, directionOk}
 use Rattle.reader.specs.Refusals.{kindNumber, refusal, stored}
 use Rattle.reader.specs.Reading.{stopFor, numberAt, readingAt, readFrom, readModel}
 
@@ -26,22 +26,23 @@ repeated (suc k) bytes = bytes ++ repeated k bytes
 fitted : ℕ → List ℕ
 fitted row = 0x03 ∷ row ∷ replicate 48 0
 
--- Six fitted rows, two lists of 16 vertices, 16 directions and 16 guards.
+-- Six fitted rows, a drift, two lists of 16 vertices, 16 directions and 16 guards.
 unfoldable pub longest : List ℕ
 unfolding repeated fitted
 longest =
     (0x01 ∷ 6 ∷ 1 ∷ 0 ∷ [])
     ++ fitted 0 ++ fitted 1 ++ fitted 2 ++ fitted 3 ++ fitted 4 ++ fitted 5
+    ++ (0x05 ∷ replicate 24 0)
     ++ repeated 16 (0x14 ∷ replicate 24 0)
     ++ repeated 16 (0x24 ∷ replicate 24 0)
     ++ repeated 16 (0x30 ∷ 1 ∷ replicate 23 0)
     ++ repeated 16 (0x40 ∷ replicate 9 0)
     ++ (0xFF ∷ [])
 
-pub longest-length : length longest ≡ 1665
+pub longest-length : length longest ≡ 1690
 unfolding longest
 longest-length = refl
 
 pub longest-read : readModel longest .status ≡ Read
-unfolding allBelow sumℕ maxℕ binary64Unit magnitudeOf nearestEven fittedOk fittedEntry entryOfBits scaledEntry firstNumber bodyLength recordAt littleEndian mayFollow partOf zeros blankSet blankModel start sixAt putRow withHead withRow withPoint withSetPoint withDirection withGuard rowNumber pointOk directionOk kindNumber refusal stored stopFor numberAt readingAt readFrom readModel longest
+unfolding allBelow sumℕ maxℕ binary64Unit magnitudeOf nearestEven fittedOk fittedEntry entryOfBits scaledEntry firstNumber bodyLength recordAt littleEndian mayFollow partOf zeros blankSet blankModel start sixAt putRow withHead withRow withDrift withPoint withSetPoint withDirection withGuard rowNumber driftOk pointOk directionOk kindNumber refusal stored stopFor numberAt readingAt readFrom readModel longest
 longest-read = refl

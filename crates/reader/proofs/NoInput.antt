@@ -4,7 +4,7 @@
 use mathlib.Core.Path.{_≡_, refl, sym, ap, ap₂, subst, _∙_}
 use mathlib.Core.Bool.{Bool, true, false, cond, not, _&&_, _||_}
 use mathlib.Core.List.{List, _∷_, _++_, append-assoc}
-use Prim.Native.Nat.{ℕ, zero, suc, _+_, _-_, _*_, _^_, _≤_, _<_}
+use Prim.Native.Nat.{ℕ, zero, suc, _+_, _-_, _≤_, _<_}
 use native.Mathlib.Decide.{decLt}
 use native.Mathlib.Omega.{arith}
 use borrow.Author.Tests.{ne-eqb, eqb-true, eqb-false, lt-ltb, le-ltb, ltb-true, le-leb, leb-true}
@@ -14,14 +14,12 @@ use lib.Seq.{length-take-le}
 use lib.IntN.{ℤ, pos}
 use Rattle.integers.specs.Sums.{allBelow}
 use Rattle.integers.proofs.Booleans.{and-true, or-false}
-use Rattle.integers.proofs.Machine.{tabulate-cong, getD-replicate-default}
 use Rattle.arrays.specs.Tests.{firstOf}
 use Rattle.records.specs.Kinds.{bodyLength}
-use Rattle.records.specs.Numbers.{littleEndian, twosComplement, signedAt}
 use Rattle.records.specs.Order.{mayFollow, partOf}
 use Rattle.records.specs.Records.{Record, whole, short, unknown, nothing, recordAt, recordKind, recordBody}
 use Rattle.records.specs.declared.order.Part.{Part}
-use Rattle.records.specs.declared.order.Part.the-variants.{Head, Row, Initial, Input, Direction, Guard, End}
+use Rattle.records.specs.declared.order.Part.the-variants.{Head, Row, Drift, Initial, Input, Direction, Guard, End}
 use Rattle.records.proofs.RecordAt.{recordAt-nothing, Reaches}
 use Rattle.reachability.specs.declared.sets.Shape.{Shape}
 use Rattle.reachability.specs.declared.sets.Shape.the-variants.{Box}
@@ -32,8 +30,8 @@ use Rattle.reachability.specs.Runs.{Run}
 use Rattle.reachability.proofs.ZeroInput.{inputs-zero}
 use Rattle.reader.specs.declared.state.State.{State}
 use Rattle.reader.specs.Order.{shapeOf}
-use Rattle.reader.specs.Models.{zeros, blankSet, start, entryAt, sixAt, putRow, setSet, setDirections, stateOf, withPoint, withSetPoint, inputAt, withDirection, withGuard}
-use Rattle.reader.specs.Values.{pointOk, unless, valueNumber}
+use Rattle.reader.specs.Models.{zeros, blankSet, start, sixAt, putRow, setSet, setDirections, stateOf, withPoint, withSetPoint, inputAt, withDirection, withGuard}
+use Rattle.reader.specs.Values.{pointOk, enteringPointOk, unless, pointNumberOf, valueNumber}
 use Rattle.reader.specs.Refusals.{oneTooMany, kindNumber, refusal, storedIn, stored}
 use Rattle.reader.specs.NoInput.{completesInitial, NoInputAt, zeroBody, zeroCorners, putIn, moved}
 use Rattle.reader.proofs.OrderFacts.{order-at}
@@ -44,24 +42,10 @@ use Rattle.reader.specs.Reading.{behind, storedRecord, stopFor, readFrom
 use Rattle.reader.proofs.ReadingOn.{goesOn-true, stopFor-ind, stopFor-inside, readFrom-next, readFrom-refused, readFrom-comes, readFrom-alike}
 use Rattle.reader.proofs.RecordInPlace.{readFrom-behind}
 use Rattle.reader.proofs.ReadingRest.{readFrom-more-before, readFrom-same-start, readFrom-refused-before}
-use Rattle.reader.proofs.PartsSoFar.{n-most}
+use Rattle.reader.proofs.ZeroBody.{sixAt-zeros}
+use Rattle.reader.proofs.PartsSoFar.{n-most, entering-zeros}
 use Rattle.reader.proofs.AcceptedSoFar.{AcceptedSoFar, ordered-zeros}
 use Rattle.reader.proofs.ReadModels.{readFrom-model, reachable-stop}
-
--- ---- six numbers of zeros
-
-littleEndian-zeros : (k at : ℕ) → littleEndian k zeroBody at ≡ 0
-unfolding littleEndian
-littleEndian-zeros zero at = refl
-littleEndian-zeros (suc k) at = omega (arith, getD-replicate-default {A = ℕ} 24 at 0, littleEndian-zeros k (suc at))
-
-sixAt-zeros : (n : ℕ) → sixAt n zeroBody 0 ≡ zeros 6
-unfolding sixAt zeros
-sixAt-zeros n = tabulate-cong 6 {f = entryAt n zeroBody 0} {g = λ i. pos 0} (λ i h. either (ltb i n) i)
-  where
-    either : (b : Bool) (i : ℕ) → cond b (signedAt 4 zeroBody (0 + 4 * i)) (pos 0) ≡ pos 0
-    either true i = ap (twosComplement (2 ^ 31)) (littleEndian-zeros 4 (0 + 4 * i))
-    either false i = refl
 
 -- ---- a state straight after the initial set
 
@@ -117,9 +101,19 @@ module _ (s : State) (g : AcceptedSoFar s) (complete : completesInitial (s .last
   unfolding kindNumber mayFollow partOf
   lower-allowed = ap₂ (λ (a : Bool) (x : Set). cond a (cond (leb 16 (x .count)) 9 0) 3) (at-place (λ k. mayFollow k 0x20) refl refl refl) blank
 
+  -- a corner of zeros passes the test of number 17
+  enters-ok : (count : ℕ) → 1 ≤ count → count ≤ 16 → enteringPointOk true (zeroSet count) (s .model .drift) ≡ true
+  enters-ok count a b = ap₂ _&&_ (ap₂ _&&_ (le-leb 1 count a) (le-leb count 16 b)) (entering-zeros (g .drift) count)
+
+  -- and the other test settles its number
+  corner-number : (kind count : ℕ) {set : Set} → 1 ≤ count → count ≤ 16 → set ≡ zeroSet count → pointOk (s .model .n) kind (zeroSet count) ≡ true → pointNumberOf true (s .model .n) kind set (s .model .drift) ≡ 0
+  corner-number kind count a b e ok =
+      ap (λ (x : Set). pointNumberOf true (s .model .n) kind x (s .model .drift)) e
+      ∙ ap₂ (λ (p q : Bool). firstOf (unless p 6) (unless q 17)) ok (enters-ok count a b)
+
   lower-ok : valueNumber Input s 0x20 zeroBody ≡ 0
   unfolding pointOk zeros allBelow
-  lower-ok = ap (λ (x : Set). unless (pointOk (s .model .n) 0x20 x) 6) with-lower
+  lower-ok = corner-number 0x20 1 (omega arith) (omega arith) with-lower refl
 
   upper-allowed : kindNumber (withCorners s 0x20 1) 0x21 ≡ 0
   unfolding kindNumber mayFollow partOf
@@ -127,9 +121,7 @@ module _ (s : State) (g : AcceptedSoFar s) (complete : completesInitial (s .last
 
   upper-ok : valueNumber Input (withCorners s 0x20 1) 0x21 zeroBody ≡ 0
   unfolding pointOk zeros allBelow
-  upper-ok =
-      ap (λ (x : Set). unless (pointOk (s .model .n) 0x21 x) 6) with-upper
-      ∙ ap (λ (b : Bool). unless b 6) (ap₂ _&&_ (le-leb (s .model .n) 6 dimension) (ordered-zeros (s .model .n)))
+  upper-ok = corner-number 0x21 2 (omega arith) (omega arith) with-upper (ap₂ _&&_ (le-leb (s .model .n) 6 dimension) (ordered-zeros (s .model .n)))
 
   lower-stored : stored s 0x20 zeroBody ≡ withCorners s 0x20 1
   unfolding stored partOf withSetPoint
@@ -188,6 +180,7 @@ record ZeroInput (s : State) : Type 0 where
 abbrev isLate : Part → Bool
 isLate Head = false
 isLate Row = false
+isLate Drift = false
 isLate Initial = false
 isLate Input = false
 isLate Direction = true
@@ -202,6 +195,7 @@ zero-kept Guard s kind body t h z = record { late = h; zero = z .zero }
 zero-kept End s kind body t h z = z
 zero-kept Head s kind body t h z = let y : _≡_ {A = ℕ} 0 1 = cc in absurd (omega arith)
 zero-kept Row s kind body t h z = let y : _≡_ {A = ℕ} 0 1 = cc in absurd (omega arith)
+zero-kept Drift s kind body t h z = let y : _≡_ {A = ℕ} 0 1 = cc in absurd (omega arith)
 zero-kept Initial s kind body t h z = let y : _≡_ {A = ℕ} 0 1 = cc in absurd (omega arith)
 zero-kept Input s kind body t h z = let y : _≡_ {A = ℕ} 0 1 = cc in absurd (omega arith)
 

@@ -10,7 +10,7 @@ use borrow.Author.Tests.{eq-eqb, ne-eqb, eqb-true, le-leb, lt-leb, leb-true, le-
 use lib.Dec.{eqb, leb, ltb}
 use Rattle.integers.proofs.Booleans.{and-true, or-true}
 use Rattle.records.specs.declared.order.Part.{Part}
-use Rattle.records.specs.declared.order.Part.the-variants.{Head, Row, Initial, Input, Direction, Guard, End}
+use Rattle.records.specs.declared.order.Part.the-variants.{Head, Row, Drift, Initial, Input, Direction, Guard, End}
 use Rattle.records.specs.Order.{order, listed, mayFollow, partOf}
 
 -- ---- what every pair passes holds where a kind may stand
@@ -93,6 +93,7 @@ module _ (base place kind : ℕ) (may : pointMay base place kind ≡ true) where
 unfoldable pub fact : Part → ℕ → ℕ → Bool
 fact Head place kind = eqb place 0x00
 fact Row place kind = eqb place 0x01
+fact Drift place kind = eqb kind 0x05 && eqb place 0x02
 fact Initial place kind = pointMay 0x10 place kind && (leb 0x02 place && ltb place 0x20)
 fact Input place kind = pointMay 0x20 place kind && (isDone 0x10 place && leb 0x02 place)
 fact Direction place kind = eqb kind 0x30 && ((isDone 0x10 place && leb 0x02 place) && (ltb place 0x20 || isDone 0x20 place))

@@ -1,10 +1,10 @@
 -- What each part of a state that the reader reaches satisfies, and that one record more of the part keeps it. In order: the six
--- numbers of a body; n, the steps and the matrix; a set; directions; guards. The place is the one in the order of records. Not
+-- numbers of a body; n, the steps and the matrix; a set; the drift; directions; guards. The place is the one in the order of records. Not
 -- here: the whole state (`AcceptedSoFar`). Assumes nothing.
 use mathlib.Core.Path.{_≡_, refl, sym, ap, ap₂, subst, _∙_}
 use mathlib.Core.Bool.{Bool, true, false, not, cond, _&&_, _||_}
 use mathlib.Core.List.{List}
-use Prim.Native.Nat.{ℕ, _+_, _*_, _%_, _≤_, _<_}
+use Prim.Native.Nat.{ℕ, _+_, _*_, _%_, _≤_, _<_, max}
 use native.Mathlib.Decide.{decLt}
 use native.Mathlib.Omega.{arith}
 use borrow.Author.Tests.{le-ltb, le-leb, lt-leb, eq-eqb, ne-eqb, leb-true, ltb-true, ltb-false}
@@ -12,6 +12,7 @@ use lib.Dec.{leb, ltb, eqb}
 use lib.ListN.{length, set, List·getD-eq-default}
 use lib.IntN.{ℤ, pos, natAbs}
 use Rattle.integers.specs.Sums.{vector, tabulate}
+use Rattle.integers.proofs.Sums.{allBelow-intro}
 use Rattle.integers.proofs.Machine.{getD-tabulate}
 use Rattle.integers.proofs.Booleans.{and-true}
 use Rattle.arrays.proofs.Tests.{allBetween-at, Zeros, Small, zeroOutside-of}
@@ -21,15 +22,16 @@ use Rattle.records.specs.Numbers.{signedAt}
 use Rattle.reachability.specs.declared.sets.Shape.{Shape}
 use Rattle.reachability.specs.declared.sets.Shape.the-variants.{Box, Zonotope, Vertices}
 use Rattle.reachability.specs.declared.sets.Set.{Set}
-use Rattle.reachability.specs.Sets.{points, countOk, orderedOk, reachOk, setOk, reachWithin}
+use Rattle.reachability.specs.Sets.{points, countOk, orderedOk, reachLimit, reachOk, setOk, reachWithin, zeroBox}
+use Rattle.reachability.specs.Entering.{enteringReach, enteringOk}
 use Rattle.limits.specs.Limits.{directionLimit, stepsOk, allZero}
 use Rattle.reachability.specs.Limits.{setAccepted}
 use Rattle.reader.specs.Order.{shapeOf, isUpper, mostOf}
-use Rattle.reader.specs.Models.{blankSet, entryAt, sixAt, putRow, rowPlace, withPoint}
-use Rattle.reader.specs.Values.{within, pointOk, directionOk, unless}
+use Rattle.reader.specs.Models.{zeros, blankSet, entryAt, sixAt, putRow, rowPlace, withPoint}
+use Rattle.reader.specs.Values.{within, driftOk, pointOk, enteringPointOk, directionOk, unless}
 use Rattle.reader.proofs.store.PutRow.{length-putRow}
 use Rattle.reader.proofs.order.KindNumbers.{lt-of-mostOf}
-use Rattle.reader.proofs.RowsOfSix.{zeros-putRow, small-putRow, Nonzero, nonzero-putRow, Guarded}
+use Rattle.reader.proofs.RowsOfSix.{vector-zeros, zeros-putRow, small-putRow, Nonzero, nonzero-putRow, Guarded}
 use Rattle.reader.proofs.OrderFacts.{isDone, pointMay, point-low, point-high, first-place, upper-place, generator-place, isDone-early}
 
 -- ---- the six numbers of a body are zero beyond n
@@ -216,6 +218,52 @@ module _ (base place n : ℕ) (set : Set) (kind : ℕ) (body : List ℕ) (s : Se
         some = λ l m. omega arith;
         done = λ t. point-done t;
       }
+
+-- ---- the drift, and what enters with it
+
+pub record DriftAt (place n : ℕ) (set : Set) (drift : List ℤ) : Type 0 where
+  pub none : place < 0x05 → drift ≡ zeros 6
+  pub beyond : (i : ℕ) → n ≤ i → vector drift i ≡ pos 0
+  pub small : (i : ℕ) → natAbs (vector drift i) ≤ reachLimit
+  pub entering : isDone 0x20 place ≡ true → enteringOk (set .shape) (set .count) (set .points) drift ≡ true
+
+-- a drift, before the points of the input set
+pub drift-early : {n : ℕ} {set : Set} {drift : List ℤ} (kind : ℕ) → kind < 0x20 → (kind < 0x05 → drift ≡ zeros 6) → ((i : ℕ) → n ≤ i → vector drift i ≡ pos 0) → ((i : ℕ) → natAbs (vector drift i) ≤ reachLimit) → DriftAt kind n set drift
+drift-early kind h none beyond small = record { none = none; beyond = beyond; small = small; entering = λ t. absurd (isDone-early 0x20 kind (omega arith) t) }
+
+pub drift-blank : {n : ℕ} {set : Set} (kind : ℕ) → kind < 0x20 → DriftAt kind n set (zeros 6)
+drift-blank kind h =
+    drift-early kind h (λ l. refl) (λ i l. vector-zeros 6 i) (λ i. subst (λ (z : ℤ). natAbs z ≤ reachLimit) (sym (vector-zeros 6 i)) (omega arith))
+
+-- the record
+pub drift-new : {n : ℕ} {set : Set} (kind : ℕ) (body : List ℕ) → 0x05 ≤ kind → kind < 0x20 → driftOk n body ≡ true → DriftAt kind n set (sixAt n body 0)
+unfolding driftOk
+drift-new {n} kind body k h ok = drift-early kind h (λ l. absurd (omega arith)) (λ i l. sixAt-beyond n body 0 i l) (allBetween-at reachLimit (sixAt n body 0) ok)
+
+module _ {place n : ℕ} {set : Set} {drift : List ℤ} (d : DriftAt place n set drift) where
+  -- with one point more
+  pub drift-point : (kind : ℕ) (body : List ℕ) → 0x05 ≤ kind → enteringPointOk true (withPoint n set kind body) drift ≡ true → DriftAt kind n (withPoint n set kind body) drift
+  drift-point kind body k ok =
+      let points = withPoint n set kind body in
+      record { none = λ l. absurd (omega arith); beyond = d .beyond; small = d .small; entering = λ t. and-true (leb 1 (points .count) && leb (points .count) 16) _ ok .1 }
+
+  -- behind the points of the input set
+  pub drift-late : (kind : ℕ) → 0x05 ≤ kind → isDone 0x20 place ≡ true → DriftAt kind n set drift
+  drift-late kind k t = record { none = λ l. absurd (omega arith); beyond = d .beyond; small = d .small; entering = λ u. d .entering t }
+
+  -- with points of zeros
+  pub entering-zeros : (count : ℕ) → enteringOk Box count (zeros 96) drift ≡ true
+  entering-zeros count =
+      allBelow-intro 6 (λ i. leb (enteringReach Box count (zeros 96) drift i) reachLimit)
+      (λ i h. le-leb (enteringReach Box count (zeros 96) drift i) reachLimit (alone i (natAbs (vector drift i)) (ap natAbs (vector-zeros 96 (6 * 0 + i))) (ap natAbs (vector-zeros 96 (6 * 1 + i))) (d .small i)))
+    where
+      alone : (i w : ℕ) → natAbs (points (zeros 96) 0 i) ≡ 0 → natAbs (points (zeros 96) 1 i) ≡ 0 → w ≤ reachLimit → max (natAbs (points (zeros 96) 0 i)) (natAbs (points (zeros 96) 1 i)) + w ≤ reachLimit
+      alone i w p q h = omega arith
+
+  -- File 10: behind a direction, with the input set that no record told
+  pub drift-zero-box : (kind : ℕ) → 0x05 ≤ kind → DriftAt kind n zeroBox drift
+  unfolding zeroBox zeros
+  drift-zero-box kind k = record { none = λ l. absurd (omega arith); beyond = d .beyond; small = d .small; entering = λ u. entering-zeros 2 }
 
 -- ---- directions and guards
 

@@ -1,16 +1,16 @@
 -- Laws of `readModel`. In order: its number and offset; where a file is read, a state that the reader has reached; a model that was
--- read is accepted; an accepted file has at most 1,665 bytes; reading looks only at the first 2,048 bytes. Assumes nothing.
+-- read is accepted; an accepted file has at most 1,690 bytes; reading looks only at the first 2,048 bytes. Assumes nothing.
 use mathlib.Core.Path.{_≡_, refl, sym, ap, ap₂, subst, _∙_}
 use mathlib.Core.Bool.{Bool, true, false, cond, not, _&&_}
 use mathlib.Core.List.{List}
-use Prim.Native.Nat.{ℕ, zero, suc, _+_, _-_, _≤_, _<_}
+use Prim.Native.Nat.{ℕ, zero, suc, _+_, _*_, _-_, _≤_, _<_}
 use native.Mathlib.Decide.{decLt}
 use native.Mathlib.Omega.{arith}
 use borrow.Author.Tests.{le-leb, leb-true, eq-eqb, eqb-true, lt-ltb, le-ltb, ltb-false}
 use lib.Dec.{eqb, ltb}
 use lib.ListN.{length, take, length-take}
 use lib.Seq.{take-all}
-use Rattle.arrays.specs.Tests.{firstOf}
+use Rattle.arrays.specs.Tests.{firstOf, zeroOutside}
 use Rattle.records.specs.Records.{Record, recordAt, recordKind, recordBody}
 use Rattle.records.proofs.RecordAt.{whole-length, recordAt-take, reaches-of-le}
 use Rattle.arrays.proofs.Tests.{Zeros, zeroOutside-of, allBetween-of}
@@ -29,6 +29,7 @@ use Rattle.arrays.proofs.FirstOf.{firstOf-zero}
 use Rattle.reader.proofs.ReadingOn.{refusal-zero, whole-of-refusal, GoesOn, goesOn-true, stopFor-ind, stopFor-enough, stopFor-stops}
 use Rattle.reader.proofs.RowsOfSix.{someNonzero-of, guardsOk-of}
 use Rattle.reader.proofs.OrderFacts.{fact, order-fact, isDone-late}
+use Rattle.reader.proofs.PartsSoFar.{n-most}
 use Rattle.reader.proofs.AcceptedSoFar.{AcceptedSoFar, acceptedSoFar-start, acceptedSoFar-stored}
 use Rattle.reader.proofs.Sizes.{used, used-stored, used-le}
 
@@ -136,7 +137,8 @@ accepted-of s g late =
     ap₂ _&&_ frame
     (ap₂ _&&_ (g .initial .done (isDone-late 0x10 (s .last) (omega arith)))
     (ap₂ _&&_ (g .input .done (isDone-late 0x20 (s .last) (omega arith)))
-    (ap₂ _&&_ directions (guardsOk-of (s .model .directions) (s .model .guards) (s .model .watched) (s .model .levels) (g .guards .few) (g .guards .guarded)))))
+    (ap₂ _&&_ (ap₂ _&&_ beyond (g .drift .entering (isDone-late 0x20 (s .last) (omega arith))))
+    (ap₂ _&&_ directions (guardsOk-of (s .model .directions) (s .model .guards) (s .model .watched) (s .model .levels) (g .guards .few) (g .guards .guarded))))))
   where
     frame : frameOk (s .model .n) (s .model .steps) (s .model .matrix) ≡ true
     frame =
@@ -144,6 +146,14 @@ accepted-of s g late =
         (ap₂ _&&_ (g .frame .steps-ok (omega arith))
         (ap₂ _&&_ (allBetween-of entryLimit (s .model .matrix) (g .frame .matrix-small))
         (zeroOutside-of (s .model .n) (s .model .n) (s .model .matrix) (subst (λ (k : ℕ). Zeros k (s .model .n) (s .model .matrix)) (g .frame .all (omega arith)) (g .frame .matrix-zeros)))))
+
+    beyond : zeroOutside 1 (s .model .n) (s .model .drift) ≡ true
+    beyond =
+        zeroOutside-of 1 (s .model .n) (s .model .drift)
+        (record {
+          row = λ p i l h. g .drift .beyond (6 * p + i) (omega (arith, n-most (s .model .n) (g .frame .dimension (omega arith))));
+          column = λ p i l h. g .drift .beyond (6 * p + i) (omega arith);
+        })
 
     directions : directionsOk (s .model .n) (s .model .directions) (s .model .entries) ≡ true
     directions =
@@ -162,7 +172,7 @@ readModel-accepted file e =
 
 -- ---- File 9
 
-pub readModel-length : (file : List ℕ) → readModel file .status ≡ Read → length file ≤ 1665
+pub readModel-length : (file : List ℕ) → readModel file .status ≡ Read → length file ≤ 1690
 readModel-length file e =
     let r = readModel-reached file e in
     omega (arith, r .length-le, r .reachable .within, used-le (r .last .state) (r .reachable .so-far))
@@ -174,7 +184,7 @@ module _ (file : List ℕ) where
   first = take 2048 file
 
   module _ (p : Stop) (r : Reachable p) where
-    small : p .at ≤ 1664
+    small : p .at ≤ 1689
     small = omega (arith, r .within, used-le (p .state) (r .so-far))
 
     same-record : recordAt first (p .at) ≡ recordAt file (p .at)

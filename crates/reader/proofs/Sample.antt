@@ -46,6 +46,7 @@ sampleModel =
       n = 1;
       steps = 3;
       matrix = pos 32768 ∷ replicate 35 (pos 0);
+      drift = replicate 6 (pos 0);
       initial = record { shape = Box; count = 2; points = replicate 96 (pos 0) };
       input = record { shape = Box; count = 2; points = replicate 6 (pos 0) ++ pos 1 ∷ replicate 89 (pos 0) };
       directions = 1;

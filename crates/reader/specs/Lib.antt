@@ -4,5 +4,6 @@ pub mod Values
 pub mod Refusals
 pub mod Reading
 pub mod NoInput
+pub mod NoDrift
 pub mod Points
 pub mod Inner

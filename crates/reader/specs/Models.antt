@@ -1,4 +1,4 @@
--- File 3, 4, 5, 7, 8 and 10: how far a file has been read, and what each record adds to the model. Definitions only. A record
+-- File 3, 4, 5, 7, 8, 10 and 15: how far a file has been read, and what each record adds to the model. Definitions only. A record
 -- that a block has no room for changes nothing in it; none such is ever let in. Assumes nothing.
 use mathlib.Core.Bool.{Bool, true, cond}
 use mathlib.Core.List.{List}
@@ -33,6 +33,7 @@ blankModel =
       n = 0;
       steps = 0;
       matrix = zeros 36;
+      drift = zeros 6;
       initial = blankSet;
       input = blankSet;
       directions = 0;
@@ -80,12 +81,13 @@ defaultSteps k = cond (eqb k 0) usualSteps k
 -- ---- a model with one part changed
 
 -- The model of these fields, in the order of the code.
-abbrev pub modelOf : ℕ → ℕ → List ℤ → Set → Set → ℕ → List ℤ → ℕ → List ℕ → List ℤ → Model
-modelOf n steps matrix initial input directions entries guards watched levels =
+abbrev pub modelOf : ℕ → ℕ → List ℤ → List ℤ → Set → Set → ℕ → List ℤ → ℕ → List ℕ → List ℤ → Model
+modelOf n steps matrix drift initial input directions entries guards watched levels =
     record {
       n = n;
       steps = steps;
       matrix = matrix;
+      drift = drift;
       initial = initial;
       input = input;
       directions = directions;
@@ -96,23 +98,26 @@ modelOf n steps matrix initial input directions entries guards watched levels =
     }
 
 abbrev pub setHead : Model → ℕ → ℕ → Model
-setHead m n steps = modelOf n steps (m .matrix) (m .initial) (m .input) (m .directions) (m .entries) (m .guards) (m .watched) (m .levels)
+setHead m n steps = modelOf n steps (m .matrix) (m .drift) (m .initial) (m .input) (m .directions) (m .entries) (m .guards) (m .watched) (m .levels)
 
 abbrev pub setMatrix : Model → List ℤ → Model
-setMatrix m matrix = modelOf (m .n) (m .steps) matrix (m .initial) (m .input) (m .directions) (m .entries) (m .guards) (m .watched) (m .levels)
+setMatrix m matrix = modelOf (m .n) (m .steps) matrix (m .drift) (m .initial) (m .input) (m .directions) (m .entries) (m .guards) (m .watched) (m .levels)
+
+abbrev pub setDrift : Model → List ℤ → Model
+setDrift m drift = modelOf (m .n) (m .steps) (m .matrix) drift (m .initial) (m .input) (m .directions) (m .entries) (m .guards) (m .watched) (m .levels)
 
 -- The initial set or, with `input`, the input set.
 abbrev pub setOf : Bool → Model → Set
 setOf input m = cond input (m .input) (m .initial)
 
 abbrev pub setSet : Bool → Model → Set → Model
-setSet input m set = modelOf (m .n) (m .steps) (m .matrix) (cond input (m .initial) set) (cond input set (m .input)) (m .directions) (m .entries) (m .guards) (m .watched) (m .levels)
+setSet input m set = modelOf (m .n) (m .steps) (m .matrix) (m .drift) (cond input (m .initial) set) (cond input set (m .input)) (m .directions) (m .entries) (m .guards) (m .watched) (m .levels)
 
 abbrev pub setDirections : Model → ℕ → List ℤ → Model
-setDirections m directions entries = modelOf (m .n) (m .steps) (m .matrix) (m .initial) (m .input) directions entries (m .guards) (m .watched) (m .levels)
+setDirections m directions entries = modelOf (m .n) (m .steps) (m .matrix) (m .drift) (m .initial) (m .input) directions entries (m .guards) (m .watched) (m .levels)
 
 abbrev pub setGuards : Model → ℕ → List ℕ → List ℤ → Model
-setGuards m guards watched levels = modelOf (m .n) (m .steps) (m .matrix) (m .initial) (m .input) (m .directions) (m .entries) guards watched levels
+setGuards m guards watched levels = modelOf (m .n) (m .steps) (m .matrix) (m .drift) (m .initial) (m .input) (m .directions) (m .entries) guards watched levels
 
 -- ---- what each record adds
 
@@ -145,6 +150,10 @@ rowStored s six =
 -- File 3, kinds 02 and 03.
 unfoldable pub withRow : State → ℕ → List ℕ → State
 withRow s kind body = rowStored s (storedSix (s .model .n) (rowAnswer kind body))
+
+-- File 3, kind 05. File 15: without it the drift stays that of the blank model, zero.
+unfoldable pub withDrift : State → ℕ → List ℕ → State
+withDrift s kind body = stateOf kind (s .rows) (setDrift (s .model) (sixAt (s .model .n) body 0))
 
 -- File 3, kinds 10 to 14, and File 8: one point more, behind those before it.
 unfoldable pub withPoint : ℕ → Set → ℕ → List ℕ → Set

@@ -6,17 +6,18 @@ use lib.Dec.{leb}
 use Rattle.arrays.specs.Tests.{firstOf}
 use Rattle.records.specs.Records.{Record, whole, short, unknown, nothing}
 use Rattle.records.specs.declared.order.Part.{Part}
-use Rattle.records.specs.declared.order.Part.the-variants.{Head, Row, Initial, Input, Direction, Guard, End}
+use Rattle.records.specs.declared.order.Part.the-variants.{Head, Row, Drift, Initial, Input, Direction, Guard, End}
 use Rattle.reader.specs.declared.state.State.{State}
 use Rattle.records.specs.Order.{mayFollow, partOf}
 use Rattle.reader.specs.Order.{mostOf}
-use Rattle.reader.specs.Models.{withHead, withRow, withSetPoint, withDirection, withGuard}
+use Rattle.reader.specs.Models.{withHead, withRow, withDrift, withSetPoint, withDirection, withGuard}
 use Rattle.reader.specs.Values.{valueNumber}
 
--- Refusals 9: how many a part has that are counted. A head, rows and the end are not counted, so there is never one too many.
+-- Refusals 9: how many a part has that are counted. A head, rows, a drift and the end are not counted, so there is never one too many.
 abbrev pub countOf : Part → State → ℕ
 countOf Head s = 0
 countOf Row s = 0
+countOf Drift s = 0
 countOf Initial s = s .model .initial .count
 countOf Input s = s .model .input .count
 countOf Direction s = s .model .directions
@@ -32,7 +33,7 @@ unfoldable pub kindNumber : State → ℕ → ℕ
 kindNumber s kind = cond (mayFollow (s .last) kind) (cond (oneTooMany s kind) 9 0) 3
 
 -- Reading 1: the number of the record that stands at an offset, 0 where it is read. No byte (1); unknown (2); 3 and 9; a body that
--- is cut (1); 4 to 8 and 15.
+-- is cut (1); 4 to 8, 15 and 17.
 unfoldable pub refusal : State → Record → ℕ
 refusal s nothing = 1
 refusal s (unknown kind) = 2
@@ -43,6 +44,7 @@ refusal s (whole kind body) = firstOf (kindNumber s kind) (valueNumber (partOf k
 abbrev pub storedIn : Part → State → ℕ → List ℕ → State
 storedIn Head s kind body = withHead s body
 storedIn Row s kind body = withRow s kind body
+storedIn Drift s kind body = withDrift s kind body
 storedIn Initial s kind body = withSetPoint false s kind body
 storedIn Input s kind body = withSetPoint true s kind body
 storedIn Direction s kind body = withDirection s kind body

@@ -1,4 +1,4 @@
--- Refusals 4 to 8 and 15: what a body may hold. Definitions only. Assumes nothing.
+-- Refusals 4 to 8, 15 and 17: what a body may hold. Definitions only. Assumes nothing.
 use mathlib.Core.Bool.{Bool, true, false, cond, not, _&&_, _||_}
 use mathlib.Core.List.{List}
 use Prim.Native.Nat.{ℕ}
@@ -8,11 +8,12 @@ use Rattle.arrays.specs.Tests.{allBetween, firstOf}
 use Rattle.stepping.specs.Refusals.{dimensionOk}
 use Rattle.coefficients.specs.Rows.{entriesNumber}
 use Rattle.records.specs.Numbers.{littleEndian}
-use Rattle.reachability.specs.Sets.{reachWithin}
+use Rattle.reachability.specs.Sets.{reachLimit, reachWithin}
+use Rattle.reachability.specs.Entering.{enteringWithin}
 use Rattle.limits.specs.Limits.{directionLimit, allZero, cornersOrdered}
 use Rattle.reachability.specs.declared.sets.Set.{Set}
 use Rattle.records.specs.declared.order.Part.{Part}
-use Rattle.records.specs.declared.order.Part.the-variants.{Head, Row, Initial, Input, Direction, Guard, End}
+use Rattle.records.specs.declared.order.Part.the-variants.{Head, Row, Drift, Initial, Input, Direction, Guard, End}
 use Rattle.reader.specs.declared.state.State.{State}
 use Rattle.reader.specs.Order.{isUpper}
 use Rattle.reader.specs.Models.{firstByte, sixAt, rowAnswer, setOf, withPoint}
@@ -24,14 +25,22 @@ headValuesOk n steps = dimensionOk n && leb steps 256
 abbrev pub headOk : List ℕ → Bool
 headOk body = headValuesOk (firstByte body) (littleEndian 2 body 1)
 
--- Limits 5: numbers from minus the limit to the limit. Those beyond n are zero, so only the first n can fail.
+-- Limits 5 and Limits 11: numbers from minus the limit to the limit. Those beyond n are zero, so only the first n can fail.
 abbrev pub within : ℕ → List ℤ → Bool
 within limit six = allBetween (negℤ (pos limit)) (pos limit) six
+
+-- Refusals 17 does not apply to the drift.
+unfoldable pub driftOk : ℕ → List ℕ → Bool
+driftOk n body = within reachLimit (sixAt n body 0)
 
 -- Refusals 6 does not apply to the set with this point. The corners are compared at the upper one.
 unfoldable pub pointOk : ℕ → ℕ → Set → Bool
 pointOk n kind set =
     reachWithin (set .shape) (set .count) (set .points) && (not (isUpper kind) || cornersOrdered n (set .points))
+
+-- Refusals 17 does not apply to the set with this point. Of the initial set nothing is tested beside the drift.
+abbrev pub enteringPointOk : Bool → Set → List ℤ → Bool
+enteringPointOk input set drift = not input || enteringWithin (set .shape) (set .count) (set .points) drift
 
 -- Refusals 7 does not apply.
 unfoldable pub directionOk : ℕ → List ℕ → Bool
@@ -48,14 +57,19 @@ unless ok number = cond ok 0 number
 unfoldable pub rowNumber : State → ℕ → List ℕ → ℕ
 rowNumber s kind body = firstOf (unless (eqb (firstByte body) (s .rows)) 5) (entriesNumber (s .model .n) (rowAnswer kind body))
 
--- The number of a point more of the initial set or, with `input`, of the input set.
+-- The number of a point more of the initial set or, with `input`, of the input set: Refusals 6, then Refusals 17.
+abbrev pub pointNumberOf : Bool → ℕ → ℕ → Set → List ℤ → ℕ
+pointNumberOf input n kind set drift = firstOf (unless (pointOk n kind set) 6) (unless (enteringPointOk input set drift) 17)
+
 abbrev pub pointNumber : Bool → State → ℕ → List ℕ → ℕ
-pointNumber input s kind body = unless (pointOk (s .model .n) kind (withPoint (s .model .n) (setOf input (s .model)) kind body)) 6
+pointNumber input s kind body =
+    pointNumberOf input (s .model .n) kind (withPoint (s .model .n) (setOf input (s .model)) kind body) (s .model .drift)
 
 -- The number of the value test of a record's part, 0 where the body passes. The end has no body.
 abbrev pub valueNumber : Part → State → ℕ → List ℕ → ℕ
 valueNumber Head s kind body = unless (headOk body) 4
 valueNumber Row s kind body = rowNumber s kind body
+valueNumber Drift s kind body = unless (driftOk (s .model .n) body) 17
 valueNumber Initial s kind body = pointNumber false s kind body
 valueNumber Input s kind body = pointNumber true s kind body
 valueNumber Direction s kind body = unless (directionOk (s .model .n) body) 7

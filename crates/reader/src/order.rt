@@ -40,6 +40,7 @@ fn count_of(part: Part, state: State) -> usize
         Part::Guard => model.guards,
         Part::Head => 0,
         Part::Row => 0,
+        Part::Drift => 0,
         Part::End => 0,
     }
 }

@@ -20,6 +20,7 @@ pub(crate) fn blank_model() -> Model
         n: 0,
         steps: 0,
         matrix: [0i32; 36],
+        drift: [0i32; 6],
         initial: Set {
             shape: Shape::Box,
             count: 0,

@@ -1,4 +1,4 @@
-// Taking a whole record: its value test, Refusals 4 to 8 and 15, and the state behind it.
+// Taking a whole record: its value test, Refusals 4 to 8, 15 and 17, and the state behind it.
 use crate::state::State;
 use crate::store::first_byte;
 use crate::store::fitted_row;
@@ -11,6 +11,7 @@ use crate::store::with_set;
 use coefficients::rows::RowEntries;
 use coefficients::rows::fitted_entries;
 use coefficients::rows::scaled_entries;
+use reachability::entering::entering_within;
 use reachability::sets::Set;
 use records::order::Part;
 use records::order::part_of;
@@ -20,8 +21,8 @@ ghost use Prim.Native.Nat.{_<_};
 ghost use lib.Dec.{eqb};
 ghost use Rattle.records.specs.Order.{partOf};
 ghost use Rattle.arrays.specs.Tests.{firstOf};
-ghost use Rattle.reader.specs.Models.{withHead, rowStored, withRow, setOf, withSetPoint, withDirection, withGuard};
-ghost use Rattle.reader.specs.Values.{headOk, rowNumber, pointOk, directionOk, guardOk, unless, pointNumber, valueNumber};
+ghost use Rattle.reader.specs.Models.{withHead, rowStored, withRow, withDrift, setOf, withSetPoint, withDirection, withGuard};
+ghost use Rattle.reader.specs.Values.{headOk, rowNumber, driftOk, pointOk, enteringPointOk, directionOk, guardOk, unless, pointNumber, valueNumber};
 ghost use Rattle.reader.specs.Refusals.{oneTooMany, stored};
 ghost use Rattle.reader.specs.Inner.{Takes};
 
@@ -105,6 +106,26 @@ fn take_row(state: State, kind: u8, body: &[u8]) -> Taken
     store_row(state, first_byte(body), entries)
 }
 
+// The drift. What lies beyond n is zero.
+fn take_drift(state: State, kind: u8, body: &[u8]) -> Taken
+    ensures { λ r. ⌜ Takes (unless (driftOk (state .model .n) (now (body .entry))) 17) (withDrift state kind (now (body .entry))) r ⌝ }
+{
+    let mut model = state.model;
+    let six = six_at(model.n, body, 0);
+    if !arrays::all_between(-1048576, 1048576, &six) {
+        return Taken { number: 17, state };
+    }
+    model.drift = six;
+    Taken {
+        number: 0,
+        state: State {
+            last: kind,
+            rows: state.rows,
+            model,
+        },
+    }
+}
+
 // The reach of the set so far is within its limit, and a box's corners, once both are read, are in order.
 fn point_ok(n: usize, kind: u8, set: Set) -> bool
     ensures { λ b. ⌜ b ≡ pointOk n kind set ⌝ }
@@ -122,6 +143,19 @@ fn point_ok(n: usize, kind: u8, set: Set) -> bool
     limits::corners_ordered(n, &points)
 }
 
+// Of the input set, the reach so far and the drift are within their limit together.
+fn entering_point_ok(input: bool, set: Set, drift: [i32; 6]) -> bool
+    ensures { λ b. ⌜ b ≡ enteringPointOk input set drift ⌝ }
+{
+    if !input {
+        return true;
+    }
+    let shape = set.shape;
+    let count = set.count;
+    let points = set.points;
+    entering_within(shape, count, &points, &drift)
+}
+
 // One point more of the initial set or, with `input`, of the input set.
 fn take_point(state: State, input: bool, kind: u8, body: &[u8]) -> Taken
     requires { ⌜ setOf input (state .model) .count < 16 ⌝ }
@@ -131,8 +165,16 @@ fn take_point(state: State, input: bool, kind: u8, body: &[u8]) -> Taken
     let n = model.n;
     let before = set_of(input, model);
     let set = with_point(n, before, kind, body);
-    if !point_ok(n, kind, set) {
-        return Taken { number: 6, state };
+    let broken: u8 = if point_ok(n, kind, set) { 0 } else { 6 };
+    let drift = model.drift;
+    let over: u8 = if entering_point_ok(input, set, drift) {
+        0
+    } else {
+        17
+    };
+    let number = arrays::first_of(broken, over);
+    if number != 0 {
+        return Taken { number, state };
     }
     let next = with_set(input, model, set);
     Taken {
@@ -210,6 +252,7 @@ pub(crate) fn take(state: State, kind: u8, body: &[u8]) -> Taken
     match part {
         Part::Head => take_head(state, body),
         Part::Row => take_row(state, kind, body),
+        Part::Drift => take_drift(state, kind, body),
         Part::Initial => take_point(state, false, kind, body),
         Part::Input => take_point(state, true, kind, body),
         Part::Direction => take_direction(state, kind, body),

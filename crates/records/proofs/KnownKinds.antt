@@ -21,6 +21,7 @@ bodyLength-beyond kind h =
       ne-eqb kind 0x01 (λ e. omega arith),
       ne-eqb kind 0x02 (λ e. omega arith),
       ne-eqb kind 0x03 (λ e. omega arith),
+      ne-eqb kind 0x05 (λ e. omega arith),
       le-leb 0x10 kind (omega arith),
       lt-leb kind 0x14 (omega arith),
       le-leb 0x20 kind (omega arith),

@@ -5,10 +5,11 @@ ghost use Rattle.records.specs.Kinds.{bodyLength};
 // A kind and the length of its body, in bytes.
 struct Entry(u8, usize);
 
-const KINDS: [Entry; 16] = [
+const KINDS: [Entry; 17] = [
     Entry(0x01, 3),
     Entry(0x02, 25),
     Entry(0x03, 49),
+    Entry(0x05, 24),
     Entry(0x10, 24),
     Entry(0x11, 24),
     Entry(0x12, 24),
@@ -36,7 +37,7 @@ pub(crate) fn body_length(kind: u8) -> BodyLength
 {
     let table = KINDS;
     let mut i: usize = 0;
-    while i < 16 {
+    while i < 17 {
         let entry = table[i];
         if entry.0 == kind {
             return BodyLength::Bytes(entry.1);

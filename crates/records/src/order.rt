@@ -6,6 +6,7 @@ ghost use Rattle.records.specs.Order.{mayFollow, partOf};
 pub enum Part {
     Head,
     Row,
+    Drift,
     Initial,
     Input,
     Direction,
@@ -17,13 +18,17 @@ pub enum Part {
 // are in, and 02 then, also behind a fitted row.
 struct Pair(u8, u8);
 
-const ORDER: [Pair; 34] = [
+const ORDER: [Pair; 38] = [
     Pair(0x00, 0x01),
     Pair(0x01, 0x02),
     Pair(0x01, 0x03),
+    Pair(0x02, 0x05),
     Pair(0x02, 0x10),
     Pair(0x02, 0x12),
     Pair(0x02, 0x14),
+    Pair(0x05, 0x10),
+    Pair(0x05, 0x12),
+    Pair(0x05, 0x14),
     Pair(0x10, 0x11),
     Pair(0x11, 0x20),
     Pair(0x11, 0x22),
@@ -60,7 +65,7 @@ pub fn may_follow(place: u8, kind: u8) -> bool
 {
     let table = ORDER;
     let mut i: usize = 0;
-    while i < 34 {
+    while i < 38 {
         let pair = table[i];
         if pair.0 == place {
             if pair.1 == kind {
@@ -81,6 +86,9 @@ pub fn part_of(kind: u8) -> Part
     }
     if kind <= 0x03 {
         return Part::Row;
+    }
+    if kind <= 0x05 {
+        return Part::Drift;
     }
     if kind <= 0x14 {
         return Part::Initial;

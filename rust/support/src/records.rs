@@ -15,7 +15,7 @@ pub fn body_length(kind: u8) -> Option<usize> {
         0x01 => Some(3),
         0x02 => Some(25),
         0x03 => Some(49),
-        0x10..=0x14 | 0x20..=0x24 | 0x30 => Some(24),
+        0x05 | 0x10..=0x14 | 0x20..=0x24 | 0x30 => Some(24),
         0x40 => Some(9),
         0xFF => Some(0),
         _ => None,
@@ -54,7 +54,7 @@ pub fn fitted(number: u8, patterns: &[u64]) -> Record {
     Record { kind: 0x03, body: [vec![number], all.map(u64::to_le_bytes).concat()].concat() }
 }
 
-/// A point of a set or a direction.
+/// A point of a set, a direction or a drift.
 pub fn numbers(kind: u8, entries: &[i32]) -> Record {
     Record { kind, body: six(entries) }
 }
@@ -77,10 +77,13 @@ fn points(family: u8, set: &Set) -> impl Iterator<Item = Record> + '_ {
     set.points.iter().enumerate().map(move |(k, point)| numbers(family + if k == 0 { first } else { others }, point))
 }
 
-/// The records of a model, from its head to its end.
+/// The records of a model, from its head to its end; a drift of zero has none (File 15).
 pub fn of_model(model: &Model) -> Vec<Record> {
     let mut records = vec![head(model.n as u8, model.steps as u16)];
     records.extend(model.matrix.iter().take(model.n).enumerate().map(|(number, entries)| row(number as u8, entries)));
+    if model.drift != [0; 6] {
+        records.push(numbers(0x05, &model.drift));
+    }
     records.extend(points(0x10, &model.initial));
     records.extend(points(0x20, &model.input));
     records.extend(model.directions.iter().map(|direction| numbers(0x30, direction)));

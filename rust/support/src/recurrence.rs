@@ -92,15 +92,25 @@ pub fn reach<T: Whole>(set: &Set, i: usize) -> T {
     }
 }
 
-fn reaches<T: Whole>(n: usize, set: &Set) -> [T; 6] {
+/// The support at r of what enters at a step (Recurrence 15).
+fn entering_support<T: Whole>(model: &Model, r: &[T; 6]) -> T {
+    support(model.n, &model.input, r) + dot(model.n, r, &model.drift)
+}
+
+/// How far what enters at a step reaches in coordinate i (Recurrence 16).
+pub fn entering_reach<T: Whole>(model: &Model, i: usize) -> T {
+    reach::<T>(&model.input, i) + T::from(model.drift[i]).abs()
+}
+
+fn reaches<T: Whole>(n: usize, reach: impl Fn(usize) -> T) -> [T; 6] {
     let mut all = [zero(); 6];
     for (i, one) in all.iter_mut().enumerate().take(n) {
-        *one = reach(set, i);
+        *one = reach(i);
     }
     all
 }
 
-/// The error term of a set: e · reach (Recurrence 10).
+/// The error term of the initial set, or of what enters: e · reach (Recurrence 10).
 fn errors<T: Whole>(n: usize, e: &[T; 6], reach: &[T; 6]) -> T {
     let mut sum = zero();
     for i in 0..n {
@@ -163,24 +173,24 @@ pub struct Envelope<T> {
 /// The sweep of a direction (Recurrence 11 to 14), or the first step with growth.
 pub fn sweep<T: Whole>(model: &Model, direction: &Six) -> Result<Envelope<T>, usize> {
     let (n, size) = (model.n, model.steps + 1);
-    let initial_reach = reaches(n, &model.initial);
-    let input_reach = reaches(n, &model.input);
+    let initial_reach = reaches(n, |i| reach(&model.initial, i));
+    let entering_reach = reaches(n, |i| entering_reach(model, i));
     let mut envelope = Envelope { spare: 0, bounds: Vec::with_capacity(size), slacks: Vec::with_capacity(size) };
     let mut working = first::<T>(direction);
-    let (mut largest, mut inputs, mut input_errors) = (zero::<T>(), zero::<T>(), zero::<T>());
+    let (mut largest, mut entered, mut entered_errors) = (zero::<T>(), zero::<T>(), zero::<T>());
     for k in 0..size {
         let sum = growth_sum(n, &working);
         if grows(sum) {
             return Err(k);
         }
         largest = largest.max(sum);
-        let half = rounded_up(errors(n, &working.e, &initial_reach) + input_errors, 2);
-        let raw_bound = support(n, &model.initial, &working.r) + inputs + half;
+        let half = rounded_up(errors(n, &working.e, &initial_reach) + entered_errors, 2);
+        let raw_bound = support(n, &model.initial, &working.r) + entered + half;
         let raw_slack = T::from(2i32) * half;
         envelope.bounds.push(rounded_up(raw_bound, DIRECTION_UNIT));
         envelope.slacks.push(rounded_up(raw_slack, DIRECTION_UNIT) + one_if_fraction(raw_bound, DIRECTION_UNIT));
-        inputs += support(n, &model.input, &working.r);
-        input_errors += errors(n, &working.e, &input_reach);
+        entered += entering_support(model, &working.r);
+        entered_errors += errors(n, &working.e, &entering_reach);
         working = next(n, &model.matrix, &working);
     }
     envelope.spare = spare(largest);

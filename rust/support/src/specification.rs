@@ -1,11 +1,11 @@
 //! Models, and their reader: "File", "Reading" and "Refusals" of the specification, slow and plain.
 
 use crate::records::body_length;
-use crate::recurrence::reach;
+use crate::recurrence::{entering_reach, reach};
 use pepperscarp::Refusal;
 
 pub const ENTRY_LIMIT: i32 = 131_072;
-const REACH_LIMIT: i64 = 1_048_576;
+const REACH_LIMIT: i32 = 1_048_576;
 const DIRECTION_LIMIT: i32 = 1_000;
 const FITTED_LIMIT: f64 = 2.0;
 
@@ -51,16 +51,18 @@ pub struct Model {
     pub n: usize,
     pub steps: usize,
     pub matrix: [Six; 6],
+    pub drift: Six,
     pub initial: Set,
     pub input: Set,
     pub directions: Vec<Six>,
     pub guards: Vec<(usize, i64)>,
 }
 
-/// What has been read so far: n is 0 before the head, and `rows` counts those of the matrix.
+/// What has been read so far: n is 0 before the head, `rows` counts those of the matrix, and `drift` tells whether one has come.
 struct SoFar {
     model: Model,
     rows: usize,
+    drift: bool,
 }
 
 fn nothing_read() -> SoFar {
@@ -68,16 +70,17 @@ fn nothing_read() -> SoFar {
         n: 0,
         steps: 0,
         matrix: [[0; 6]; 6],
+        drift: [0; 6],
         initial: Set::unread(),
         input: Set::unread(),
         directions: Vec::new(),
         guards: Vec::new(),
     };
-    SoFar { model, rows: 0 }
+    SoFar { model, rows: 0, drift: false }
 }
 
 /// Whether a record of this kind may come next, told by what has been read (File 5, File 6).
-fn may_come(SoFar { model, rows }: &SoFar, kind: u8) -> bool {
+fn may_come(SoFar { model, rows, drift }: &SoFar, kind: u8) -> bool {
     let head = model.n > 0;
     let rows = head && *rows == model.n;
     // A point of a set whose part is open: the part before it is complete and nothing of a later part has come.
@@ -93,6 +96,7 @@ fn may_come(SoFar { model, rows }: &SoFar, kind: u8) -> bool {
     match kind {
         0x01 => !head,
         0x02 | 0x03 => head && !rows,
+        0x05 => rows && !drift && model.initial.points.is_empty(),
         0x10..=0x14 => point(&model.initial, rows && model.input.points.is_empty()),
         0x20..=0x24 => point(&model.input, model.initial.is_complete() && model.directions.is_empty()),
         // Without input records it stands straight after a complete initial set (File 10).
@@ -162,13 +166,13 @@ fn take_point(set: &mut Set, n: usize, kind: u8, body: &[u8]) -> bool {
         _ => Form::Vertices,
     };
     set.points.push(six(n, body));
-    let in_reach = (0..n).all(|i| reach::<i64>(set, i) <= REACH_LIMIT);
+    let in_reach = (0..n).all(|i| reach::<i64>(set, i) <= i64::from(REACH_LIMIT));
     let in_order = kind & 0x0F != 1 || (0..n).all(|i| set.points[0][i] <= set.points[1][i]);
     in_reach && in_order
 }
 
-/// Stores a record; the number of the value test that it fails (Refusals 4 to 8 and 15), or 0.
-fn take(SoFar { model, rows }: &mut SoFar, kind: u8, body: &[u8]) -> u8 {
+/// Stores a record; the number of the value test that it fails (Refusals 4 to 8, 15 and 17), or 0.
+fn take(SoFar { model, rows, drift }: &mut SoFar, kind: u8, body: &[u8]) -> u8 {
     match kind {
         0x01 => {
             let n = usize::from(body[0]);
@@ -189,6 +193,13 @@ fn take(SoFar { model, rows }: &mut SoFar, kind: u8, body: &[u8]) -> u8 {
             }
             *rows += 1;
         }
+        0x05 => {
+            *drift = true;
+            model.drift = six(model.n, body);
+            if !within(&model.drift, REACH_LIMIT) {
+                return 17;
+            }
+        }
         0x10..=0x14 => {
             if !take_point(&mut model.initial, model.n, kind, body) {
                 return 6;
@@ -197,6 +208,9 @@ fn take(SoFar { model, rows }: &mut SoFar, kind: u8, body: &[u8]) -> u8 {
         0x20..=0x24 => {
             if !take_point(&mut model.input, model.n, kind, body) {
                 return 6;
+            }
+            if (0..model.n).any(|i| entering_reach::<i64>(model, i) > i64::from(REACH_LIMIT)) {
+                return 17;
             }
         }
         0x30 => {

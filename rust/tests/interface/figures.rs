@@ -1,4 +1,4 @@
-//! Figures 1 to 14 and 16 to 23 of the specification, as far as the interface shows them, its sample (Listing 8), and the listings
+//! Figures 1 to 14 and 16 to 27 of the specification, as far as the interface shows them, its sample (Listing 8), and the listings
 //! in examples/.
 
 use crate::sweeps::compare_sweep;
@@ -220,6 +220,43 @@ fn case_23_fitted_entries_become_the_nearest_and_of_two_the_even_one() {
     }
 }
 
+/// A model of one coordinate with boxes and a drift.
+fn drifting(steps: u16, entry: i32, input: [i32; 2], direction: i32, drift: i32) -> Vec<u8> {
+    let mut bytes = line(steps, entry, [0, 0], input, direction, &[]);
+    // Behind the head and the row.
+    bytes.splice(30..30, file(&[numbers(0x05, &[drift])]));
+    bytes
+}
+
+#[test]
+fn cases_24_and_25_a_drift_adds_up_in_the_direction_that_it_has() {
+    for sign in [1, -1] {
+        let (_, bounds, slacks) = swept(&drifting(2, 65_536, [0, 0], sign, 3 * sign)).expect("calm");
+        assert_eq!((bounds, slacks), (vec![0, 3, 6], vec![0, 0, 0]));
+    }
+}
+
+#[test]
+fn case_26_the_limit_of_the_drift_and_of_its_sum_with_the_input_set() {
+    for sign in [1, -1] {
+        assert!(swept(&drifting(1, 0, [0, 0], 1, sign * 1_048_576)).is_ok());
+        let beside = swept(&drifting(1, 0, [0, 1], 1, sign * 1_048_576));
+        assert_eq!(beside, Err(Refusal::File { number: 17, offset: 130 }));
+        let alone = swept(&drifting(1, 0, [0, 0], 1, sign * 1_048_577));
+        assert_eq!(alone, Err(Refusal::File { number: 17, offset: 30 }));
+    }
+}
+
+#[test]
+fn case_27_the_reach_of_what_enters_is_a_sum_of_magnitudes() {
+    let (_, bounds, slacks) = swept(&drifting(5, 1, [-524_288, 0], 1, 524_288)).expect("calm");
+    assert_eq!(bounds, [0, 524_288, 524_296, 524_297, 524_297, 524_298]);
+    assert_eq!(slacks, [0, 0, 0, 2, 2, 4]);
+    let (_, bounds, slacks) = swept(&line(5, 1, [0, 0], [0, 524_288], 1, &[])).expect("calm");
+    assert_eq!(bounds, [0, 524_288, 524_296, 524_297, 524_297, 524_297]);
+    assert_eq!(slacks, [0, 0, 0, 2, 2, 3]);
+}
+
 #[test]
 fn errors_are_rounded_up_and_the_slack_is_doubled() {
     let (_, bounds, slacks) = swept(&line(3, 3, [0, 1], [0, 0], 1, &[])).expect("calm");
@@ -245,5 +282,5 @@ fn the_calls_and_the_listing_give_the_text_of_every_example() {
             seen += 1;
         }
     }
-    assert!(seen >= 9, "the examples are there");
+    assert!(seen >= 10, "the examples are there");
 }

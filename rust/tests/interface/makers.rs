@@ -183,7 +183,28 @@ fn direction(random: &mut Random, n: usize) -> Record {
     numbers(0x30, &entries)
 }
 
-/// The records of a valid model without guards and without the end. One in six has no input set.
+/// Coordinate i of a record that has six numbers of four bytes.
+fn coordinate(record: &Record, i: usize) -> i32 {
+    i32::from_le_bytes(record.body[4 * i..][..4].try_into().expect("four bytes"))
+}
+
+/// A drift for which these input points leave room: of any size, or in some coordinates as large as can be; one in eight is zero.
+fn drift(random: &mut Random, n: usize, input: &[Record]) -> Record {
+    let most = random.pick(&[0, 1, 10, 5_000, 5_000, 1_048_576, 1_048_576, 1_048_576]);
+    let mut entries = [0; 6];
+    for (i, entry) in entries.iter_mut().enumerate().take(n) {
+        let sizes = input.iter().map(|point| i64::from(coordinate(point, i)).abs());
+        let summed = input.first().is_some_and(|point| point.kind == 0x22);
+        let reach = if summed { sizes.sum() } else { sizes.max().unwrap_or(0) };
+        let room = most.min(1_048_576 - reach);
+        let somewhere = random.between(-room, room);
+        *entry = random.pick(&[-room, room, somewhere]) as i32;
+    }
+    let entries = filled(random, n, entries);
+    numbers(0x05, &entries)
+}
+
+/// The records of a valid model without guards and without the end. One in six has no input set, and every other one a drift.
 pub fn open_model(random: &mut Random) -> Vec<Record> {
     let n = 1 + random.below(6);
     let steps = match random.below(8) {
@@ -196,10 +217,13 @@ pub fn open_model(random: &mut Random) -> Vec<Record> {
     };
     let mut records = vec![head(n as u8, steps as u16)];
     records.extend(matrix_rows(random, n));
-    records.extend(set_points(random, n, 0x10));
-    if !random.one_in(6) {
-        records.extend(set_points(random, n, 0x20));
+    let initial = set_points(random, n, 0x10);
+    let input = if random.one_in(6) { Vec::new() } else { set_points(random, n, 0x20) };
+    if random.one_in(2) {
+        records.push(drift(random, n, &input));
     }
+    records.extend(initial);
+    records.extend(input);
     let count = random.pick(&[1, 2, 3, 4, 16]);
     records.extend((0..count).map(|_| direction(random, n)));
     records
@@ -233,12 +257,21 @@ fn put(record: &mut Record, at: usize, bytes: &[u8]) {
     record.body[at..at + bytes.len()].copy_from_slice(bytes);
 }
 
+/// Puts a drift of this number in coordinate i behind the rows, in place of one that may be there.
+fn put_drift(records: &mut Vec<Record>, i: usize, entry: i32) {
+    records.retain(|record| record.kind != 0x05);
+    let mut entries = [0; 6];
+    entries[i] = entry;
+    let behind = places(records, is_row).last().map_or(0, |place| place + 1);
+    records.insert(behind, numbers(0x05, &entries));
+}
+
 /// One damage to whole records or to a value, that a reader has to see (or, now and then, may accept).
 pub fn damage_records(random: &mut Random, records: &mut Vec<Record>) {
     let n = usize::from(records[0].body[0]);
     let place = random.below(records.len());
     let other = random.below(records.len());
-    match random.below(14) {
+    match random.below(17) {
         0 => records.swap(place, other),
         1 => {
             records.remove(place);
@@ -256,7 +289,7 @@ pub fn damage_records(random: &mut Random, records: &mut Vec<Record>) {
         }
         4 => {
             records[place].kind =
-                random.pick(&[0x01, 0x02, 0x03, 0x10, 0x11, 0x12, 0x13, 0x14, 0x20, 0x23, 0x24, 0x30, 0x40, 0xFF])
+                random.pick(&[0x01, 0x02, 0x03, 0x05, 0x10, 0x11, 0x12, 0x13, 0x14, 0x20, 0x23, 0x24, 0x30, 0x40, 0xFF])
         }
         5 => records[place].kind = random.bits() as u8,
         6 => records[0] = head(random.pick(&[0, 1, 6, 7, 255]), random.pick(&[0, 1, 256, 257, 512, 65_535])),
@@ -295,6 +328,19 @@ pub fn damage_records(random: &mut Random, records: &mut Vec<Record>) {
             let place = random.pick(&places(records, |kind| kind == 0x30));
             put(&mut records[place], 0, &[0; 24][..4 * n]);
         }
+        13 => {
+            let entry = random.pick(&[1_048_576, 1_048_577, -1_048_576, -1_048_577, i32::MIN, i32::MAX]);
+            put_drift(records, random.below(n), entry);
+        }
+        14 => {
+            // With a point of the input set the sum is at its limit, or beyond it by one.
+            let points = places(records, |kind| (0x20..=0x24).contains(&kind));
+            let i = random.below(n);
+            let size = if points.is_empty() { 0 } else { coordinate(&records[random.pick(&points)], i).unsigned_abs() };
+            let entry = 1_048_576 + i64::from(random.one_in(2)) - i64::from(size);
+            put_drift(records, i, random.pick(&[entry, -entry]) as i32);
+        }
+        15 => records.insert(other, numbers(0x05, &[1])),
         _ => {
             let before_end = records.len() - 1;
             records.insert(before_end, guard(random.pick(&[0, 1, 2, 15, 16, 255]), 0));

@@ -74,7 +74,7 @@ fn files_with_damaged_records_and_values_get_the_reply_of_the_specification() {
         *seen.entry(compare_file(&mut random, &file(&records))).or_insert(0) += 1;
     }
     println!("accepted (0), and refused by each number: {seen:?}");
-    assert!(seen.keys().copied().eq((0..=10).chain([15])), "every number comes: {seen:?}");
+    assert!(seen.keys().copied().eq((0..=10).chain([15, 17])), "every number comes: {seen:?}");
     assert!(seen.values().all(|count| *count > 20), "often: {seen:?}");
 }
 
@@ -94,14 +94,14 @@ fn files_with_damaged_bytes_get_the_reply_of_the_specification() {
     }
     println!("accepted (0), and refused by each number: {seen:?}");
     seen.remove(&9);
-    assert!(seen.keys().copied().eq((0..=8).chain([10, 15])), "every number but 9 comes: {seen:?}");
+    assert!(seen.keys().copied().eq((0..=8).chain([10, 15, 17])), "every number but 9 comes: {seen:?}");
     assert!(seen.values().all(|count| *count > 20), "often: {seen:?}");
 }
 
 #[test]
 fn bytes_that_were_never_a_model_get_the_reply_of_the_specification() {
     let mut random = Random::new(14);
-    let kinds = [0x01, 0x02, 0x03, 0x10, 0x11, 0x12, 0x13, 0x14, 0x20, 0x21, 0x24, 0x30, 0x40, 0xFF];
+    let kinds = [0x01, 0x02, 0x03, 0x05, 0x10, 0x11, 0x12, 0x13, 0x14, 0x20, 0x21, 0x24, 0x30, 0x40, 0xFF];
     for _ in 0..40_000 {
         let length = random.pick(&[0, 1, 3, 4, 5, 30, 90, 200, 2_048, 3_000]);
         let mut bytes: Vec<u8> = (0..length).map(|_| random.bits() as u8).collect();
@@ -132,6 +132,7 @@ fn small_model() -> Vec<Record> {
     vec![
         head(1, 3),
         row(0, &[32_768]),
+        numbers(0x05, &[-7]),
         numbers(0x12, &[0]),
         numbers(0x13, &[4]),
         numbers(0x24, &[0]),
@@ -240,13 +241,14 @@ fn the_longest_file_is_accepted_and_a_byte_more_is_refused_by_10() {
     let mut records = vec![head(6, 256)];
     let entries = [9_000.0, -9_000.0, 9_000.25, -9_000.25, 9_000.5, -9_000.5].map(|x: f64| (x / 65_536.0).to_bits());
     records.extend((0..6).map(|number| fitted(number, &entries)));
+    records.push(numbers(0x05, &[1_048_561, -1_048_561, 1, -1, 0, 7]));
     records.extend((0..16).map(|k| numbers(0x14, &[k, -k, k, -k, k, -k])));
     records.extend((0..16).map(|k| numbers(0x24, &[k, k, k, k, k, k])));
     records.extend((0..16).map(|k| numbers(0x30, &[k + 1, 2, 3, 4, 5, 6])));
     records.extend((0..16).map(|k| guard(k, 1_000)));
     records.push(end());
     let mut bytes = file(&records);
-    assert_eq!(bytes.len(), 1_665);
+    assert_eq!(bytes.len(), 1_690);
     let model = specification::read(&bytes).expect("a model");
     assert_eq!(model.matrix, [[9_000, -9_000, 9_000, -9_000, 9_000, -9_000]; 6]);
     for number in 0..16 {
@@ -254,7 +256,7 @@ fn the_longest_file_is_accepted_and_a_byte_more_is_refused_by_10() {
         compare_judge(&bytes, &model, number).expect("calm");
     }
     bytes.push(0xFF);
-    assert_refused(&bytes, Refusal::File { number: 10, offset: 1_665 }, 0, (257, 257));
+    assert_refused(&bytes, Refusal::File { number: 10, offset: 1_690 }, 0, (257, 257));
 }
 
 #[test]

@@ -79,7 +79,7 @@ fn every_sweep_and_every_verdict_of_random_models_is_that_of_the_specification()
     let mut verdicts = [0; 4];
     let mut sizes = [0; 7];
     let mut forms = [0; 3];
-    let (mut without_input, mut fitted, mut mixed) = (0, 0, 0);
+    let (mut without_input, mut fitted, mut mixed, mut drifting, mut zero) = (0, 0, 0, 0, 0);
     for _ in 0..6_000 {
         let mut records = open_model(&mut random);
         records.push(end());
@@ -95,6 +95,8 @@ fn every_sweep_and_every_verdict_of_random_models_is_that_of_the_specification()
         let has = |kind| records.iter().any(|record| record.kind == kind);
         fitted += usize::from(has(0x03));
         mixed += usize::from(has(0x02) && has(0x03));
+        drifting += usize::from(model.drift != [0; 6]);
+        zero += usize::from(has(0x05) && model.drift == [0; 6]);
         let envelopes: Vec<Option<Envelope>> =
             model.directions.iter().map(|direction| recurrence::sweep(&model, direction).ok()).collect();
         let guards = random.pick(&[0, 1, 3, 16]);
@@ -123,11 +125,12 @@ fn every_sweep_and_every_verdict_of_random_models_is_that_of_the_specification()
         }
     }
     println!("swept {swept}, grown {grown}, HIT UNKNOWN CLEAR growth {verdicts:?}, n {sizes:?}, forms {forms:?}, no input {without_input}");
-    println!("fitted rows in {fitted} models, beside scaled ones in {mixed}");
+    println!("fitted rows in {fitted} models, beside scaled ones in {mixed}; a drift in {drifting}, a record of zeros in {zero}");
     assert!(swept > 10_000 && grown > 2_000, "both come often");
     assert!(verdicts.iter().all(|count| *count > 800), "each verdict comes often");
     assert!(sizes[1..].iter().all(|count| *count > 800) && forms.iter().all(|count| *count > 3_000) && without_input > 800);
     assert!(fitted > 2_000 && mixed > 600, "fitted rows come often, alone and mixed");
+    assert!(drifting > 2_000 && zero > 100, "drifts come often, and some are zero");
 }
 
 #[test]
@@ -140,7 +143,7 @@ fn one_vertex_more_makes_the_larger_of_two_supports_and_one_generator_more_adds_
         let mut records = open_model(&mut random);
         records.push(end());
         let mut whole = specification::read(&file(&records)).expect("a model");
-        (whole.steps, whole.matrix) = (1, [[0; 6]; 6]);
+        (whole.steps, whole.matrix, whole.drift) = (1, [[0; 6]; 6], [0; 6]);
         for (step, set) in [&whole.initial, &whole.input].into_iter().enumerate().filter(|(_, set)| set.form != Form::Box) {
             for (number, direction) in whole.directions.iter().enumerate() {
                 let mut support = 0;

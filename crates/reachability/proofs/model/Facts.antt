@@ -2,12 +2,14 @@
 -- apart again. Assumes nothing.
 use mathlib.Core.Path.{_≡_, refl, sym, ap, _∙_}
 use mathlib.Core.Bool.{Bool, true, false, cond, not, _&&_}
+use mathlib.Core.List.{List}
 use Prim.Native.Nat.{ℕ, _*_, _+_, _≤_, _<_}
 use native.Mathlib.Nat.{lt-of-lt-of-le}
+use native.Mathlib.Omega.{arith}
 use borrow.Author.Tests.{leb-true, lt-ltb, ltb-true}
 use lib.Dec.{leb, ltb, eqb}
 use lib.ListN.{getD}
-use lib.IntN.{pos, negℤ, natAbs}
+use lib.IntN.{ℤ, pos, negℤ, natAbs}
 use Rattle.integers.specs.Sums.{vector, allBelow}
 use Rattle.integers.proofs.Sums.{allBelow-at, allBelow-some}
 use Rattle.arrays.specs.Tests.{allBetween, zeroOutside}
@@ -16,10 +18,18 @@ use Rattle.arrays.proofs.Tests.{allBetween-at, zeroOutside-column}
 use Rattle.stepping.specs.Limits.{entryLimit}
 use Rattle.stepping.specs.Refusals.{dimensionOk, matrixOk}
 use Rattle.limits.specs.Limits.{stepsOk, frameOk, directionLimit, allZero, someNonzero, directionsOk, guardOk, guardsOk}
-use Rattle.reachability.specs.Limits.{accepted, setAccepted}
+use Rattle.reachability.specs.Sets.{points, supportOf, reachOf, reachLimit, countOk, reachOk, orderedOk}
+use Rattle.reachability.specs.Entering.{enteringReach, enteringOk}
+use Rattle.reachability.specs.Moved.{movedPoints, movedSet}
+use Rattle.reachability.specs.EnteringInner.{EnteringSmall, Movable}
+use Rattle.reachability.specs.Limits.{accepted, setAccepted, driftAccepted}
 use Rattle.reachability.specs.Runs.{direction}
+use Rattle.reachability.specs.Recurrence.{enteringSupportOf}
+use Rattle.reachability.specs.SweepInner.{inputPoints}
+use Rattle.reachability.specs.declared.sets.Set.{Set}
 use Rattle.reachability.specs.declared.model.Model.{Model}
 use Rattle.reachability.proofs.sets.Facts.{SetFacts, set-facts, n-range}
+use Rattle.reachability.proofs.sets.Moved.{MovedBy, points-moved, support-moved, set-ok-moved}
 
 pub record ModelFacts (m : Model) : Type 0 where
   -- n and the steps
@@ -35,6 +45,14 @@ pub record ModelFacts (m : Model) : Type 0 where
   -- the sets
   pub initial : SetFacts (m .n) (m .initial .shape) (m .initial .count) (m .initial .points)
   pub input : SetFacts (m .n) (m .input .shape) (m .input .count) (m .input .points)
+  -- the drift, and what enters
+  pub drift-beyond : zeroOutside 1 (m .n) (m .drift) ≡ true
+  pub entering : EnteringSmall (m .input .shape) (m .input .count) (m .input .points) (m .drift)
+  pub movable : Movable (m .input .count) (m .input .points) (m .drift)
+  pub moved : SetFacts (m .n) (m .input .shape) (m .input .count) (inputPoints m)
+  pub moved-ok : setAccepted (m .n) (movedSet (m .input) (m .drift)) ≡ true
+  pub moved-by : MovedBy (m .n) (m .input .shape) (m .input .count) (points (m .input .points)) (points (inputPoints m)) (vector (m .drift))
+  pub entering-is : (r : ℕ → ℤ) → supportOf (m .n) (m .input .shape) (m .input .count) (points (inputPoints m)) r ≡ enteringSupportOf m r
   -- the directions
   pub directions-least : 1 ≤ m .directions
   pub directions-most : m .directions ≤ 16
@@ -45,18 +63,51 @@ pub record ModelFacts (m : Model) : Type 0 where
   pub guards-most : m .guards ≤ 16
   pub watches : (g : ℕ) → g < m .guards → getD (m .watched) g 0 < m .directions
 
+-- a set that is accepted, and a drift beside it
+record DriftFacts (n : ℕ) (s : Set) (drift : List ℤ) : Type 0 where
+  beyond : zeroOutside 1 n drift ≡ true
+  small : EnteringSmall (s .shape) (s .count) (s .points) drift
+  movable : Movable (s .count) (s .points) drift
+  moved-by : MovedBy n (s .shape) (s .count) (points (s .points)) (points (movedPoints (s .shape) (s .count) (s .points) drift)) (vector drift)
+  accepted : setAccepted n (movedSet s drift) ≡ true
+
+drift-facts : (n : ℕ) → n ≤ 6 → (s : Set) (drift : List ℤ) → setAccepted n s ≡ true → driftAccepted n s drift ≡ true → DriftFacts n s drift
+drift-facts n n≤6 s drift t u =
+    let shape = s .shape in
+    let count = s .count in
+    let xs = s .points in
+    let facts = set-facts n shape count xs t in
+    let own = and-true (countOk shape count) (zeroOutside count n xs && (reachOk shape count (points xs) && orderedOk n shape (points xs))) t in
+    let rest = and-true (zeroOutside count n xs) (reachOk shape count (points xs) && orderedOk n shape (points xs)) (own .1) in
+    let ordered = and-true (reachOk shape count (points xs)) (orderedOk n shape (points xs)) (rest .1) .1 in
+    let both = and-true (zeroOutside 1 n drift) (enteringOk shape count xs drift) u in
+    let small : (i : ℕ) → i < 6 → enteringReach (s .shape) (s .count) (s .points) drift i ≤ reachLimit = λ i h. leb-true (enteringReach shape count xs drift i) reachLimit (allBelow-at 6 (λ j. leb (enteringReach shape count xs drift j) reachLimit) (both .1) i h) in
+    record {
+      beyond = both .0;
+      small = record { counted = facts .counted; small = small };
+      movable = record { counted = facts .counted; coordinates = facts .coordinates; vector-small = λ i h. alone (reachOf shape count (points xs) i) (natAbs (vector drift i)) (small i h) };
+      moved-by = points-moved shape count xs drift n n≤6 (own .0);
+      accepted = set-ok-moved n n≤6 shape count xs drift (own .0) (rest .0) (both .0) ordered small;
+    }
+  where
+    alone : (a b : ℕ) → a + b ≤ reachLimit → b ≤ reachLimit
+    alone a b h = omega arith
+
 pub model-facts : (m : Model) → accepted m ≡ true → ModelFacts m
 model-facts m t =
     let guards = guardsOk (m .directions) (m .guards) (m .watched) (m .levels) in
     let directions = directionsOk (m .n) (m .directions) (m .entries) in
-    let a = and-true (frameOk (m .n) (m .steps) (m .matrix)) (setAccepted (m .n) (m .initial) && (setAccepted (m .n) (m .input) && (directions && guards))) t in
-    let b = and-true (setAccepted (m .n) (m .initial)) (setAccepted (m .n) (m .input) && (directions && guards)) (a .1) in
-    let c = and-true (setAccepted (m .n) (m .input)) (directions && guards) (b .1) in
-    let e = and-true directions guards (c .1) in
+    let drift = driftAccepted (m .n) (m .input) (m .drift) in
+    let a = and-true (frameOk (m .n) (m .steps) (m .matrix)) (setAccepted (m .n) (m .initial) && (setAccepted (m .n) (m .input) && (drift && (directions && guards)))) t in
+    let b = and-true (setAccepted (m .n) (m .initial)) (setAccepted (m .n) (m .input) && (drift && (directions && guards))) (a .1) in
+    let c = and-true (setAccepted (m .n) (m .input)) (drift && (directions && guards)) (b .1) in
+    let v = and-true drift (directions && guards) (c .1) in
+    let e = and-true directions guards (v .1) in
     let n = and-true (dimensionOk (m .n)) (stepsOk (m .steps) && matrixOk (m .n) (m .matrix)) (a .0) in
     let k = and-true (stepsOk (m .steps)) (matrixOk (m .n) (m .matrix)) (n .1) in
     let steps = and-true (leb 1 (m .steps)) (leb (m .steps) 256) (k .0) in
     let matrix = and-true (allBetween (negℤ (pos entryLimit)) (pos entryLimit) (m .matrix)) (zeroOutside (m .n) (m .n) (m .matrix)) (k .1) in
+    let own = drift-facts (m .n) (n-range (m .n) (n .0) .1) (m .input) (m .drift) (c .0) (v .0) in
     let f = and-true (leb 1 (m .directions) && leb (m .directions) 16) _ (e .0) in
     let count = and-true (leb 1 (m .directions)) (leb (m .directions) 16) (f .0) in
     let outside = and-true (zeroOutside (m .directions) (m .n) (m .entries)) _ (f .1) in
@@ -73,6 +124,13 @@ model-facts m t =
       matrix-outside = matrix .1;
       initial = set-facts (m .n) (m .initial .shape) (m .initial .count) (m .initial .points) (b .0);
       input = set-facts (m .n) (m .input .shape) (m .input .count) (m .input .points) (c .0);
+      drift-beyond = own .beyond;
+      entering = own .small;
+      movable = own .movable;
+      moved = set-facts (m .n) (m .input .shape) (m .input .count) (inputPoints m) (own .accepted);
+      moved-ok = own .accepted;
+      moved-by = own .moved-by;
+      entering-is = support-moved (m .n) (m .input .shape) (m .input .count) (own .small .counted .some) (own .moved-by);
       directions-least = leb-true 1 (m .directions) (count .0);
       directions-most = leb-true (m .directions) 16 (count .1);
       direction-small = λ d i. allBetween-at directionLimit (m .entries) (entries .0) (6 * d + i);

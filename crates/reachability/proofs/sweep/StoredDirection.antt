@@ -22,11 +22,11 @@ use Rattle.stepping.specs.declared.Stepped.{Stepped}
 use Rattle.stepping.proofs.Recurrence.{nextR-cong, nextE-cong, growthSum-cong, value-le-limit, error-le-limit}
 use Rattle.stepping.proofs.Working.{working-ok}
 use Rattle.stepping.proofs.Beyond.{nextR-beyond, nextE-beyond}
-use Rattle.reachability.specs.Sets.{points, reachOf, reachLimit}
-use Rattle.reachability.specs.Recurrence.{Working, next, supportAt, errorAt}
+use Rattle.reachability.specs.Sets.{points, supportOf, reachLimit}
+use Rattle.reachability.specs.Recurrence.{Working, next, errorAt}
 use Rattle.reachability.specs.SetsInner.{productLimit, termLimit}
-use Rattle.reachability.specs.SweepInner.{errorsLimit, termSupport, termErrors, TermsAsk, reachesOf}
-use Rattle.reachability.specs.declared.sets.Set.{Set}
+use Rattle.reachability.specs.SweepInner.{errorsLimit, termSupport, termErrors, TermsAsk, storedReaches}
+use Rattle.reachability.specs.declared.sets.Shape.{Shape}
 use Rattle.reachability.proofs.sets.Bounds.{supportOf-six, supportOf-same}
 use Rattle.reachability.proofs.sets.Facts.{SetFacts}
 
@@ -79,9 +79,9 @@ module _ {n : ℕ} (n≤6 : n ≤ 6) {w : Working} {r e : List ℤ} (stored : St
       e-same : (i : ℕ) → nextE n (matrix m) (vector r) (magnitudes e) i ≡ nextE n (matrix m) (w .r) (w .e) i
       e-same = nextE-cong n {m = matrix m} {m′ = matrix m} (λ p j l. refl) (λ p l. r-at p (inside l)) (λ p l. e-at p (inside l))
 
-  -- ---- a set's terms, below the growth limit
+  -- ---- a set's terms, below the growth limit: its support, the error term of a reach, and what both are asked for
 
-  module _ (calm : growthSum n (w .r) (w .e) ≤ growthLimit) (s : Set) (facts : SetFacts n (s .shape) (s .count) (s .points)) where
+  module _ (calm : growthSum n (w .r) (w .e) ≤ growthLimit) where
     -- what holds below n holds of all six, since the rest is zero
     r-small : (i : ℕ) → i < 6 → natAbs (vector r i) ≤ growthLimit
     r-small i h = subst (λ (z : ℤ). natAbs z ≤ growthLimit) (sym (r-at i h)) (elim (decLt i n) [ yes l ↦ value-le-limit n (w .r) (w .e) calm i l | no f ↦ subst (λ (z : ℤ). natAbs z ≤ growthLimit) (sym (stored .r-zero i (omega (arith, f)) h)) (omega arith) ])
@@ -89,58 +89,60 @@ module _ {n : ℕ} (n≤6 : n ≤ 6) {w : Working} {r e : List ℤ} (stored : St
     e-small : (i : ℕ) → i < 6 → natAbs (vector e i) ≤ errorLimit
     e-small i h = subst (λ (k : ℕ). k ≤ errorLimit) (sym (e-at i h)) (elim (decLt i n) [ yes l ↦ error-le-limit n (w .r) (w .e) calm i l | no f ↦ subst (λ (k : ℕ). k ≤ errorLimit) (sym (stored .e-zero i (omega (arith, f)) h)) (omega arith) ])
 
-    abbrev reachAt : ℕ → ℕ
-    reachAt = reachOf (s .shape) (s .count) (points (s .points))
+    module _ {shape : Shape} {count : ℕ} {xs : List ℤ} (facts : SetFacts n shape count xs) where
+      pub support-stored : termSupport shape count xs r ≡ supportOf n shape count (points xs) (w .r)
+      support-stored = supportOf-six n n≤6 count xs (facts .outside) shape (vector r) ∙ supportOf-same n shape count (points xs) (λ i h. r-at i (inside h))
 
-    reach-at : (i : ℕ) → i < 6 → vector (reachesOf s) i ≡ pos (reachAt i)
-    reach-at i h = getD-tabulate 6 (λ j. pos (reachAt j)) i (pos 0) h
+      -- a support is at most what the reaches allow: some point attains it
+      pub support-small : natAbs (supportOf n shape count (points xs) (w .r)) ≤ termLimit
+      support-small =
+          let a = facts .laws .attained (w .r) in
+          subst (λ (z : ℤ). natAbs z ≤ termLimit) (a .2)
+          (le-trans (natAbs-sum n (λ i. w .r i *ℤ a .0 i) (λ i. productLimit) (λ i h. natAbs-mul-le (w .r i) (a .0 i) (value-le-limit n (w .r) (w .e) calm i h) (point i h)))
+          (le-trans (sumℕ-bound n productLimit (λ i h. le-refl productLimit)) (mul-le-mul n≤6 (le-refl productLimit))))
+        where
+          point : (i : ℕ) → i < n → natAbs (facts .laws .attained (w .r) .0 i) ≤ reachLimit
+          point i h = within (facts .laws .within 1 (facts .laws .attained (w .r) .0) (facts .laws .attained (w .r) .1) i h) (facts .reach-small .small i (inside h))
+            where
+              within : {a b : ℕ} → a ≤ 1 * b → b ≤ reachLimit → a ≤ reachLimit
+              within p q = omega arith
 
-    pub support-stored : termSupport (s .shape) (s .count) (s .points) r ≡ supportAt n s w
-    support-stored = supportOf-six n n≤6 (s .count) (s .points) (facts .outside) (s .shape) (vector r) ∙ supportOf-same n (s .shape) (s .count) (points (s .points)) (λ i h. r-at i (inside h))
+    module _ {reach : ℕ → ℕ} (small : (i : ℕ) → i < 6 → reach i ≤ reachLimit) where
+      abbrev reaches : List ℤ
+      reaches = storedReaches reach
 
-    pub errors-stored : termErrors e (reachesOf s) ≡ errorAt n s w
-    errors-stored =
-        ap (λ (m : ℕ). dotℕ m (magnitudes e) (magnitudes (reachesOf s))) (sym (six n n≤6))
-        ∙ sumℕ-beyond n (6 - n) (λ i. magnitudes e i * magnitudes (reachesOf s) i) (λ i l h. ap (λ (k : ℕ). k * magnitudes (reachesOf s) i) (e-at i (below i h) ∙ stored .e-zero i l (below i h)) ∙ zero-times (magnitudes (reachesOf s) i))
-        ∙ sumℕ-cong n (λ i h. ap₂ _*_ (e-at i (inside h)) (ap natAbs (reach-at i (inside h))))
-      where
-        six : (n : ℕ) → n ≤ 6 → n + (6 - n) ≡ 6
-        six n h = omega arith
+      reach-at : (i : ℕ) → i < 6 → vector reaches i ≡ pos (reach i)
+      reach-at i h = getD-tabulate 6 (λ j. pos (reach j)) i (pos 0) h
 
-        below : (i : ℕ) → i < n + (6 - n) → i < 6
-        below i h = subst (λ (k : ℕ). i < k) (six n n≤6) h
+      pub errors-stored : termErrors e reaches ≡ errorAt n reach w
+      errors-stored =
+          ap (λ (m : ℕ). dotℕ m (magnitudes e) (magnitudes reaches)) (sym (six n n≤6))
+          ∙ sumℕ-beyond n (6 - n) (λ i. magnitudes e i * magnitudes reaches i) (λ i l h. ap (λ (k : ℕ). k * magnitudes reaches i) (e-at i (below i h) ∙ stored .e-zero i l (below i h)) ∙ zero-times (magnitudes reaches i))
+          ∙ sumℕ-cong n (λ i h. ap₂ _*_ (e-at i (inside h)) (ap natAbs (reach-at i (inside h))))
+        where
+          six : (n : ℕ) → n ≤ 6 → n + (6 - n) ≡ 6
+          six n h = omega arith
 
-        zero-times : (k : ℕ) → 0 * k ≡ 0
-        zero-times k = omega arith
+          below : (i : ℕ) → i < n + (6 - n) → i < 6
+          below i h = subst (λ (k : ℕ). i < k) (six n n≤6) h
 
-    -- a support is at most what the reaches allow: some point attains it
-    pub support-small : natAbs (supportAt n s w) ≤ termLimit
-    support-small =
-        let a = facts .laws .attained (w .r) in
-        subst (λ (z : ℤ). natAbs z ≤ termLimit) (a .2)
-        (le-trans (natAbs-sum n (λ i. w .r i *ℤ a .0 i) (λ i. productLimit) (λ i h. natAbs-mul-le (w .r i) (a .0 i) (value-le-limit n (w .r) (w .e) calm i h) (point i h)))
-        (le-trans (sumℕ-bound n productLimit (λ i h. le-refl productLimit)) (mul-le-mul n≤6 (le-refl productLimit))))
-      where
-        point : (i : ℕ) → i < n → natAbs (facts .laws .attained (w .r) .0 i) ≤ reachLimit
-        point i h = within (facts .laws .within 1 (facts .laws .attained (w .r) .0) (facts .laws .attained (w .r) .1) i h) (facts .reach-small .small i (inside h))
-          where
-            within : {a b : ℕ} → a ≤ 1 * b → b ≤ reachLimit → a ≤ reachLimit
-            within p q = omega arith
+          zero-times : (k : ℕ) → 0 * k ≡ 0
+          zero-times k = omega arith
 
-    pub errors-small : errorAt n s w ≤ errorsLimit
-    errors-small =
-        le-trans (sumℕ-bound n (errorLimit * reachLimit) (λ i h. mul-le-mul (error-le-limit n (w .r) (w .e) calm i h) (facts .reach-small .small i (inside h)))) (mul-le-mul n≤6 (le-refl (errorLimit * reachLimit)))
+      pub errors-small : errorAt n reach w ≤ errorsLimit
+      errors-small =
+          le-trans (sumℕ-bound n (errorLimit * reachLimit) (λ i h. mul-le-mul (error-le-limit n (w .r) (w .e) calm i h) (small i (inside h)))) (mul-le-mul n≤6 (le-refl (errorLimit * reachLimit)))
 
-    pub terms-ask : TermsAsk (s .shape) (s .count) (s .points) (reachesOf s) r e
-    terms-ask =
-        record {
-          counted = facts .counted;
-          tested = record { coordinates = facts .coordinates; values = r-small };
-          errors = record {
-            natural = λ i h. subst (λ (z : ℤ). T (nonNeg z)) (sym (e-value i h)) tt;
-            small = e-small;
-            reach-natural = λ i h. subst (λ (z : ℤ). T (nonNeg z)) (sym (reach-at i h)) tt;
-            reach-small = λ i h. subst (λ (z : ℤ). natAbs z ≤ reachLimit) (sym (reach-at i h)) (facts .reach-small .small i h);
-          };
-          support-small = subst (λ (z : ℤ). natAbs z ≤ termLimit) (sym support-stored) support-small;
-        }
+      pub terms-ask : {shape : Shape} {count : ℕ} {xs : List ℤ} → SetFacts n shape count xs → TermsAsk shape count xs reaches r e
+      terms-ask facts =
+          record {
+            counted = facts .counted;
+            tested = record { coordinates = facts .coordinates; values = r-small };
+            errors = record {
+              natural = λ i h. subst (λ (z : ℤ). T (nonNeg z)) (sym (e-value i h)) tt;
+              small = e-small;
+              reach-natural = λ i h. subst (λ (z : ℤ). T (nonNeg z)) (sym (reach-at i h)) tt;
+              reach-small = λ i h. subst (λ (z : ℤ). natAbs z ≤ reachLimit) (sym (reach-at i h)) (small i h);
+            };
+            support-small = subst (λ (z : ℤ). natAbs z ≤ termLimit) (sym (support-stored facts)) (support-small facts);
+          }

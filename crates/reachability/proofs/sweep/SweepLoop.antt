@@ -17,8 +17,8 @@ use Rattle.integers.proofs.Machine.{filled, filled-none, filled-more, getD-fill
 use Rattle.stepping.specs.Limits.{growthLimit}
 use Rattle.stepping.specs.Refusals.{Steps, sumOf}
 use Rattle.stepping.specs.declared.Stepped.{Stepped}
-use Rattle.reachability.specs.Recurrence.{sumAt, growsAt, growthStep, bound, slack}
-use Rattle.reachability.specs.SweepInner.{StepGives, Prepared, Fills, reachesOf}
+use Rattle.reachability.specs.Recurrence.{sumAt, growsAt, growthStep, initialReach, enteringReachOf, bound, slack}
+use Rattle.reachability.specs.SweepInner.{StepGives, Prepared, Fills, storedReaches, inputPoints}
 use Rattle.reachability.specs.declared.sets.Shape.{Shape}
 use Rattle.reachability.specs.declared.model.Model.{Model}
 use Rattle.reachability.proofs.FirstPlace.{firstPlace-is, firstPlace-none}
@@ -46,7 +46,7 @@ swept-none m d b₀ s₀ r e sm before h =
     }
 
 module _ (m : Model) (facts : ModelFacts m) (d : ℕ) {b₀ s₀ r e b s : List ℤ} {sm most : ℕ} {inputs : ℤ} {errors k : ℕ} (so-far : SweptSoFar m d b₀ s₀ r e b s sm most inputs errors k) where
-  pub swept-more : k ≤ m .steps → sm ≤ growthLimit → {bv sv inputs′ : ℤ} {errors′ : ℕ} → StepGives (m .initial .shape) (m .initial .count) (m .initial .points) (reachesOf (m .initial)) (m .input .shape) (m .input .count) (m .input .points) (reachesOf (m .input)) r e inputs errors bv sv inputs′ errors′ → 257 ≡ length b₀ → 257 ≡ length s₀ → {a : Stepped} {r′ e′ : List ℤ} → Steps 6 (m .matrix) r e a r′ e′ → SweptSoFar m d b₀ s₀ r′ e′ (set b k bv) (set s k sv) (sumOf a) (max most sm) inputs′ errors′ (k + 1)
+  pub swept-more : k ≤ m .steps → sm ≤ growthLimit → {bv sv inputs′ : ℤ} {errors′ : ℕ} → StepGives (m .initial .shape) (m .initial .count) (m .initial .points) (storedReaches (initialReach m)) (m .input .shape) (m .input .count) (inputPoints m) (storedReaches (enteringReachOf m)) r e inputs errors bv sv inputs′ errors′ → 257 ≡ length b₀ → 257 ≡ length s₀ → {a : Stepped} {r′ e′ : List ℤ} → Steps 6 (m .matrix) r e a r′ e′ → SweptSoFar m d b₀ s₀ r′ e′ (set b k bv) (set s k sv) (sumOf a) (max most sm) inputs′ errors′ (k + 1)
   swept-more inside small gives long-b long-s six =
       let before = so-far .before-step in
       let calm = subst (λ (x : ℕ). x ≤ growthLimit) (so-far .sum-is) small in
@@ -94,14 +94,14 @@ module _ (m : Model) (facts : ModelFacts m) (d : ℕ) {b₀ s₀ r e b s : List 
 
 -- ---- what holds of the model's own arrays holds of what the code was handed
 
-pub prepared-own : {m : Model} {d n : ℕ} {mat : List ℤ} {shapeI : Shape} {countI : ℕ} {pointsI wI : List ℤ} {shapeU : Shape} {countU : ℕ} {pointsU wU r e : List ℤ} → Prepared m d n mat shapeI countI pointsI wI shapeU countU pointsU wU r e → (P : List ℤ → Shape → ℕ → List ℤ → List ℤ → Shape → ℕ → List ℤ → List ℤ → Type 0) → P (m .matrix) (m .initial .shape) (m .initial .count) (m .initial .points) (reachesOf (m .initial)) (m .input .shape) (m .input .count) (m .input .points) (reachesOf (m .input)) → P mat shapeI countI pointsI wI shapeU countU pointsU wU
+pub prepared-own : {m : Model} {d n : ℕ} {mat : List ℤ} {shapeI : Shape} {countI : ℕ} {pointsI wI : List ℤ} {shapeU : Shape} {countU : ℕ} {pointsU wU r e : List ℤ} → Prepared m d n mat shapeI countI pointsI wI shapeU countU pointsU wU r e → (P : List ℤ → Shape → ℕ → List ℤ → List ℤ → Shape → ℕ → List ℤ → List ℤ → Type 0) → P (m .matrix) (m .initial .shape) (m .initial .count) (m .initial .points) (storedReaches (initialReach m)) (m .input .shape) (m .input .count) (inputPoints m) (storedReaches (enteringReachOf m)) → P mat shapeI countI pointsI wI shapeU countU pointsU wU
 prepared-own {m} {mat = mat} {shapeI} {countI} {pointsI} {wI} {shapeU} {countU} {pointsU} {wU} p P h =
     subst (P mat shapeI countI pointsI wI shapeU countU pointsU) (sym (p .input-reaches-are))
-    (subst (λ x. P mat shapeI countI pointsI wI shapeU countU x (reachesOf (m .input))) (sym (p .input-points-are))
-    (subst (λ x. P mat shapeI countI pointsI wI shapeU x (m .input .points) (reachesOf (m .input))) (sym (p .input-count-is))
-    (subst (λ x. P mat shapeI countI pointsI wI x (m .input .count) (m .input .points) (reachesOf (m .input))) (sym (p .input-shape-is))
-    (subst (λ x. P mat shapeI countI pointsI x (m .input .shape) (m .input .count) (m .input .points) (reachesOf (m .input))) (sym (p .reaches-are))
-    (subst (λ x. P mat shapeI countI x (reachesOf (m .initial)) (m .input .shape) (m .input .count) (m .input .points) (reachesOf (m .input))) (sym (p .points-are))
-    (subst (λ x. P mat shapeI x (m .initial .points) (reachesOf (m .initial)) (m .input .shape) (m .input .count) (m .input .points) (reachesOf (m .input))) (sym (p .count-is))
-    (subst (λ x. P mat x (m .initial .count) (m .initial .points) (reachesOf (m .initial)) (m .input .shape) (m .input .count) (m .input .points) (reachesOf (m .input))) (sym (p .shape-is))
-    (subst (λ x. P x (m .initial .shape) (m .initial .count) (m .initial .points) (reachesOf (m .initial)) (m .input .shape) (m .input .count) (m .input .points) (reachesOf (m .input))) (sym (p .matrix-is)) h))))))))
+    (subst (λ x. P mat shapeI countI pointsI wI shapeU countU x (storedReaches (enteringReachOf m))) (sym (p .input-points-are))
+    (subst (λ x. P mat shapeI countI pointsI wI shapeU x (inputPoints m) (storedReaches (enteringReachOf m))) (sym (p .input-count-is))
+    (subst (λ x. P mat shapeI countI pointsI wI x (m .input .count) (inputPoints m) (storedReaches (enteringReachOf m))) (sym (p .input-shape-is))
+    (subst (λ x. P mat shapeI countI pointsI x (m .input .shape) (m .input .count) (inputPoints m) (storedReaches (enteringReachOf m))) (sym (p .reaches-are))
+    (subst (λ x. P mat shapeI countI x (storedReaches (initialReach m)) (m .input .shape) (m .input .count) (inputPoints m) (storedReaches (enteringReachOf m))) (sym (p .points-are))
+    (subst (λ x. P mat shapeI x (m .initial .points) (storedReaches (initialReach m)) (m .input .shape) (m .input .count) (inputPoints m) (storedReaches (enteringReachOf m))) (sym (p .count-is))
+    (subst (λ x. P mat x (m .initial .count) (m .initial .points) (storedReaches (initialReach m)) (m .input .shape) (m .input .count) (inputPoints m) (storedReaches (enteringReachOf m))) (sym (p .shape-is))
+    (subst (λ x. P x (m .initial .shape) (m .initial .count) (m .initial .points) (storedReaches (initialReach m)) (m .input .shape) (m .input .count) (inputPoints m) (storedReaches (enteringReachOf m))) (sym (p .matrix-is)) h))))))))

@@ -21,9 +21,9 @@ use Rattle.stepping.proofs.Recurrence.{growthSum-first}
 use Rattle.stepping.proofs.Beyond.{steps-six}
 use Rattle.limits.specs.Limits.{directionLimit}
 use Rattle.reachability.specs.Runs.{moves, direction}
-use Rattle.reachability.specs.Recurrence.{Working, first, next, walk, working, sumAt, supportAt, errorAt, errorTotal, supportTotal, bound, slack}
+use Rattle.reachability.specs.Recurrence.{Working, first, next, walk, working, sumAt, initialReach, enteringSupportOf, enteringReachOf, errorAt, errorTotal, supportTotal, bound, slack}
 use Rattle.reachability.specs.SetsInner.{termLimit}
-use Rattle.reachability.specs.SweepInner.{errorsLimit, termSupport, termErrors, StepAsks, StepGives, reachesOf}
+use Rattle.reachability.specs.SweepInner.{errorsLimit, termSupport, termErrors, StepAsks, StepGives, storedReaches, inputPoints}
 use Rattle.reachability.specs.declared.model.Model.{Model}
 use Rattle.reachability.proofs.model.Facts.{ModelFacts}
 use Rattle.reachability.proofs.sweep.StoredDirection.{Stored, sum-stored, working-passes, stored-next, support-stored, errors-stored, support-small, errors-small, terms-ask}
@@ -45,15 +45,15 @@ walk-start n a w = refl
 
 -- ---- what stands before step k
 
--- the working direction of step k, the input's support at it, and its error term
+-- the working direction of step k, the support of what enters at it, and its error term
 abbrev pub workingAt : Model → ℕ → ℕ → Working
 workingAt m d k = working m d k k
 
 abbrev pub inputAt : Model → ℕ → ℕ → ℤ
-inputAt m d j = supportAt (m .n) (m .input) (workingAt m d j)
+inputAt m d j = enteringSupportOf m (workingAt m d j .r)
 
 abbrev pub inputErrorAt : Model → ℕ → ℕ → ℕ
-inputErrorAt m d j = errorAt (m .n) (m .input) (workingAt m d j)
+inputErrorAt m d j = errorAt (m .n) (enteringReachOf m) (workingAt m d j)
 
 pub record BeforeStep (m : Model) (d : ℕ) (r e : List ℤ) (inputs : ℤ) (errors k : ℕ) : Type 0 where
   pub stored : Stored (m .n) (workingAt m d k) r e
@@ -92,11 +92,11 @@ module _ (m : Model) (facts : ModelFacts m) (d : ℕ) where
     few : k ≤ 257
     few = le-trans k-inside (le-trans (facts .steps-most) (lit≤ tt))
 
-    pub step-asks : StepAsks (m .initial .shape) (m .initial .count) (m .initial .points) (reachesOf (m .initial)) (m .input .shape) (m .input .count) (m .input .points) (reachesOf (m .input)) r e inputs errors
+    pub step-asks : StepAsks (m .initial .shape) (m .initial .count) (m .initial .points) (storedReaches (initialReach m)) (m .input .shape) (m .input .count) (inputPoints m) (storedReaches (enteringReachOf m)) r e inputs errors
     step-asks =
         record {
-          initial = terms-ask (facts .n-most) (b .stored) calm (m .initial) (facts .initial);
-          input = terms-ask (facts .n-most) (b .stored) calm (m .input) (facts .input);
+          initial = terms-ask (facts .n-most) (b .stored) calm (facts .initial .reach-small .small) (facts .initial);
+          input = terms-ask (facts .n-most) (b .stored) calm (facts .entering .small) (facts .moved);
           inputs-small = le-trans (b .inputs-run .small) (omega (arith, few));
           errors-small = le-trans (b .errors-run .small) (omega (arith, few));
         }
@@ -105,15 +105,15 @@ module _ (m : Model) (facts : ModelFacts m) (d : ℕ) where
     step-passes = ap₂ _&&_ (working-passes (facts .n-most) (b .stored) (facts .dimension) calm) (facts .matrix-passes)
 
     -- the raw bound and slack, as the code adds them up: with one matrix the walks of all steps agree
-    module _ {bv sv inputs′ : ℤ} {errors′ : ℕ} (gives : StepGives (m .initial .shape) (m .initial .count) (m .initial .points) (reachesOf (m .initial)) (m .input .shape) (m .input .count) (m .input .points) (reachesOf (m .input)) r e inputs errors bv sv inputs′ errors′) where
+    module _ {bv sv inputs′ : ℤ} {errors′ : ℕ} (gives : StepGives (m .initial .shape) (m .initial .count) (m .initial .points) (storedReaches (initialReach m)) (m .input .shape) (m .input .count) (inputPoints m) (storedReaches (enteringReachOf m)) r e inputs errors bv sv inputs′ errors′) where
       same : (j : ℕ) → working m d k j ≡ workingAt m d j
       same j = walk-same (m .n) (matrix (m .matrix)) (first (direction m d)) k j j
 
       supports-are : termSupport (m .initial .shape) (m .initial .count) (m .initial .points) r +ℤ inputs ≡ supportTotal m d k
-      supports-are = ap₂ _+ℤ_ (support-stored (facts .n-most) (b .stored) calm (m .initial) (facts .initial)) (b .inputs-run .is ∙ sum-cong k (λ j h. sym (ap (supportAt (m .n) (m .input)) (same j))))
+      supports-are = ap₂ _+ℤ_ (support-stored (facts .n-most) (b .stored) calm (facts .initial)) (b .inputs-run .is ∙ sum-cong k (λ j h. sym (ap (λ (u : Working). enteringSupportOf m (u .r)) (same j))))
 
-      errors-are : termErrors e (reachesOf (m .initial)) + errors ≡ errorTotal m d k
-      errors-are = ap₂ _+_ (errors-stored (facts .n-most) (b .stored) calm (m .initial) (facts .initial)) (ap natAbs (b .errors-run .is ∙ sym (pos-sumℕ k (inputErrorAt m d))) ∙ sumℕ-cong k (λ j h. sym (ap (errorAt (m .n) (m .input)) (same j))))
+      errors-are : termErrors e (storedReaches (initialReach m)) + errors ≡ errorTotal m d k
+      errors-are = ap₂ _+_ (errors-stored (facts .n-most) (b .stored) calm (facts .initial .reach-small .small)) (ap natAbs (b .errors-run .is ∙ sym (pos-sumℕ k (inputErrorAt m d))) ∙ sumℕ-cong k (λ j h. sym (ap (errorAt (m .n) (enteringReachOf m)) (same j))))
 
       pub bound-is : bv ≡ bound m d k
       bound-is = gives .rounds .bound-is ∙ ap₂ (λ (z : ℤ) (t : ℕ). boundOf (z +ℤ pos (halfUp t))) supports-are errors-are
@@ -132,8 +132,8 @@ module _ (m : Model) (facts : ModelFacts m) (d : ℕ) where
         before-next =
             record {
               stored = subst (λ (j : ℕ). Stored (m .n) (workingAt m d j) r′ e′) (sym (add-one k)) stored-after;
-              inputs-run = running-more (b .inputs-run) (Prim.Native.Nat.suc-le-suc k-inside) (support-small (facts .n-most) (b .stored) calm (m .input) (facts .input)) (gives .inputs-are ∙ ap (λ (z : ℤ). inputs +ℤ z) (support-stored (facts .n-most) (b .stored) calm (m .input) (facts .input)));
-              errors-run = running-more (b .errors-run) (Prim.Native.Nat.suc-le-suc k-inside) (errors-small (facts .n-most) (b .stored) calm (m .input) (facts .input)) (ap pos (gives .errors-are ∙ ap (λ (j : ℕ). errors + j) (errors-stored (facts .n-most) (b .stored) calm (m .input) (facts .input))));
+              inputs-run = running-more (b .inputs-run) (Prim.Native.Nat.suc-le-suc k-inside) (subst (λ (z : ℤ). natAbs z ≤ termLimit) (facts .entering-is (at .r)) (support-small (facts .n-most) (b .stored) calm (facts .moved))) (gives .inputs-are ∙ ap (λ (z : ℤ). inputs +ℤ z) (support-stored (facts .n-most) (b .stored) calm (facts .moved) ∙ facts .entering-is (at .r)));
+              errors-run = running-more (b .errors-run) (Prim.Native.Nat.suc-le-suc k-inside) (errors-small (facts .n-most) (b .stored) calm (facts .entering .small)) (ap pos (gives .errors-are ∙ ap (λ (j : ℕ). errors + j) (errors-stored (facts .n-most) (b .stored) calm (facts .entering .small))));
             }
 
         pub sum-next : sumOf a ≡ sumAt m d (k + 1)

@@ -1,4 +1,6 @@
 // Filling the rows of a sweep, once the model and the direction's number have been tested.
+use crate::entering::entering_reaches;
+use crate::entering::moved_points;
 use crate::model::Model;
 use crate::sets::Shape;
 use crate::sets::reaches_of;
@@ -94,8 +96,9 @@ pub(crate) struct Filled {
     pub(crate) largest: u64,
 }
 
-// Both rows for the steps before growth. The arrays are those of the model, r and e the first working direction. Each step is passed 6
-// for n: it does the same, since what lies beyond n is zero, and has no zeros to test.
+// Both rows for the steps before growth. The arrays are those of the model, the input set being moved by the drift and its reaches
+// being those of what enters; r and e are the first working direction. Each step is passed 6 for n: it does the same, since what
+// lies beyond n is zero, and has no zeros to test.
 fn fill_rows(
     model: Model,
     direction: usize,
@@ -161,7 +164,7 @@ fn fill_rows(
 }
 
 // Bounds and slacks of the direction in the rows, for the steps before growth.
-// Every loop below runs to six coordinates, the sets are not tested again, and the reaches are taken once.
+// Every loop below runs to six coordinates, the sets are not tested again, and the reaches and the moved points are taken once.
 pub(crate) fn fill(
     model: Model,
     direction: usize,
@@ -179,10 +182,12 @@ pub(crate) fn fill(
     let input = model.input;
     let input_shape = input.shape;
     let input_count = input.count;
-    let input_points = input.points;
+    let points = input.points;
+    let drift = model.drift;
+    let input_points = moved_points(input_shape, input_count, &points, &drift);
     let entries = model.entries;
     let initial_reaches = reaches_of(initial_shape, initial_count, &initial_points);
-    let input_reaches = reaches_of(input_shape, input_count, &input_points);
+    let input_reaches = entering_reaches(input_shape, input_count, &points, &drift);
     let d = arrays::row(&entries, direction);
     let mut r = [0i64; 6];
     let mut e = [0i64; 6];

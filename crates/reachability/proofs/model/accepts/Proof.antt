@@ -1,12 +1,17 @@
 -- `reachability::model::accepts` meets its contract, test by test. Assumes nothing.
-use Rattle.integers.proofs.Basics.{_≡_, sym, ap, _∙_, Bool, true, needs}
+use Rattle.integers.proofs.Basics.{_≡_, sym, ap, ap₂, _∙_, Bool, true, needs}
 use mathlib.Core.Bool.{_&&_}
-use borrow.Author.Tests.{not-true, not-false}
+use borrow.Author.Tests.{le-leb, not-true, not-false}
 use Rattle.integers.proofs.Booleans.{and-true, and-skip, and-stop}
 use Rattle.stepping.specs.Refusals.{dimensionOk, matrixOk}
-use Rattle.limits.specs.Limits.{stepsOk, frameOk, guardsOk}
-use Rattle.reachability.specs.Limits.{setAccepted}
+use Rattle.arrays.specs.Tests.{zeroOutside}
+use Rattle.limits.specs.Limits.{stepsOk, frameOk, directionsOk, guardsOk}
+use Rattle.reachability.specs.Sets.{countOk}
+use Rattle.reachability.specs.Entering.{enteringOk, enteringWithin}
+use Rattle.reachability.specs.SetsInner.{Counted}
+use Rattle.reachability.specs.Limits.{accepted, setAccepted, driftAccepted}
 use Rattle.reachability.specs.declared.model.Model.{Model}
+use Rattle.reachability.proofs.sets.Facts.{counted-of}
 use Rattle.reachability.proofs.model.accepts.Statement.{statement}
 use Rattle.reachability.proofs.model.accepts.Tie as tie
 
@@ -53,19 +58,52 @@ module _ (c : tie.Else3) where
   input-passes : setAccepted (own .n) (own .input) ≡ true
   input-passes = alone (at-frame at-initial) (setAccepted (own .n) (own .input)) _ (c .before .set-ok2 .ensures) ∙ not-false _ (c .if3 .left)
 
+-- what is left of the rule once both sets pass
+module _ (c : tie.Else3) where
+  left : accepted (own c) ≡ driftAccepted (own c .n) (own c .input) (own c .drift) && (directionsOk (own c .n) (own c .directions) (own c .entries) && guardsOk (own c .directions) (own c .guards) (own c .watched) (own c .levels))
+  left = and-skip _ (frame (at-frame (at-initial c))) ∙ and-skip _ (initial-passes (at-initial c)) ∙ and-skip _ (input-passes c)
+
+  counted : Counted (own c .input .count)
+  counted = counted-of (own c .input .shape) (own c .input .count) (and-true (countOk (own c .input .shape) (own c .input .count)) _ (input-passes c) .0)
+
+  -- the count has passed, so that the test of what enters is that of its reach
+  reach-alone : {b : Bool} → b ≡ enteringWithin (own c .input .shape) (own c .input .count) (own c .input .points) (own c .drift) → b ≡ enteringOk (own c .input .shape) (own c .input .count) (own c .input .points) (own c .drift)
+  reach-alone e = e ∙ and-skip _ (ap₂ _&&_ (le-leb 1 (own c .input .count) (counted .some)) (le-leb (own c .input .count) 16 (counted .most)))
+
 returns-4 : tie.Need-returns-4
 returns-4 c =
     let b = c .before .before .before .before in
-    let guards = guardsOk (own b .directions) (own b .guards) (own b .watched) (own b .levels) in
-    let failed = sym (c .before .directions-ok .ensures) ∙ not-true _ (c .if4 .taken) in
-    sym (and-skip _ (frame (at-frame (at-initial b))) ∙ and-skip _ (initial-passes (at-initial b)) ∙ and-skip _ (input-passes b) ∙ and-stop guards failed)
+    sym (left b ∙ and-stop _ (and-stop _ (sym (c .before .zero-outside .ensures) ∙ not-true _ (c .if4 .taken))))
+
+module _ (c : tie.Else4) where
+  abbrev at-sets : tie.Else3
+  at-sets = c .before .before .before .before
+
+  beyond : zeroOutside 1 (own at-sets .n) (own at-sets .drift) ≡ true
+  beyond = sym (c .before .zero-outside .ensures) ∙ not-false _ (c .if4 .left)
 
 returns-5 : tie.Need-returns-5
 returns-5 c =
+    let b = c .before .before .before .before .before in
+    sym (left (at-sets b) ∙ and-stop _ (and-skip _ (beyond b) ∙ sym (reach-alone (at-sets b) (c .before .entering-within .ensures)) ∙ not-true _ (c .if5 .taken)))
+
+module _ (c : tie.Else5) where
+  abbrev at-drift : tie.Else4
+  at-drift = c .before .before .before .before .before
+
+  abbrev whole : Model
+  whole = own (at-sets at-drift)
+
+  drift-passes : accepted whole ≡ directionsOk (whole .n) (whole .directions) (whole .entries) && guardsOk (whole .directions) (whole .guards) (whole .watched) (whole .levels)
+  drift-passes = left (at-sets at-drift) ∙ and-skip _ (and-skip _ (beyond at-drift) ∙ sym (reach-alone (at-sets at-drift) (c .before .entering-within .ensures)) ∙ not-false _ (c .if5 .left))
+
+returns-6 : tie.Need-returns-6
+returns-6 c = sym (drift-passes (c .before .before .before .before) ∙ and-stop _ (sym (c .before .directions-ok .ensures) ∙ not-true _ (c .if6 .taken)))
+
+returns-7 : tie.Need-returns-7
+returns-7 c =
     let at-directions = c .before .before .before .before .before in
-    let b = at-directions .before .before .before .before in
-    let directions = sym (at-directions .before .directions-ok .ensures) ∙ not-false _ (at-directions .if4 .left) in
-    c .guards-ok .ensures ∙ sym (and-skip _ (frame (at-frame (at-initial b))) ∙ and-skip _ (initial-passes (at-initial b)) ∙ and-skip _ (input-passes b) ∙ and-skip _ directions)
+    c .guards-ok .ensures ∙ sym (drift-passes (at-directions .before .before .before .before) ∙ and-skip _ (sym (at-directions .before .directions-ok .ensures) ∙ not-false _ (at-directions .if6 .left)))
 
 pub accepts-spec : {M : Type 1} → statement M
 accepts-spec =
@@ -77,7 +115,12 @@ accepts-spec =
     returns-2
     (λ c κs. search needs)
     returns-3
+    (λ c. search needs)
     (λ c κs. search needs)
     returns-4
     (λ c κs. search needs)
-    returns-5)
+    returns-5
+    (λ c κs. search needs)
+    returns-6
+    (λ c κs. search needs)
+    returns-7)

@@ -26,10 +26,14 @@ returns-6 c = sym (ap (λ (p : Part). countOf p (c .before .before .before .args
 returns-7 : tie.Need-returns-7
 returns-7 c = sym (ap (λ (p : Part). countOf p (c .before .before .before .args .state)) (c .enum-told7 .given .1))
 
+returns-8 : tie.Need-returns-8
+returns-8 c = sym (ap (λ (p : Part). countOf p (c .before .before .before .args .state)) (c .enum-told8 .given .1))
+
 pub count-of-spec : {M : Type 1} → statement M
 count-of-spec =
     tie.close
     (tie.spec
+    (λ c. search needs)
     (λ c. search needs)
     (λ c. search needs)
     (λ c. search needs)
@@ -43,4 +47,5 @@ count-of-spec =
     returns-4
     returns-5
     returns-6
-    returns-7)
+    returns-7
+    returns-8)

@@ -2,7 +2,7 @@
 use Rattle.integers.proofs.Basics.{_≡_, refl, sym, subst, _∙_, ℕ, needs}
 use mathlib.Core.List.{List}
 use Rattle.records.specs.declared.order.Part.{Part}
-use Rattle.records.specs.declared.order.Part.the-variants.{Head, Row, Initial, Input, Direction, Guard, End}
+use Rattle.records.specs.declared.order.Part.the-variants.{Head, Row, Drift, Initial, Input, Direction, Guard, End}
 use Rattle.reader.specs.declared.state.State.{State}
 use Rattle.reader.specs.declared.take.Taken.{Taken}
 use Rattle.records.specs.Order.{partOf}
@@ -18,16 +18,16 @@ unfolding stored
 by-part s kind body {r} p t e = subst (λ (q : Part). Takes (valueNumber q s kind body) (storedIn q s kind body) r) (sym e) t
 
 take-point-requires : tie.Need-take-point-requires
-take-point-requires c κs = count-lt _ _ (c .before .before .before .before .pre) (sym (c .before .before .part-of .ensures) ∙ c .enum-told3 .given .1)
+take-point-requires c κs = count-lt _ _ (c .before .before .before .before .pre) (sym (c .before .before .part-of .ensures) ∙ c .enum-told4 .given .1)
 
 take-point-requires-2 : tie.Need-take-point-requires-2
-take-point-requires-2 c κs = count-lt _ _ (c .before .before .before .before .pre) (sym (c .before .before .part-of .ensures) ∙ c .enum-told4 .given .1)
+take-point-requires-2 c κs = count-lt _ _ (c .before .before .before .before .pre) (sym (c .before .before .part-of .ensures) ∙ c .enum-told5 .given .1)
 
 take-direction-requires : tie.Need-take-direction-requires
-take-direction-requires c κs = count-lt _ _ (c .before .before .before .before .pre) (sym (c .before .before .part-of .ensures) ∙ c .enum-told5 .given .1)
+take-direction-requires c κs = count-lt _ _ (c .before .before .before .before .pre) (sym (c .before .before .part-of .ensures) ∙ c .enum-told6 .given .1)
 
 take-guard-requires : tie.Need-take-guard-requires
-take-guard-requires c κs = count-lt _ _ (c .before .before .before .before .pre) (sym (c .before .before .part-of .ensures) ∙ c .enum-told6 .given .1)
+take-guard-requires c κs = count-lt _ _ (c .before .before .before .before .pre) (sym (c .before .before .part-of .ensures) ∙ c .enum-told7 .given .1)
 
 returns : tie.Need-returns
 returns c = by-part _ _ _ Head (c .take-head .ensures) (sym (c .before .before .before .part-of .ensures) ∙ c .before .enum-told .given .1)
@@ -36,24 +36,29 @@ returns-2 : tie.Need-returns-2
 returns-2 c = by-part _ _ _ Row (c .take-row .ensures) (sym (c .before .before .before .part-of .ensures) ∙ c .before .enum-told2 .given .1)
 
 returns-3 : tie.Need-returns-3
-returns-3 c = by-part _ _ _ Initial (c .take-point .ensures) (sym (c .before .before .before .part-of .ensures) ∙ c .before .enum-told3 .given .1)
+returns-3 c = by-part _ _ _ Drift (c .take-drift .ensures) (sym (c .before .before .before .part-of .ensures) ∙ c .before .enum-told3 .given .1)
 
 returns-4 : tie.Need-returns-4
-returns-4 c = by-part _ _ _ Input (c .take-point2 .ensures) (sym (c .before .before .before .part-of .ensures) ∙ c .before .enum-told4 .given .1)
+returns-4 c = by-part _ _ _ Initial (c .take-point .ensures) (sym (c .before .before .before .part-of .ensures) ∙ c .before .enum-told4 .given .1)
 
 returns-5 : tie.Need-returns-5
-returns-5 c = by-part _ _ _ Direction (c .take-direction .ensures) (sym (c .before .before .before .part-of .ensures) ∙ c .before .enum-told5 .given .1)
+returns-5 c = by-part _ _ _ Input (c .take-point2 .ensures) (sym (c .before .before .before .part-of .ensures) ∙ c .before .enum-told5 .given .1)
 
 returns-6 : tie.Need-returns-6
-returns-6 c = by-part _ _ _ Guard (c .take-guard .ensures) (sym (c .before .before .before .part-of .ensures) ∙ c .before .enum-told6 .given .1)
+returns-6 c = by-part _ _ _ Direction (c .take-direction .ensures) (sym (c .before .before .before .part-of .ensures) ∙ c .before .enum-told6 .given .1)
 
 returns-7 : tie.Need-returns-7
-returns-7 c = by-part _ _ _ End (record { number-is = refl; state-is = λ z. refl }) (sym (c .before .before .part-of .ensures) ∙ c .enum-told7 .given .1)
+returns-7 c = by-part _ _ _ Guard (c .take-guard .ensures) (sym (c .before .before .before .part-of .ensures) ∙ c .before .enum-told7 .given .1)
+
+returns-8 : tie.Need-returns-8
+returns-8 c = by-part _ _ _ End (record { number-is = refl; state-is = λ z. refl }) (sym (c .before .before .part-of .ensures) ∙ c .enum-told8 .given .1)
 
 pub take-spec : {M : Type 1} → statement M
 take-spec =
     tie.close
     (tie.spec
+    (λ c κs. search needs)
+    (λ c. search needs)
     (λ c κs. search needs)
     (λ c. search needs)
     (λ c κs. search needs)
@@ -74,4 +79,5 @@ take-spec =
     returns-4
     returns-5
     returns-6
-    returns-7)
+    returns-7
+    returns-8)

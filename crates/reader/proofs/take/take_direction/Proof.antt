@@ -35,6 +35,10 @@ returns-2 c =
     (and-skip _ small ∙ ap not (sym (zeros-is _ _) ∙ ap (zeroOutside 0 0) (sym (at-if .before .before .before .six-at .ensures)) ∙ sym (c .before .zero-outside .ensures) ∙ c .if2 .taken))
     (omega arith)
 
+-- the block of entries has its length by what is known of the state
+slice-aggregate-put-row : tie.Need-slice-aggregate-put-row
+slice-aggregate-put-row c = let known = c .before .before .before .before .before .before .before .before .before .before .before .good .0 .1 .1 .1 .1 .0 in search (needs, known)
+
 returns-3 : tie.Need-returns-3
 unfolding directionOk withDirection
 returns-3 c =
@@ -61,7 +65,7 @@ take-direction-spec =
     (λ c. search needs)
     (λ c κs. search needs)
     returns-2
-    (λ c. search needs)
+    slice-aggregate-put-row
     (λ c κs. search needs)
     (λ c κs. search needs)
     (λ c. search needs)

@@ -14,7 +14,7 @@ abbrev Inv-loop : tie.InvT-loop
 Inv-loop kind table i₀ i = LengthSought kind table i
 
 abbrev μ-loop : tie.MeasureT-loop
-μ-loop kind table i₀ i = 16 - i
+μ-loop kind table i₀ i = 17 - i
 
 loop-holds : tie.Need-loop-holds Inv-loop μ-loop
 unfolding allBelow agrees lookup same bodyLength

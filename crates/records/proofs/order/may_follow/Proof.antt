@@ -35,7 +35,7 @@ abbrev Inv-loop : tie.InvT-loop
 Inv-loop place kind table i₀ i = Sought (isPair place kind) (λ p. true) false (mayFollow place kind) table i
 
 abbrev μ-loop : tie.MeasureT-loop
-μ-loop place kind table i₀ i = 34 - i
+μ-loop place kind table i₀ i = 38 - i
 
 from-start : (place kind : ℕ) (table : List Pair) → pairs table ≡ order → Sought (isPair place kind) (λ p. true) false (mayFollow place kind) table 0
 unfolding mayFollow

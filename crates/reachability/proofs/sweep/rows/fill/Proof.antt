@@ -16,15 +16,16 @@ use Rattle.reachability.proofs.sweep.rows.fill.Tie as tie
 facts : (c : tie.Start) → ModelFacts (c .args .model)
 facts c = model-facts (c .args .model) (c .pre .accepts)
 
+moved-points-requires : tie.Need-moved-points-requires
+moved-points-requires c κs = facts (c .before .before .before .before .before .before .before .before) .movable
+
 reaches-of-requires : tie.Need-reaches-of-requires
 reaches-of-requires c κs =
-    let f = facts (c .before .before .before .before .before .before .before) in
+    let f = facts (c .before .before .before .before .before .before .before .before .before .before .before) in
     (f .initial .counted, f .initial .reach-small)
 
-reaches-of-requires-2 : tie.Need-reaches-of-requires-2
-reaches-of-requires-2 c κs =
-    let f = facts (c .before .before .before .before .before .before .before .before .before) in
-    (f .input .counted, f .input .reach-small)
+entering-reaches-requires : tie.Need-entering-reaches-requires
+entering-reaches-requires c κs = facts (c .before .before .before .before .before .before .before .before .before .before .before .before .before .before) .entering
 
 -- the first working direction of the row is that of the direction
 first-own : (m : Model) (k : ℕ) (d r : List ℤ) → k < 16 → d ≡ rowOf (m .entries) k → r ≡ tabulate 6 (firstR (vector d)) → r ≡ tabulate 6 (firstR (matrix (m .entries) k))
@@ -37,8 +38,9 @@ fill-rows-requires c κs =
     let at-first = c .before .before .before .before .before .before .before .before .before in
     let at-row = at-first .before .before .before .before in
     let at-input = at-row .before .before in
-    let at-initial = at-input .before .before in
-    let start = at-initial .before .before .before .before .before .before .before .before in (
+    let at-initial = at-input .before .before .before in
+    let at-moved = at-initial .before .before .before in
+    let start = at-moved .before .before .before .before .before .before .before .before .before in (
       start .pre,
       record {
         n-is = refl;
@@ -49,8 +51,8 @@ fill-rows-requires c κs =
         reaches-are = at-initial .reaches-of .ensures;
         input-shape-is = refl;
         input-count-is = refl;
-        input-points-are = refl;
-        input-reaches-are = at-input .reaches-of2 .ensures;
+        input-points-are = at-moved .moved-points .ensures;
+        input-reaches-are = at-input .entering-reaches .ensures;
         r-is = first-own (start .args .model) (start .args .direction) (at-row .row .result) _ (lt-of-lt-of-le (start .pre .inside) (facts start .directions-most)) (at-row .row .ensures) (at-first .first .ensures .direction);
         e-is = at-first .first .ensures .errors;
       },
@@ -60,8 +62,9 @@ pub fill-spec : {M : Type 1} → statement M
 fill-spec =
     tie.close
     (tie.spec
+    moved-points-requires
     reaches-of-requires
-    reaches-of-requires-2
+    entering-reaches-requires
     (λ c κs. search needs)
     (λ c κs. search needs)
     fill-rows-requires
