@@ -1,16 +1,18 @@
 -- Machine integers in proofs. A signed local is its bits: `toZ w` reads them and `ofZ w` writes them.
 -- In order: bits that are 0; ranges; a product that is added to a sum; lists filled from the front, and of one value. Assumes nothing.
 use mathlib.Core.Path.{_≡_, refl, sym, ap, ap₂, subst, _∙_}
-use mathlib.Core.Bool.{Bool, true, false}
+use mathlib.Core.Bool.{Bool, true, false, cond}
 use mathlib.Core.List.{List, [], _∷_, _++_}
 use Prim.Native.Nat.{ℕ, zero, suc, _+_, _^_, _≤_, _<_}
 use native.Mathlib.Nat.{not-suc-le-zero, le-of-suc-le-suc, lt-of-le-of-lt}
+use native.Mathlib.Decide.{decLt}
 use native.Mathlib.Numerals.{add-one}
 use native.Mathlib.Omega.{arith}
-use borrow.Author.Tests.{eq-eqb, ne-eqb, eqb-true, eqb-false}
-use lib.Dec.{T, eqb, leb}
+use borrow.Author.Tests.{eq-eqb, ne-eqb, eqb-true, eqb-false, lt-ltb, le-ltb}
+use lib.Dec.{T, eqb, leb, ltb}
 use lib.Pow.{pow-pos}
 use lib.ListN.{length, getD, set, drop, replicate, List·getD-append}
+use lib.Seq.{ext-getD}
 use lib.IntN.{ℤ, pos, negsuc, natAbs, _+ℤ_, _*ℤ_}
 use lib.Signed.{mag, shrZ, mag-shr}
 use mir.Syntax.{Width, w32, w64}
@@ -133,6 +135,25 @@ pub getD-filled : (f : ℕ → ℤ) (i : ℕ) (xs : List ℤ) (j : ℕ) (d : ℤ
 unfolding filled
 getD-filled f i xs j d h =
     List·getD-append (tabulate i f) (drop i xs) d j (subst (λ (k : ℕ). j < k) (sym (length-tabulate i f)) h) ∙ getD-tabulate i f j d h
+
+pub getD-unfilled : (f : ℕ → ℤ) (i : ℕ) (xs : List ℤ) (j : ℕ) (d : ℤ) → i ≤ length xs → i ≤ j → getD (filled f i xs) j d ≡ getD xs j d
+unfolding filled
+getD-unfilled f zero xs j d h l = refl
+getD-unfilled f (suc i) [] j d h l = absurd (not-suc-le-zero h)
+getD-unfilled f (suc i) (x ∷ xs) zero d h l = absurd (not-suc-le-zero l)
+getD-unfilled f (suc i) (x ∷ xs) (suc j) d h l = getD-unfilled (λ k. f (suc k)) i xs j d (le-of-suc-le-suc h) (le-of-suc-le-suc l)
+
+-- a list filled as far as i, place by place
+pub filled-some : (f : ℕ → ℤ) (i : ℕ) (xs : List ℤ) → i ≤ length xs → filled f i xs ≡ tabulate (length xs) (λ k. cond (ltb k i) (f k) (getD xs k (pos 0)))
+filled-some f i xs h =
+    ext-getD (pos 0) (filled f i xs) (tabulate (length xs) g) (length-filled f i xs h ∙ sym (length-tabulate (length xs) g))
+    (λ k l. at k ∙ sym (getD-tabulate (length xs) g k (pos 0) (subst (λ (n : ℕ). k < n) (length-filled f i xs h) l)))
+  where
+    g : ℕ → ℤ
+    g k = cond (ltb k i) (f k) (getD xs k (pos 0))
+
+    at : (k : ℕ) → getD (filled f i xs) k (pos 0) ≡ g k
+    at k = elim (decLt k i) [ yes b ↦ getD-filled f i xs k (pos 0) b ∙ sym (ap (λ (t : Bool). cond t (f k) (getD xs k (pos 0))) (lt-ltb k i b)) | no c ↦ getD-unfilled f i xs k (pos 0) h (omega (arith, c)) ∙ sym (ap (λ (t : Bool). cond t (f k) (getD xs k (pos 0))) (le-ltb k i (omega (arith, c)))) ]
 
 -- ---- a list of one value, which is also what it has beyond its end
 

@@ -1,5 +1,6 @@
 -- The text of a file's reading at the start of the buffer is what `reply` should leave; a head that says 0 and one that says
--- the default get the same reply, and so do a file without an input set and one with zero corners. Assumes nothing.
+-- the default get the same reply, and so do a file without an input set and one with zero corners, and a file without a drift and
+-- one with a drift of zeros. Assumes nothing.
 use mathlib.Core.Path.{_≡_, sym, ap, _∙_}
 use mathlib.Core.Bool.{Bool, true, false, cond}
 use mathlib.Core.List.{List, _∷_, _++_}
@@ -16,12 +17,14 @@ use Rattle.records.proofs.RecordAt.{Reaches}
 use Rattle.reader.specs.Refusals.{refusal}
 use Rattle.reader.specs.Reading.{stopFor, readModel}
 use Rattle.reader.specs.NoInput.{NoInputAt, zeroCorners, putIn, movedStatus}
+use Rattle.reader.specs.NoDrift.{NoDriftAt, zeroDrift}
 use Rattle.reader.specs.declared.Reading.{Reading}
 use Rattle.reader.specs.declared.Status.{Status}
 use Rattle.reader.specs.declared.Status.the-variants.{Read}
 use Rattle.reader.proofs.ReadModels.{readModel-accepted}
 use Rattle.reader.proofs.DefaultSteps.{readModel-default}
 use Rattle.reader.proofs.NoInput.{readModel-no-input, readModel-refused-before}
+use Rattle.reader.proofs.NoDrift.{readModel-no-drift}
 use Rattle.text.specs.Put.{Put}
 use Rattle.listing.specs.Listing.{statusText, replyText, replyRoom, ReplyLeaves}
 
@@ -73,11 +76,18 @@ unfolding replyText
 replyText-default n rest = ap (λ (r : Reading). statusText (r .status) (r .model)) (readModel-default n rest)
 
 -- File 10: a file in which a direction stands straight after a complete initial set gets, with two records of zero corners before that
--- direction, the same listing, or the same number with the offset 50 higher; and the same reply where it is refused before.
+-- direction, the same listing, or the same number with the offset 50 higher.
 pub replyText-no-input : (file : List ℕ) (turns : ℕ) → NoInputAt file (stopFor turns file 0 start) → replyText (putIn zeroCorners (stopFor turns file 0 start .at) file) ≡ statusText (movedStatus 50 (readModel file .status)) (readModel file .model)
 unfolding replyText
 replyText-no-input file turns place = ap (λ (r : Reading). statusText (r .status) (r .model)) (readModel-no-input file turns place)
 
+-- File 15: a file whose last row no drift follows gets, with a drift of zeros put in there, the same listing, or the same number with
+-- the offset 25 higher.
+pub replyText-no-drift : (file : List ℕ) (turns : ℕ) → NoDriftAt file (stopFor turns file 0 start) → replyText (putIn zeroDrift (stopFor turns file 0 start .at) file) ≡ statusText (movedStatus 25 (readModel file .status)) (readModel file .model)
+unfolding replyText
+replyText-no-drift file turns place = ap (λ (r : Reading). statusText (r .status) (r .model)) (readModel-no-drift file turns place)
+
+-- File 10, File 15: refused before, a file gets the same reply with any bytes put in behind.
 pub replyText-refused-before : (file more : List ℕ) (turns m : ℕ) → m ≤ length file → Reaches m file (stopFor turns file 0 start .at) → (refusal (stopFor turns file 0 start .state) (recordAt file (stopFor turns file 0 start .at)) ≡ 0 → ⊥) → replyText (putIn more m file) ≡ replyText file
 unfolding replyText
 replyText-refused-before file more turns m inside reach ne = ap (λ (r : Reading). statusText (r .status) (r .model)) (readModel-refused-before file more turns m inside reach ne)

@@ -1,11 +1,12 @@
 // What enters at a move: the input, together with the drift (Runs 9).
 use crate::sets::Shape;
 use crate::sets::reach_at;
+use crate::sets::reaches_of;
 ghost use mathlib.Core.Path.{_≡_};
-ghost use mathlib.Core.Bool.{cond};
-ghost use Prim.Native.Nat.{_+_, _≤_};
+ghost use Prim.Native.Nat.{_+_};
 ghost use lib.Dec.{leb};
-ghost use lib.IntN.{natAbs, pos, _+ℤ_};
+ghost use lib.ListN.{length};
+ghost use lib.IntN.{natAbs, pos};
 ghost use Rattle.integers.specs.Sums.{tabulate};
 ghost use Rattle.reachability.specs.Sets.{reachLimit};
 ghost use Rattle.reachability.specs.Entering.{enteringReach, enteringWithin};
@@ -53,11 +54,11 @@ pub(crate) fn entering_reaches(
     requires { ⌜ EnteringSmall shape count (now points) (now drift) ⌝ }
     ensures { λ s. ⌜ s ≡ tabulate 6 (λ i. pos (enteringReach shape count (now (points .entry)) (now (drift .entry)) i)) ⌝ }
 {
-    let mut reaches = [0i64; 6];
+    let mut reaches = reaches_of(shape, count, points);
     let mut i: usize = 0;
     while i < 6 {
-        let size = arrays::magnitude(drift[i] as i64);
-        reaches[i] = (reach_at(shape, count, points, i) + size) as i64;
+        let size = arrays::magnitude(drift[i] as i64) as i64;
+        reaches[i] = reaches[i] + size;
         i += 1;
     }
     reaches
@@ -74,31 +75,17 @@ fn moved_count(shape: Shape, count: usize) -> usize
     }
 }
 
-// x, with `by` added where the point is moved.
-fn moved_entry(moves: bool, x: i32, by: i32) -> i32
-    requires { ⌜ (natAbs x ≤ reachLimit) × (natAbs by ≤ reachLimit) ⌝ }
-    ensures { λ z. ⌜ z ≡ cond moves (x +ℤ by) x ⌝ }
-{
-    if moves { x + by } else { x }
-}
-
-// Sets 20. The points of the set moved by the vector `by`. Its support is that of the set and r · by together, so that a sweep that
-// moves the input set once has no more to add at a step.
-pub(crate) fn moved_points(
-    shape: Shape,
-    count: usize,
-    points: &[i32; 96],
-    by: &[i32; 6],
-) -> [i32; 96]
+// Sets 20. Moves the points of a set by the vector `by`. Its support is then that of the set and r · by together, so that a sweep
+// that moves the input set once has no more to add at a step.
+pub(crate) fn move_points(shape: Shape, count: usize, points: &mut [i32; 96], by: &[i32; 6])
     requires { ⌜ Movable count (now points) (now by) ⌝ }
-    ensures { λ s. ⌜ s ≡ movedPoints shape count (now (points .entry)) (now (by .entry)) ⌝ }
+    requires { ⌜ 96 ≡ length (now points) ⌝ }
+    ensures { λ _. ⌜ now (points .exit) ≡ movedPoints shape count (now (points .entry)) (now (by .entry)) ⌝ }
 {
     let end = 6 * moved_count(shape, count);
-    let mut moved = [0i32; 96];
     let mut k: usize = 0;
-    while k < 96 {
-        moved[k] = moved_entry(k < end, points[k], by[k % 6]);
+    while k < end {
+        points[k] = points[k] + by[k % 6];
         k += 1;
     }
-    moved
 }

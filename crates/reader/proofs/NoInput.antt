@@ -281,8 +281,8 @@ module _ (file : List ℕ) (turns : ℕ) (place : NoInputAt file (stopFor turns 
   pub no-input-runs : readModel file .status ≡ Read → {q : ℕ} (run : Run (readModel file .model) q) (j : ℕ) → j < readModel file .model .steps → (i : ℕ) → i < readModel file .model .n → run .inputs j i ≡ pos 0
   no-input-runs e run j h i l = inputs-zero (readModel file .model) (readModel-zero-input e) run j h i l
 
--- A file that is refused before such a place: bytes put in anywhere behind the record that it is refused at, the two records before a
--- later direction among them, change nothing.
+-- File 10, File 15: of a file that is refused before such a place, bytes put in anywhere behind the record that it is refused at, the two
+-- records before a later direction or a drift behind a later row among them, change nothing.
 pub readModel-refused-before : (file more : List ℕ) (turns m : ℕ) → m ≤ length file → Reaches m file (stopFor turns file 0 start .at) → (refusal (stopFor turns file 0 start .state) (recordAt file (stopFor turns file 0 start .at)) ≡ 0 → ⊥) → readModel (putIn more m file) ≡ readModel file
 unfolding readModel
 readModel-refused-before file more turns m inside reach ne = readFrom-refused-before file (more ++ drop m file) m inside turns 0 start reach ne

@@ -1,5 +1,5 @@
--- File 15: what is said of files without a drift record. Definitions only, for laws of `readModel`; no contract cites them. Assumes
--- nothing.
+-- File 15: what is said of files without a drift record. Definitions only, for laws of `readModel` and of the replies; no contract
+-- cites them. Assumes nothing.
 use mathlib.Core.Path.{_≡_}
 use mathlib.Core.List.{List, _∷_}
 use Prim.Native.Nat.{ℕ}

@@ -33,10 +33,13 @@ within limit six = allBetween (negℤ (pos limit)) (pos limit) six
 unfoldable pub driftOk : ℕ → List ℕ → Bool
 driftOk n body = within reachLimit (sixAt n body 0)
 
--- Refusals 6 does not apply to the set with this point. The corners are compared at the upper one.
+-- Limits 8: the corners are compared at the upper one.
+abbrev pub cornersOk : ℕ → ℕ → List ℤ → Bool
+cornersOk n kind xs = not (isUpper kind) || cornersOrdered n xs
+
+-- Refusals 6 does not apply to the set with this point.
 unfoldable pub pointOk : ℕ → ℕ → Set → Bool
-pointOk n kind set =
-    reachWithin (set .shape) (set .count) (set .points) && (not (isUpper kind) || cornersOrdered n (set .points))
+pointOk n kind set = reachWithin (set .shape) (set .count) (set .points) && cornersOk n kind (set .points)
 
 -- Refusals 17 does not apply to the set with this point. Of the initial set nothing is tested beside the drift.
 abbrev pub enteringPointOk : Bool → Set → List ℤ → Bool

@@ -13,6 +13,7 @@ use coefficients::rows::fitted_entries;
 use coefficients::rows::scaled_entries;
 use reachability::entering::entering_within;
 use reachability::sets::Set;
+use reachability::sets::reach_within;
 use records::order::Part;
 use records::order::part_of;
 ghost use mathlib.Core.Path.{_≡_};
@@ -22,7 +23,7 @@ ghost use lib.Dec.{eqb};
 ghost use Rattle.records.specs.Order.{partOf};
 ghost use Rattle.arrays.specs.Tests.{firstOf};
 ghost use Rattle.reader.specs.Models.{withHead, rowStored, withRow, withDrift, setOf, withSetPoint, withDirection, withGuard};
-ghost use Rattle.reader.specs.Values.{headOk, rowNumber, driftOk, pointOk, enteringPointOk, directionOk, guardOk, unless, pointNumber, valueNumber};
+ghost use Rattle.reader.specs.Values.{headOk, rowNumber, driftOk, cornersOk, pointNumberOf, directionOk, guardOk, unless, pointNumber, valueNumber};
 ghost use Rattle.reader.specs.Refusals.{oneTooMany, stored};
 ghost use Rattle.reader.specs.Inner.{Takes};
 
@@ -126,34 +127,41 @@ fn take_drift(state: State, kind: u8, body: &[u8]) -> Taken
     }
 }
 
-// The reach of the set so far is within its limit, and a box's corners, once both are read, are in order.
-fn point_ok(n: usize, kind: u8, set: Set) -> bool
-    ensures { λ b. ⌜ b ≡ pointOk n kind set ⌝ }
+// The corners of a box, once both are read, are in order.
+fn corners_ok(n: usize, kind: u8, points: &[i32; 96]) -> bool
+    ensures { λ b. ⌜ b ≡ cornersOk n kind (now (points .entry)) ⌝ }
 {
-    let shape = set.shape;
-    let count = set.count;
-    let points = set.points;
-    if !reachability::sets::reach_within(shape, count, &points) {
-        return false;
-    }
     let which = kind % 16;
     if which != 1 {
         return true;
     }
-    limits::corners_ordered(n, &points)
+    limits::corners_ordered(n, points)
 }
 
-// Of the input set, the reach so far and the drift are within their limit together.
-fn entering_point_ok(input: bool, set: Set, drift: [i32; 6]) -> bool
-    ensures { λ b. ⌜ b ≡ enteringPointOk input set drift ⌝ }
+// The number of a set with its last point so far: 6 or, of the input set, 17. A reach that is within its limit with the drift is so by
+// itself, so that it is taken once where nothing is refused.
+fn point_number(input: bool, n: usize, kind: u8, set: Set, drift: &[i32; 6]) -> u8
+    ensures { λ k. ⌜ k ≡ pointNumberOf input n kind set (now (drift .entry)) ⌝ }
 {
-    if !input {
-        return true;
-    }
     let shape = set.shape;
     let count = set.count;
     let points = set.points;
-    entering_within(shape, count, &points, &drift)
+    if !corners_ok(n, kind, &points) {
+        return 6;
+    }
+    if input {
+        if entering_within(shape, count, &points, drift) {
+            return 0;
+        }
+        let own = reach_within(shape, count, &points);
+        let number: u8 = if own { 17 } else { 6 };
+        return number;
+    }
+    if reach_within(shape, count, &points) {
+        0
+    } else {
+        6
+    }
 }
 
 // One point more of the initial set or, with `input`, of the input set.
@@ -165,14 +173,8 @@ fn take_point(state: State, input: bool, kind: u8, body: &[u8]) -> Taken
     let n = model.n;
     let before = set_of(input, model);
     let set = with_point(n, before, kind, body);
-    let broken: u8 = if point_ok(n, kind, set) { 0 } else { 6 };
     let drift = model.drift;
-    let over: u8 = if entering_point_ok(input, set, drift) {
-        0
-    } else {
-        17
-    };
-    let number = arrays::first_of(broken, over);
+    let number = point_number(input, n, kind, set, &drift);
     if number != 0 {
         return Taken { number, state };
     }

@@ -14,49 +14,47 @@ pub enum Part {
     End,
 }
 
-// A place, and a kind that may stand there. The place is the kind of the record read last, but 00 at the start, 01 until all n rows
-// are in, and 02 then, also behind a fitted row.
-struct Pair(u8, u8);
-
-const ORDER: [Pair; 38] = [
-    Pair(0x00, 0x01),
-    Pair(0x01, 0x02),
-    Pair(0x01, 0x03),
-    Pair(0x02, 0x05),
-    Pair(0x02, 0x10),
-    Pair(0x02, 0x12),
-    Pair(0x02, 0x14),
-    Pair(0x05, 0x10),
-    Pair(0x05, 0x12),
-    Pair(0x05, 0x14),
-    Pair(0x10, 0x11),
-    Pair(0x11, 0x20),
-    Pair(0x11, 0x22),
-    Pair(0x11, 0x24),
-    Pair(0x11, 0x30),
-    Pair(0x12, 0x13),
-    Pair(0x13, 0x13),
-    Pair(0x13, 0x20),
-    Pair(0x13, 0x22),
-    Pair(0x13, 0x24),
-    Pair(0x13, 0x30),
-    Pair(0x14, 0x14),
-    Pair(0x14, 0x20),
-    Pair(0x14, 0x22),
-    Pair(0x14, 0x24),
-    Pair(0x14, 0x30),
-    Pair(0x20, 0x21),
-    Pair(0x21, 0x30),
-    Pair(0x22, 0x23),
-    Pair(0x23, 0x23),
-    Pair(0x23, 0x30),
-    Pair(0x24, 0x24),
-    Pair(0x24, 0x30),
-    Pair(0x30, 0x30),
-    Pair(0x30, 0x40),
-    Pair(0x30, 0xFF),
-    Pair(0x40, 0x40),
-    Pair(0x40, 0xFF),
+// A place in the high byte, and in the low byte a kind that may stand there. The place is the kind of the record read last, but 00 at
+// the start, 01 until all n rows are in, and 02 then, also behind a fitted row.
+const ORDER: [u16; 38] = [
+    0x0001,
+    0x0102,
+    0x0103,
+    0x0205,
+    0x0210,
+    0x0212,
+    0x0214,
+    0x0510,
+    0x0512,
+    0x0514,
+    0x1011,
+    0x1120,
+    0x1122,
+    0x1124,
+    0x1130,
+    0x1213,
+    0x1313,
+    0x1320,
+    0x1322,
+    0x1324,
+    0x1330,
+    0x1414,
+    0x1420,
+    0x1422,
+    0x1424,
+    0x1430,
+    0x2021,
+    0x2130,
+    0x2223,
+    0x2323,
+    0x2330,
+    0x2424,
+    0x2430,
+    0x3030,
+    0x3040,
+    0x30FF,
+    0x4040,
+    0x40FF,
 ];
 
 // Routines 13. The kind may stand at the place, by a search of the table.
@@ -64,13 +62,11 @@ pub fn may_follow(place: u8, kind: u8) -> bool
     ensures { λ b. ⌜ b ≡ mayFollow place kind ⌝ }
 {
     let table = ORDER;
+    let sought = 256 * (place as u16) + (kind as u16);
     let mut i: usize = 0;
     while i < 38 {
-        let pair = table[i];
-        if pair.0 == place {
-            if pair.1 == kind {
-                return true;
-            }
+        if table[i] == sought {
+            return true;
         }
         i += 1;
     }

@@ -1,6 +1,6 @@
 // Filling the rows of a sweep, once the model and the direction's number have been tested.
 use crate::entering::entering_reaches;
-use crate::entering::moved_points;
+use crate::entering::move_points;
 use crate::model::Model;
 use crate::sets::Shape;
 use crate::sets::reaches_of;
@@ -182,12 +182,12 @@ pub(crate) fn fill(
     let input = model.input;
     let input_shape = input.shape;
     let input_count = input.count;
-    let points = input.points;
+    let mut input_points = input.points;
     let drift = model.drift;
-    let input_points = moved_points(input_shape, input_count, &points, &drift);
     let entries = model.entries;
     let initial_reaches = reaches_of(initial_shape, initial_count, &initial_points);
-    let input_reaches = entering_reaches(input_shape, input_count, &points, &drift);
+    let input_reaches = entering_reaches(input_shape, input_count, &input_points, &drift);
+    move_points(input_shape, input_count, &mut input_points, &drift);
     let d = arrays::row(&entries, direction);
     let mut r = [0i64; 6];
     let mut e = [0i64; 6];

@@ -1,58 +1,67 @@
--- `records::order::may_follow` meets its contract. The loop's invariant: a search of the pairs that are left gives the answer. At
--- the start the table is the list of `order`, which antt computes. The measure is the number of pairs left. Assumes nothing.
-use Rattle.integers.proofs.Basics.{_≡_, refl, ap, ap₂, _∙_, Bool, true, false, ℕ, _-_, arith}
+-- `records::order::may_follow` meets its contract. The loop's invariant: a search of the entries that are left gives the answer. At
+-- the start the table is the list of `order`, which antt computes. The measure is the number of entries left. Assumes nothing.
+use Rattle.integers.proofs.Basics.{_≡_, refl, sym, ap, ap₂, _∙_, Bool, true, false, ℕ, _+_, _*_, _-_, _<_, arith}
 use mathlib.Core.Bool.{cond, _&&_, _||_}
 use mathlib.Core.List.{List, [], _∷_}
-use mathlib.Core.Logic.{⊎-elim}
-use borrow.Author.Tests.{eq-eqb, ne-eqb}
+use Prim.Native.Nat.{_/_, _%_}
+use native.Mathlib.Decide.{ℕ-discrete}
+use borrow.Author.Tests.{eq-eqb, ne-eqb, eqb-true}
 use lib.Dec.{eqb}
-use Rattle.integers.proofs.Booleans.{and-skip, and-stop}
 use Rattle.records.specs.Order.{order, listed, mayFollow}
-use Rattle.records.specs.declared.order.Pair.{Pair}
 use Rattle.records.proofs.Search.{lookup, Sought, sought-found, sought-next, sought-none}
 use Rattle.records.proofs.order.may_follow.Statement.{statement}
 use Rattle.records.proofs.order.may_follow.Tie as tie
 
-abbrev isPair : ℕ → ℕ → Pair → Bool
-isPair place kind p = eqb (p .0) place && eqb (p .1) kind
+-- an entry has its place in the high byte and its kind in the low one
+abbrev packed : ℕ → ℕ → ℕ
+packed place kind = 256 * place + kind
+
+same-pair : (e place kind : ℕ) → kind < 256 → eqb e (packed place kind) ≡ eqb (e / 256) place && eqb (e % 256) kind
+same-pair e place kind h = elim (ℕ-discrete e (packed place kind)) [ yes p ↦ eq-eqb e (packed place kind) p ∙ sym (ap₂ _&&_ (eq-eqb (e / 256) place (omega arith)) (eq-eqb (e % 256) kind (omega arith))) | no f ↦ ne-eqb e (packed place kind) f ∙ sym (split (eqb (e / 256) place) refl f) ]
+  where
+    split : (b : Bool) → eqb (e / 256) place ≡ b → (e ≡ packed place kind → ⊥) → b && eqb (e % 256) kind ≡ false
+    split true p f = ne-eqb (e % 256) kind (λ q. f (omega (arith, eqb-true (e / 256) place p, q)))
+    split false p f = refl
 
 -- the table, as the definition has it
-abbrev pairs : List Pair → List (ℕ × ℕ)
+abbrev pairs : List ℕ → List (ℕ × ℕ)
 pairs [] = []
-pairs (p ∷ ps) = (p .0, p .1) ∷ pairs ps
+pairs (e ∷ es) = (e / 256, e % 256) ∷ pairs es
 
 or-cond : (a b : Bool) → cond a true b ≡ a || b
 or-cond true b = refl
 or-cond false b = refl
 
-lookup-listed : (place kind : ℕ) (ps : List Pair) → lookup (isPair place kind) (λ p. true) false ps ≡ listed place kind (pairs ps)
+lookup-listed : (place kind : ℕ) → kind < 256 → (es : List ℕ) → lookup (λ e. eqb e (packed place kind)) (λ e. true) false es ≡ listed place kind (pairs es)
 unfolding lookup
-lookup-listed place kind [] = refl
-lookup-listed place kind (p ∷ ps) =
-    or-cond (isPair place kind p) (lookup (isPair place kind) (λ q. true) false ps) ∙ ap (λ (b : Bool). isPair place kind p || b) (lookup-listed place kind ps)
+lookup-listed place kind h [] = refl
+lookup-listed place kind h (e ∷ es) =
+    or-cond (eqb e (packed place kind)) (lookup (λ d. eqb d (packed place kind)) (λ d. true) false es) ∙ ap₂ _||_ (same-pair e place kind h) (lookup-listed place kind h es)
 
 abbrev Inv-loop : tie.InvT-loop
-Inv-loop place kind table i₀ i = Sought (isPair place kind) (λ p. true) false (mayFollow place kind) table i
+Inv-loop place kind table sought i₀ i = Sought (λ e. eqb e sought) (λ e. true) false (mayFollow place kind) table i
 
 abbrev μ-loop : tie.MeasureT-loop
-μ-loop place kind table i₀ i = 38 - i
+μ-loop place kind table sought i₀ i = 38 - i
 
-from-start : (place kind : ℕ) (table : List Pair) → pairs table ≡ order → Sought (isPair place kind) (λ p. true) false (mayFollow place kind) table 0
+from-start : (place kind : ℕ) → kind < 256 → (table : List ℕ) → pairs table ≡ order → Sought (λ e. eqb e (packed place kind)) (λ e. true) false (mayFollow place kind) table 0
 unfolding mayFollow
-from-start place kind table same = record { within = omega arith; rest = lookup-listed place kind table ∙ ap (listed place kind) same }
+from-start place kind h table same = record { within = omega arith; rest = lookup-listed place kind h table ∙ ap (listed place kind) same }
+
+mul-sought : tie.Need-mul-sought Inv-loop μ-loop
+mul-sought c = omega (arith, c .fits .place .fits)
+
+add-sought : tie.Need-add-sought Inv-loop μ-loop
+add-sought c = omega (arith, c .fits .place .fits, c .fits .kind .fits)
 
 loop-holds : tie.Need-loop-holds Inv-loop μ-loop
-loop-holds c = from-start (c .args .place) (c .args .kind) _ refl
+loop-holds c = from-start (c .args .place) (c .args .kind) (c .fits .kind .fits) _ refl
 
 returns : tie.Need-returns Inv-loop μ-loop
-returns c =
-    let at-if = c .before .before in
-    sought-found (at-if .before .before .before .before .loop .inv) _ (at-if .before .before .before .loop-test .taken) (ap₂ _&&_ (eq-eqb _ _ (at-if .if1 .taken)) (eq-eqb _ _ (c .if2 .taken)))
+returns c = sought-found (c .before .before .loop .inv) _ (c .before .loop-test .taken) (eq-eqb _ _ (c .if1 .taken))
 
 loop-again : tie.Need-loop-again Inv-loop μ-loop
-loop-again c =
-    sought-next (c .before .before .before .before .loop .inv) _ (c .before .before .before .loop-test .taken)
-    (⊎-elim (λ w. and-skip _ (eq-eqb _ _ (w .0 .taken)) ∙ ne-eqb _ _ (w .2 .left)) (λ w. and-stop _ (ne-eqb _ _ (w .left))) (c .if1 .came))
+loop-again c = sought-next (c .before .before .loop .inv) _ (c .before .loop-test .taken) (ne-eqb _ _ (c .if1 .left))
 
 returns-2 : tie.Need-returns-2 Inv-loop μ-loop
 returns-2 c = sought-none (c .before .loop .inv) (c .loop-test .left)
@@ -63,6 +72,8 @@ may-follow-spec =
     (tie.spec
     Inv-loop
     μ-loop
+    mul-sought
+    add-sought
     loop-holds
     (λ c. omega arith)
     (λ c. omega arith)

@@ -1,7 +1,8 @@
 -- `reachability::sweep::rows::fill` meets its contract: what it hands over is the model's own. Assumes nothing.
-use Rattle.integers.proofs.Basics.{_≡_, refl, ap, _∙_, ℕ, _<_, needs, ℤ, pos, _*ℤ_}
+use Rattle.integers.proofs.Basics.{_≡_, refl, sym, ap, _∙_, ℕ, _<_, needs, ℤ, pos, _*ℤ_}
 use mathlib.Core.List.{List}
 use native.Mathlib.Nat.{lt-of-lt-of-le}
+use lib.ListN.{length}
 use borrow.Author.Tests.{lt-ltb}
 use Rattle.arrays.specs.Rows.{rowOf}
 use Rattle.integers.specs.Sums.{vector, matrix, tabulate}
@@ -16,16 +17,22 @@ use Rattle.reachability.proofs.sweep.rows.fill.Tie as tie
 facts : (c : tie.Start) → ModelFacts (c .args .model)
 facts c = model-facts (c .args .model) (c .pre .accepts)
 
-moved-points-requires : tie.Need-moved-points-requires
-moved-points-requires c κs = facts (c .before .before .before .before .before .before .before .before) .movable
-
 reaches-of-requires : tie.Need-reaches-of-requires
 reaches-of-requires c κs =
-    let f = facts (c .before .before .before .before .before .before .before .before .before .before .before) in
+    let f = facts (c .before .before .before .before .before .before .before .before) in
     (f .initial .counted, f .initial .reach-small)
 
 entering-reaches-requires : tie.Need-entering-reaches-requires
-entering-reaches-requires c κs = facts (c .before .before .before .before .before .before .before .before .before .before .before .before .before .before) .entering
+entering-reaches-requires c κs = facts (c .before .before .before .before .before .before .before .before .before .before .before) .entering
+
+-- the input set's block has its length by what is known of the model's fields, of which the input set is the sixth
+long : (c : tie.Start) → length (c .args .model .input .points) ≡ 96
+long c = let known = c .good .0 .1 .1 .1 .1 .1 .1 .1 .0 in search (needs, known)
+
+move-points-requires : tie.Need-move-points-requires
+move-points-requires c κs =
+    let start = c .before .before .before .before .before .before .before .before .before .before .before .before .before .before in
+    (facts start .movable, sym (long start))
 
 -- the first working direction of the row is that of the direction
 first-own : (m : Model) (k : ℕ) (d r : List ℤ) → k < 16 → d ≡ rowOf (m .entries) k → r ≡ tabulate 6 (firstR (vector d)) → r ≡ tabulate 6 (firstR (matrix (m .entries) k))
@@ -37,10 +44,10 @@ fill-rows-requires : tie.Need-fill-rows-requires
 fill-rows-requires c κs =
     let at-first = c .before .before .before .before .before .before .before .before .before in
     let at-row = at-first .before .before .before .before in
-    let at-input = at-row .before .before in
+    let at-moved = at-row .before .before in
+    let at-input = at-moved .before .before .before in
     let at-initial = at-input .before .before .before in
-    let at-moved = at-initial .before .before .before in
-    let start = at-moved .before .before .before .before .before .before .before .before .before in (
+    let start = at-initial .before .before .before .before .before .before .before .before .before in (
       start .pre,
       record {
         n-is = refl;
@@ -51,7 +58,7 @@ fill-rows-requires c κs =
         reaches-are = at-initial .reaches-of .ensures;
         input-shape-is = refl;
         input-count-is = refl;
-        input-points-are = at-moved .moved-points .ensures;
+        input-points-are = at-moved .move-points .ensures;
         input-reaches-are = at-input .entering-reaches .ensures;
         r-is = first-own (start .args .model) (start .args .direction) (at-row .row .result) _ (lt-of-lt-of-le (start .pre .inside) (facts start .directions-most)) (at-row .row .ensures) (at-first .first .ensures .direction);
         e-is = at-first .first .ensures .errors;
@@ -62,9 +69,9 @@ pub fill-spec : {M : Type 1} → statement M
 fill-spec =
     tie.close
     (tie.spec
-    moved-points-requires
     reaches-of-requires
     entering-reaches-requires
+    move-points-requires
     (λ c κs. search needs)
     (λ c κs. search needs)
     fill-rows-requires

@@ -1,0 +1,2 @@
+-- Laws of what enters at a move.
+pub mod Laws

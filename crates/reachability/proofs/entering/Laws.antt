@@ -1,0 +1,25 @@
+-- What is within its limit together with a drift is so by itself. Assumes nothing.
+use mathlib.Core.Path.{_≡_, ap₂}
+use mathlib.Core.Bool.{true, _&&_}
+use mathlib.Core.List.{List}
+use Prim.Native.Nat.{ℕ, _+_, _≤_}
+use native.Mathlib.Omega.{arith}
+use borrow.Author.Tests.{le-leb, leb-true}
+use lib.Dec.{leb}
+use lib.IntN.{ℤ, natAbs}
+use Rattle.integers.specs.Sums.{vector}
+use Rattle.integers.proofs.Sums.{allBelow-at, allBelow-intro}
+use Rattle.integers.proofs.Booleans.{and-true}
+use Rattle.reachability.specs.Sets.{points, reachOf, reachLimit, reachWithin}
+use Rattle.reachability.specs.Entering.{enteringReach, enteringOk, enteringWithin}
+use Rattle.reachability.specs.declared.sets.Shape.{Shape}
+
+pub within-alone : (shape : Shape) (count : ℕ) (xs drift : List ℤ) → enteringWithin shape count xs drift ≡ true → reachWithin shape count xs ≡ true
+within-alone shape count xs drift t =
+    let both = and-true (leb 1 count && leb count 16) (enteringOk shape count xs drift) t in
+    ap₂ _&&_ (both .0)
+    (allBelow-intro 6 (λ i. leb (reachOf shape count (points xs) i) reachLimit)
+    (λ i h. le-leb (reachOf shape count (points xs) i) reachLimit (alone (reachOf shape count (points xs) i) (natAbs (vector drift i)) (leb-true (enteringReach shape count xs drift i) reachLimit (allBelow-at 6 (λ j. leb (enteringReach shape count xs drift j) reachLimit) (both .1) i h)))))
+  where
+    alone : (a b : ℕ) → a + b ≤ reachLimit → a ≤ reachLimit
+    alone a b h = omega arith
