@@ -43,8 +43,8 @@ extern "C" {
 
 /* Numbers. 1 to 10, 15 and 17 refuse the file, and the figure is the offset of the record at fault; for 10, of the first byte
  * behind the end; the file's length where no byte is left. 15 is for a fitted row alone: one of its first n entries is not finite,
- * or is beyond 2 in magnitude. 17 is for a drift with an entry beyond 1,048,576 in magnitude, and for a point of the input set with
- * which the set's reach in a coordinate and the drift's magnitude there are more than that together. */
+ * or is beyond 2 in magnitude. 17 is for a drift one of whose first n entries is beyond 1,048,576 in magnitude, and for a point of
+ * the input set with which the set's reach in a coordinate and the drift's magnitude there are more than that together. */
 #define PEPPERSCARP_FINISHED 0u
 #define PEPPERSCARP_INVALID 11u      /* a step's values break a rule */
 #define PEPPERSCARP_NOT_THERE 12u    /* no such direction, or no such guard */

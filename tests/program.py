@@ -218,9 +218,10 @@ class Text(unittest.TestCase):
             self.assertEqual(reply(data).decode(), expected + "\n")
 
     def test_a_file_without_an_input_set_gets_the_reply_to_zero_corners(self) -> None:
-        # File 10, of every file of the reader's tests in which a direction stands straight after the
-        # initial set. What is expected of both is the exact program's reply to the one with corners.
-        replies = set()
+        # File 10, of every file of the reader's tests in which a direction stands straight after
+        # the initial set. What is expected of both is the exact program's reply to the one with
+        # corners. No refusal is at the corners; one before them has the same offset in both files.
+        replies, before = set(), set()
         for path in sorted(READER_FILES.iterdir()):
             data = path.read_bytes()
             found = readerfiles.with_zero_corners(data)
@@ -230,12 +231,19 @@ class Text(unittest.TestCase):
             expected = exact.listing(with_corners)
             self.assertEqual(reply(with_corners).decode(), expected, path.name)
             if refused := re.fullmatch(r"refused (\d+) at (\d+)\n", expected):
-                earlier = int(refused[2]) - (50 if int(refused[2]) >= at else 0)
-                expected = f"refused {refused[1]} at {earlier}\n"
+                why, offset = map(int, refused.groups())
+                self.assertFalse(at <= offset < at + 50, path.name)
+                if offset < at:
+                    before.add(why)
+                else:
+                    expected = f"refused {why} at {offset - 50}\n"
+                    replies.add(why)
+            else:
+                replies.add(expected.split("\n")[0])
             self.assertEqual(reply(data).decode(), expected, path.name)
-            replies.add(expected.split("\n")[0].split(" at ")[0])
-        refused = {f"refused {number}" for number in (1, 3, 7, 8, 9, 10)}
-        self.assertLessEqual({"model 1 1", "model 1 120", "model 6 256", *refused}, replies)
+        self.assertLessEqual({"model 1 1", "model 1 120", "model 6 256"}, replies)
+        self.assertLessEqual({1, 3, 7, 8, 9, 10}, replies)
+        self.assertLessEqual({17}, before)
 
     def test_the_longest_file_is_listed_and_a_byte_more_is_refused(self) -> None:
         vertices = Set(VERTICES, tuple((k,) * MAX_N for k in range(16)))
@@ -395,8 +403,9 @@ class Drift(unittest.TestCase):
 
     def test_a_drift_of_zeros_gets_the_reply_to_none(self) -> None:
         # File 15, of every file of the reader's tests that comes to the place without a drift. What
-        # is expected of both is the exact program's reply to the one without.
-        replies = set()
+        # is expected of both is the exact program's reply to the one without. A refusal before the
+        # place has the same offset in both files.
+        replies, before = set(), set()
         for path in sorted(READER_FILES.iterdir()):
             data = path.read_bytes()
             found = readerfiles.with_zero_drift(data)
@@ -406,12 +415,18 @@ class Drift(unittest.TestCase):
             expected = exact.listing(data)
             self.assertEqual(reply(data).decode(), expected, path.name)
             if refused := re.fullmatch(r"refused (\d+) at (\d+)\n", expected):
-                later = int(refused[2]) + (25 if int(refused[2]) >= at else 0)
-                expected = f"refused {refused[1]} at {later}\n"
+                why, offset = map(int, refused.groups())
+                if offset < at:
+                    before.add(why)
+                else:
+                    expected = f"refused {why} at {offset + 25}\n"
+                    replies.add(why)
+            else:
+                replies.add(expected.split("\n")[0])
             self.assertEqual(reply(with_zeros).decode(), expected, path.name)
-            replies.add(expected.split("\n")[0].split(" at ")[0])
-        refused = {f"refused {number}" for number in (1, 2, 3, 6, 7, 8, 9, 10)}
-        self.assertLessEqual({"model 1 1", "model 1 120", "model 6 256", *refused}, replies)
+        self.assertLessEqual({"model 1 1", "model 1 120", "model 6 256"}, replies)
+        self.assertLessEqual({1, 2, 3, 6, 7, 8, 9, 10}, replies)
+        self.assertLessEqual({4, 5, 15}, before)
 
     def test_numbers_beyond_n_are_not_looked_at(self) -> None:
         good = self.file(7, 9, (-1, 1), 1, 1)

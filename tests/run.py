@@ -336,18 +336,18 @@ class Words(Clone):
         self.assertRegex(done.stderr, rb"^\S*summer\.model: 4 entries were rounded \(~\); .*\n$")
         self.assert_done(self.run_on(EXAMPLES / "summer.bin"), 0, listing, b"")
         # Without its drift the first guard is no longer reached.
-        still = text.read_bytes().replace(b"\ndrift 16 8", b"")
-        self.assertIn(b"\nguard 0 HIT 185\n", listing)
+        still = text.read_bytes().replace(b"\ndrift 2367 1179", b"")
+        self.assertIn(b"\nguard 0 HIT 183\n", listing)
         self.assertIn(b"\nguard 0 CLEAR\n", self.run_on("-", data=still).stdout)
 
     def test_why_a_drift_is_refused_is_told_in_words(self) -> None:
         # The first entry of the example's drift, whose record is at 56, becomes another.
         data = (EXAMPLES / "summer.bin").read_bytes()
-        self.assertEqual(data[56:61], b"\x05\x10\0\0\0")
+        self.assertEqual(data[56:61], b"\x05" + (2_367).to_bytes(4, "little"))
         for drift, offset, told in (
             (1_048_577, 56, "the drift: entry 1,048,577 in coordinate 0 .* to 1,048,576\n$"),
-            (-1_047_809, 156, "the upper corner of the input set: .* is 768, which with the drift"
-                              " of -1,047,809 makes 1,048,577; .* at most 1,048,576\n$"),
+            (-999_425, 156, "the upper corner of the input set: .* is 49,152, which with the drift"
+                            " of -999,425 makes 1,048,577; .* at most 1,048,576\n$"),
         ):
             entry = drift.to_bytes(4, "little", signed=True)
             done = self.run_on("-", data=data[:57] + entry + data[61:])

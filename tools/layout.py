@@ -76,7 +76,7 @@ def zero_box(n: int) -> Set:
 class Model:
     """A model without its unused entries: every vector has n entries.
 
-    Of a model that is made without a drift it is zero (File 15).
+    A drift that is left out is zero (File 15).
     """
 
     n: int

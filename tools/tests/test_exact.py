@@ -726,7 +726,7 @@ class Drift(unittest.TestCase):
             seen[reply] += 1
         self.assertEqual(set(seen), {"model", "before", 1, 2, 3, *range(6, 11)})
 
-    def test_zero_drift_has_the_listing_of_before(self):
+    def test_zero_drift_adds_nothing(self):
         """Recurrence 17: supports and reaches are those of the input set alone."""
         for without, _ in self.accepted(100):
             none = (0,) * without.n
@@ -824,12 +824,15 @@ class NoInput(unittest.TestCase):
             self.refused(asked + b"\xff\0", 10, len(asked) + 1)
 
     def damaged(self):
-        """Files that have no input set, and each of them damaged in many ways."""
+        """Files without an input set, and each damaged in many ways or with 16 directions more."""
         rnd = random.Random(2)
-        for data in models.stream(12, 900):
+        for data in models.stream(15, 900):
             if states_input(data):
                 continue
             yield data
+            if found := readerfiles.with_zero_corners(data):
+                at, _ = found
+                yield data[: at + 25] + data[at : at + 25] * 16 + data[at + 25 :]
             for _ in range(30):
                 at = rnd.randrange(len(data))
                 byte = bytes([rnd.choice((rnd.randrange(256), *BODY_LENGTHS))])

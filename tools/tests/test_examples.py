@@ -3,6 +3,8 @@
 import shutil
 import tempfile
 import unittest
+from dataclasses import replace
+from fractions import Fraction
 from pathlib import Path
 
 from helpers import run_tool
@@ -12,7 +14,7 @@ import examples
 import files
 import listings
 import pack
-from layout import VERTICES, ZONOTOPE, encode
+from layout import BOX, VERTICES, ZONOTOPE, Set, encode
 
 
 def source_of(name):
@@ -110,18 +112,48 @@ class Examples(unittest.TestCase):
     def test_summer_without_its_drift(self):
         """Its text and `examples/README.md` say which guards the drift turns, and from what."""
         text = (examples.FOLDER / "summer.model").read_text()
-        model = pack.parse(text).model
-        self.assertEqual(model.drift, (16, 8))
         told = [str(verdict) for verdict in listing_of("summer").guards]
-        self.assertEqual(told, ["HIT 185", "HIT 191", "CLEAR", "CLEAR", "CLEAR"])
-        without = pack.parse(text.replace("\ndrift 16 8", "")).model
-        said = [verdict.word for verdict in exact.listing_of(without).guards]
-        self.assertEqual(said, ["CLEAR"] * 4 + ["HIT"])
-        # What the rows lack to 1, of 16 degrees in counts of 1/256 and of 1/16.
-        shares = [65_536 - sum(row) for row in model.matrix]
-        for counts, places, expected in ((4_096, 1, [16.4, 8.2]), (256, 2, [1.03, 0.51])):
-            found = [round(counts * share / 65_536, places) for share in shares]
+        self.assertEqual(told, ["HIT 183", "HIT 190", "CLEAR", "CLEAR", "CLEAR"])
+        readme = (examples.FOLDER / "README.md").read_text()
+        self.assertIn("\nthey are HIT at steps 183 and 190,", readme)
+        for drift in ("", "\ndrift 1315 655"):
+            self.assertEqual(text.count("\ndrift 2367 1179"), 1)
+            other = pack.parse(text.replace("\ndrift 2367 1179", drift)).model
+            said = [verdict.word for verdict in exact.listing_of(other).guards]
+            self.assertEqual(said, ["CLEAR"] * 4 + ["HIT"])
+
+    def test_summer_has_a_drift_that_is_whole(self):
+        """What the rows lack to 1, of air of 36 and 20 degrees; its texts tell other counts too."""
+        model = source_of("summer").model
+        shares = [Fraction(65_536 - sum(row), 65_536) for row in model.matrix]
+        self.assertEqual([65_536 * share for share in shares], [263, 131])
+        self.assertEqual(model.drift, tuple(36 * 16_384 * share for share in shares))
+        self.assertEqual([20 * 16_384 * share for share in shares], [1_315, 655])
+        for counts, expected in ((256, [36.98, 18.42]), (16, [2.31, 1.15])):
+            found = [round(float(36 * counts * share), 2) for share in shares]
             self.assertEqual(found, expected)
+        # The sink starts as warm as the air, and is never colder.
+        self.assertEqual(set(exact.exact_values(model)[3]), {-36 * 16_384})
+
+    def test_summer_in_coarser_counts(self):
+        """`examples/README.md` says which way to round a drift, so that no bound is too low."""
+        model = source_of("summer").model
+        values = exact.exact_values(model)
+        initial = Set(BOX, ((36 * 256,) * 2, (40 * 256,) * 2))
+
+        def too_low(drift, upper):
+            """The directions with a bound that is below the exact largest value at some step."""
+            input_ = Set(BOX, ((0, 0), upper))
+            coarse = replace(model, initial=initial, input=input_, drift=drift)
+            swept = exact.listing_of(coarse).directions
+            return [
+                number for number, (one, exactly) in enumerate(zip(swept, values))
+                if any(64 * bound < value for bound, value in zip(one.bounds, exactly))
+            ]
+
+        self.assertEqual(too_low((36, 18), (769, 1)), [])
+        self.assertEqual(too_low((36, 18), (768, 0)), [0, 1, 2])
+        self.assertEqual(too_low((37, 19), (768, 0)), [2, 3])
 
     def test_cooling_with_corners_of_zeros(self):
         """Its text has no input set; one from zero to zero gives the same listing and chart."""

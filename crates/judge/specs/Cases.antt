@@ -1,7 +1,7 @@
--- Figures 1 to 12, 16 to 22 and 24 to 27, the marked cases, as one list, and what it means that they hold. Definitions only. A case is the
--- list of what the specification says in it; a saying sets a figure beside what the contracts of `support`, `reach`, `sweep` and `judge`
--- say is answered or left, or beside the r, e, T or raw slack by which they say it. Sweeps are of direction 0 and judges of guard 0,
--- with K + 1 elements in both lists. Where the specification names no K, it is the last step that has a figure.
+-- Figures 1 to 12, 16 to 22 and 24 to 27, the marked cases, as one list, and what it means that they hold. Definitions only. A case is
+-- the list of what the specification says in it; a saying sets a figure beside what the contracts of `support`, `reach`, `sweep` and
+-- `judge` say is answered or left, or beside the r, e, T or raw slack by which they say it. Sweeps are of direction 0 and judges of
+-- guard 0, with K + 1 elements in both lists. Where the specification names no K, it is the last step that has a figure.
 -- In order: stored values; sayings; the sets and models; the cases. Not here: the theorem (`proofs.MarkedCases`). Assumes nothing.
 use mathlib.Core.Path.{_≡_}
 use mathlib.Core.List.{List, [], _∷_, _++_}
@@ -195,8 +195,8 @@ abbrev pub pushed : ℤ → ℤ → Model
 pushed drift direction = drifting 2 (pos 65536) drift zeroBox zeroBox direction
 
 -- Figures 26: the drift, and the upper end of the input box.
-abbrev pub filled : ℤ → ℤ → Model
-filled drift high = drifting 1 (pos 65536) drift zeroBox (interval (pos 0) high) (pos 1)
+abbrev pub atLimit : ℤ → ℤ → Model
+atLimit drift high = drifting 1 (pos 65536) drift zeroBox (interval (pos 0) high) (pos 1)
 
 -- Figures 27: entry 1, the input box and the drift.
 abbrev pub shifted : ℤ → ℤ → ℤ → Model
@@ -360,9 +360,9 @@ case25 =
 -- Figures 26, of models made by hand.
 abbrev pub case26 : Case
 case26 =
-    numbered (filled (pos 1048576) (pos 0)) 0
-    ∷ numbered (filled (pos 1048576) (pos 1)) 11
-    ∷ numbered (filled (pos 1048577) (pos 0)) 11
+    numbered (atLimit (pos 1048576) (pos 0)) 0
+    ∷ numbered (atLimit (pos 1048576) (pos 1)) 11
+    ∷ numbered (atLimit (pos 1048577) (pos 0)) 11
     ∷ []
 
 -- Figures 27.

@@ -85,13 +85,13 @@ module _ (m : Model) (facts : ModelFacts m) where
   value-le : (x : ℕ → ℤ) (k : ℕ) → k ≤ m .steps → (q : ℕ) (run : Run m q) → dot (m .n) x (state m run k) ⩽ pos q *ℤ exactAt x k
   unfolding exactAt
   value-le x k h q run =
-      value-le-top (m .n) (moves m) lawsI lawsU q (run .start) (entering m run) k (run .starts) (λ j l. record { point = run .inputs j; inside = run .enters j (lt-of-lt-of-le l h); is = refl }) x
+      value-le-top (m .n) (moves m) lawsI lawsU q (run .start) (entering m run) k (run .starts) (λ j l. record { point = run .inputs j; inside = run .permitted j (lt-of-lt-of-le l h); is = refl }) x
 
   attaining : (x : ℕ → ℤ) (k : ℕ) → (run : Run m 1) × (dot (m .n) x (state m run k) ≡ exactAt x k)
   unfolding exactAt
   attaining x k =
       let w = attains (m .n) (moves m) lawsI lawsU k x in (
-        record { positive = le-refl 1; start = w .start; inputs = λ j. w .enters j .point; starts = w .starts; enters = λ j l. w .enters j .inside },
+        record { positive = le-refl 1; start = w .start; inputs = λ j. w .enters j .point; starts = w .starts; permitted = λ j l. w .enters j .inside },
         sum-cong (m .n) (λ i h. ap (λ (z : ℤ). x i *ℤ z) (state-same (m .n) (moves m) (w .start) _ (w .inputs) k (λ j l. sym (w .enters j .is)) i)) ∙ w .attains,
       )
 

@@ -55,7 +55,7 @@ module _ (m : Model) (facts : ModelFacts m) where
         start = run .start;
         inputs = entering m run;
         starts = run .starts;
-        enters = λ j h. member-moved (m .n) (m .input .count) p p′ by q (m .input .shape) (facts .moved-by) (run .inputs j) (run .enters j h);
+        permitted = λ j h. member-moved (m .n) (m .input .count) p p′ by q (m .input .shape) (facts .moved-by) (run .inputs j) (run .permitted j h);
       }
 
   forth-state : {q : ℕ} (run : Run m q) (k i : ℕ) → state (movedModel m) (forth run) k i ≡ state m run k i
@@ -72,7 +72,7 @@ module _ (m : Model) (facts : ModelFacts m) where
         start = run .start;
         inputs = λ j i. run .inputs j i -ℤ pos q *ℤ by i;
         starts = run .starts;
-        enters = λ j h. member-back (m .n) (m .input .count) p p′ by q (m .input .shape) (facts .moved-by) (λ i. run .inputs j i -ℤ pos q *ℤ by i) (subst (InSet (m .n) (movedSet (m .input) (m .drift)) q) (sym (fun-ext (λ i. back-again (run .inputs j i) (pos q *ℤ by i)))) (run .enters j h));
+        permitted = λ j h. member-back (m .n) (m .input .count) p p′ by q (m .input .shape) (facts .moved-by) (λ i. run .inputs j i -ℤ pos q *ℤ by i) (subst (InSet (m .n) (movedSet (m .input) (m .drift)) q) (sym (fun-ext (λ i. back-again (run .inputs j i) (pos q *ℤ by i)))) (run .permitted j h));
       }
 
   back-state : {q : ℕ} (run : Run (movedModel m) q) (k i : ℕ) → state m (back run) k i ≡ state (movedModel m) run k i

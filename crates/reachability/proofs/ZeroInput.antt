@@ -20,7 +20,7 @@ inputs-zero m e {q} run j h i l =
     (subst (λ (z : ℤ). run .inputs j i ⩽ pos q *ℤ z) (getD-replicate-default 96 (6 * 1 + i) (pos 0)) (inside .high i l))
   where
     inside : InBox (m .n) q (points (zeroBox .points)) (run .inputs j)
-    inside = subst (λ (s : Set). InSet (m .n) s q (run .inputs j)) e (run .enters j h)
+    inside = subst (λ (s : Set). InSet (m .n) s q (run .inputs j)) e (run .permitted j h)
 
     between : (x : ℤ) → pos q *ℤ pos 0 ⩽ x → x ⩽ pos q *ℤ pos 0 → x ≡ pos 0
     between x low high = eq! (v x) (# 0) (omega (arith, le? (# q ⊗ # 0) (v x) low, le? (v x) (# q ⊗ # 0) high))

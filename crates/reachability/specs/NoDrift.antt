@@ -1,12 +1,12 @@
 -- Recurrence 17: bounds, slacks and verdicts of a model with the drift left out, by its input set alone. Definitions only, for a law;
 -- no contract cites them. Assumes nothing.
 use mathlib.Core.Path.{_≡_}
-use Prim.Native.Nat.{ℕ, suc, _+_, _<_}
-use lib.IntN.{ℤ, pos, _+ℤ_}
-use Rattle.integers.specs.Sums.{vector, sum, sumℕ}
+use Prim.Native.Nat.{ℕ, suc, _<_}
+use lib.IntN.{ℤ, pos}
+use Rattle.integers.specs.Sums.{vector}
 use Rattle.stepping.specs.Recurrence.{boundOf, slackOf}
 use Rattle.reachability.specs.Sets.{points, supportOf, reachOf}
-use Rattle.reachability.specs.Recurrence.{working, initialSupport, initialReach, errorAt, rawBoundOf, rawSlackOf, bound, slack}
+use Rattle.reachability.specs.Recurrence.{errorsBy, supportsBy, rawBoundOf, rawSlackOf, bound, slack}
 use Rattle.reachability.specs.Verdicts.{verdictBelow, verdict}
 use Rattle.reachability.specs.declared.model.Model.{Model}
 use Rattle.reachability.specs.declared.verdicts.Judged.{Judged}
@@ -15,16 +15,12 @@ use Rattle.reachability.specs.declared.verdicts.Judged.{Judged}
 abbrev pub NoDrift : Model → Type 0
 NoDrift m = (i : ℕ) → i < m .n → vector (m .drift) i ≡ pos 0
 
--- Recurrence 10 and 11, of the two sets.
+-- Recurrence 10 and 11, with the input set alone in the place of what enters.
 abbrev pub setsErrors : Model → ℕ → ℕ → ℕ
-setsErrors m d k =
-    errorAt (m .n) (initialReach m) (working m d k k)
-    + sumℕ k (λ j. errorAt (m .n) (reachOf (m .input .shape) (m .input .count) (points (m .input .points))) (working m d k j))
+setsErrors m = errorsBy m (reachOf (m .input .shape) (m .input .count) (points (m .input .points)))
 
 abbrev pub setsSupports : Model → ℕ → ℕ → ℤ
-setsSupports m d k =
-    initialSupport m (working m d k k .r)
-    +ℤ sum k (λ j. supportOf (m .n) (m .input .shape) (m .input .count) (points (m .input .points)) (working m d k j .r))
+setsSupports m = supportsBy m (supportOf (m .n) (m .input .shape) (m .input .count) (points (m .input .points)))
 
 -- Recurrence 13 and 14.
 abbrev pub setsBound : Model → ℕ → ℕ → ℤ

@@ -77,14 +77,20 @@ enteringReachOf m = enteringReach (m .input .shape) (m .input .count) (m .input 
 abbrev pub errorAt : ℕ → (ℕ → ℕ) → Working → ℕ
 errorAt n reach w = dotℕ n (w .e) reach
 
--- Recurrence 10: T, the error terms of step k. The initial set counts at k, what enters at each j below k.
-abbrev pub errorTotal : Model → ℕ → ℕ → ℕ
-errorTotal m d k =
-    errorAt (m .n) (initialReach m) (working m d k k) + sumℕ k (λ j. errorAt (m .n) (enteringReachOf m) (working m d k j))
+-- Recurrence 10: the error terms of step k, of the initial set at k and of what reaches so far and enters at each j below k.
+abbrev pub errorsBy : Model → (ℕ → ℕ) → ℕ → ℕ → ℕ
+errorsBy m reach d k = errorAt (m .n) (initialReach m) (working m d k k) + sumℕ k (λ j. errorAt (m .n) reach (working m d k j))
 
 -- Recurrence 11: the supports of step k, counted in the same way.
+abbrev pub supportsBy : Model → ((ℕ → ℤ) → ℤ) → ℕ → ℕ → ℤ
+supportsBy m support d k = initialSupport m (working m d k k .r) +ℤ sum k (λ j. support (working m d k j .r))
+
+-- Recurrence 10: T. Recurrence 11: the supports.
+abbrev pub errorTotal : Model → ℕ → ℕ → ℕ
+errorTotal m = errorsBy m (enteringReachOf m)
+
 abbrev pub supportTotal : Model → ℕ → ℕ → ℤ
-supportTotal m d k = initialSupport m (working m d k k .r) +ℤ sum k (λ j. enteringSupportOf m (working m d k j .r))
+supportTotal m = supportsBy m (enteringSupportOf m)
 
 -- Recurrence 11 and 12: the raw bound and the raw slack, of a sum of supports and of error terms.
 abbrev pub rawBoundOf : ℤ → ℕ → ℤ

@@ -1,6 +1,6 @@
--- Runs 1 to 7 and 9: moves, runs with a common denominator, what enters, states over whole numbers, the exact largest value.
--- Definitions only. Runs 3 and 5: the first state, the inputs and the drift are counted in 1 / q, and state k in 1 / (q × 65,536 ^ k), so that all is said over
--- whole numbers.
+-- Runs 1 to 7 and 9: moves, runs with a common denominator, what enters, states over whole numbers, the exact largest value. Definitions
+-- only. Runs 3 and 5: the first state, the inputs and the drift are counted in 1 / q, and state k in 1 / (q × 65,536 ^ k), so that all is
+-- said over whole numbers.
 -- Assumes nothing.
 use mathlib.Core.Path.{_≡_}
 use Prim.Native.Nat.{ℕ, zero, suc, _*_, _^_, _≤_, _<_}
@@ -30,7 +30,7 @@ pub record Run (m : Model) (q : ℕ) : Type 0 where
   pub start : ℕ → ℤ
   pub inputs : ℕ → ℕ → ℤ
   pub starts : InSet (m .n) (m .initial) q start
-  pub enters : (j : ℕ) → j < m .steps → InSet (m .n) (m .input) q (inputs j)
+  pub permitted : (j : ℕ) → j < m .steps → InSet (m .n) (m .input) q (inputs j)
 
 -- Runs 9: what enters at move j, the input and the drift, in q-ths.
 abbrev pub entering : (m : Model) {q : ℕ} → Run m q → ℕ → ℕ → ℤ

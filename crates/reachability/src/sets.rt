@@ -3,6 +3,7 @@ mod checks;
 mod reaches;
 mod supports;
 
+use crate::entering::entering_within;
 pub(crate) use checks::set_ok;
 pub(crate) use reaches::reach_at;
 pub(crate) use reaches::reaches_of;
@@ -70,23 +71,11 @@ pub fn reach(n: usize, set: Set) -> Reached
     Reached { number: 0, reaches }
 }
 
-// Routines 6. The reach of the first `count` points, 1 to 16 of them, is within its limit in each coordinate. It asks no whole set,
-// so that a reader can test a set point by point.
+// Routines 6. The reach of the first `count` points, 1 to 16 of them, is within its limit in each coordinate (Limits 4), as it is
+// beside no drift.
 pub fn reach_within(shape: Shape, count: usize, points: &[i32; 96]) -> bool
     ensures { λ b. ⌜ b ≡ reachWithin shape count (now (points .entry)) ⌝ }
 {
-    if count < 1 {
-        return false;
-    }
-    if 16 < count {
-        return false;
-    }
-    let mut i: usize = 0;
-    while i < 6 {
-        if 1048576 < reach_at(shape, count, points, i) {
-            return false;
-        }
-        i += 1;
-    }
-    true
+    let none = [0i32; 6];
+    entering_within(shape, count, points, &none)
 }

@@ -10,6 +10,7 @@ pub mod AcceptedSoFar
 pub mod Sizes
 pub mod ReadModels
 pub mod OnePointMore
+pub mod Places
 pub mod ZeroBody
 pub mod NoInput
 pub mod NoDrift

@@ -3,13 +3,12 @@
 use mathlib.Core.Path.{_≡_, refl, sym, ap, ap₂, subst, _∙_}
 use mathlib.Core.Bool.{Bool, true, false, cond, not, _&&_, _||_}
 use mathlib.Core.List.{List, _++_}
-use Prim.Native.Nat.{ℕ, suc, _-_, _≤_, _<_}
+use Prim.Native.Nat.{ℕ, _≤_, _<_}
 use native.Mathlib.Decide.{decLt}
 use native.Mathlib.Omega.{arith}
 use borrow.Author.Tests.{eq-eqb, ne-eqb, eqb-true, eqb-false, leb-true, le-leb, lt-leb, ltb-true}
 use lib.Dec.{eqb, leb, ltb}
-use lib.ListN.{length, take, drop, take-append-drop}
-use lib.Seq.{length-take-le}
+use lib.ListN.{length}
 use lib.IntN.{ℤ}
 use Rattle.integers.proofs.Booleans.{and-true, or-false}
 use Rattle.arrays.specs.Tests.{firstOf}
@@ -21,23 +20,22 @@ use Rattle.records.specs.declared.order.Part.the-variants.{Head, Row, Drift, In
 use Rattle.reachability.specs.declared.model.Model.{Model}
 use Rattle.integers.specs.Sums.{allBelow}
 use Rattle.reader.specs.declared.Status.the-variants.{Read}
-use Rattle.reader.specs.declared.Reading.{Reading}
 use Rattle.reader.specs.declared.state.State.{State}
 use Rattle.reader.specs.Models.{zeros, start, setDrift, stateOf, withDrift, withSetPoint, withDirection, withGuard}
 use Rattle.reader.specs.Values.{rowNumber, driftOk, unless, within, valueNumber}
 use Rattle.reader.specs.Order.{mostOf}
 use Rattle.reader.specs.Refusals.{countOf, kindNumber, refusal, storedIn, stored}
-use Rattle.reader.specs.Reading.{behind, storedRecord, stopFor, readFrom, readModel, statusNumber}
+use Rattle.reader.specs.Reading.{behind, storedRecord, stopFor, readFrom, readModel}
 use Rattle.reader.specs.NoInput.{zeroBody, putIn, moved}
 use Rattle.reader.specs.NoDrift.{NoDriftAt, zeroDrift}
 use Rattle.reader.proofs.OrderFacts.{order-at}
 use Rattle.reader.proofs.order.KindNumbers.{kindNumber-zero}
-use Rattle.reader.proofs.ReadingOn.{refusal-zero, whole-of-refusal, goesOn-true, stopFor-ind, stopFor-inside, readFrom-next, readFrom-refused, readFrom-nothing, readFrom-comes}
+use Rattle.reader.proofs.ReadingOn.{refusal-zero, whole-of-refusal, goesOn-true, readFrom-next, readFrom-refused, readFrom-nothing}
 use Rattle.reader.proofs.RecordInPlace.{readFrom-behind}
-use Rattle.reader.proofs.ReadingRest.{readFrom-more-before, readFrom-same-start}
 use Rattle.reader.proofs.ZeroBody.{sixAt-zeros}
 use Rattle.reader.proofs.AcceptedSoFar.{AcceptedSoFar}
-use Rattle.reader.proofs.ReadModels.{readFrom-model, reachable-stop}
+use Rattle.reader.proofs.ReadModels.{reachable-stop}
+use Rattle.reader.proofs.Places.{readModel-put-in, readModel-behind}
 
 -- ---- a state in which all rows are in
 
@@ -192,57 +190,27 @@ module _ (file : List ℕ) (turns : ℕ) (place : NoDriftAt file (stopFor turns 
   abbrev s : State
   s = stopFor turns file 0 start .state
 
-  abbrev before : List ℕ
-  before = take at file
-
-  abbrev rest : List ℕ
-  rest = drop at file
-
   so-far : AcceptedSoFar s
   so-far = reachable-stop file turns .so-far
 
-  inside : at ≤ length file
-  inside = stopFor-inside file turns 0 start (omega arith)
-
-  size : length before ≡ at
-  size = length-take-le at file inside
-
-  -- reading comes to the place
-  comes : readModel file ≡ readFrom file at s
-  unfolding readModel
-  comes = readFrom-comes file turns 0 start
-
   -- The file is read as the file with a drift of zeros put in there: the same model, or the same number with the offset 25 higher.
   pub readModel-no-drift : readModel (putIn zeroDrift at file) ≡ moved 25 (readModel file)
-  unfolding readModel
-  readModel-no-drift =
-      readFrom-same-start file (zeroDrift ++ rest) at inside turns 0 start (omega arith)
-      ∙ ap (λ (k : ℕ). readFrom (before ++ (zeroDrift ++ rest)) k s) (sym size)
-      ∙ read-drift s so-far (place .rows-in) before rest
-      ∙ readFrom-more-before before zeroDrift rest (driftRead s)
-      ∙ ap (moved 25)
-      (ap₂ (λ (f : List ℕ) (k : ℕ). readFrom f k (driftRead s)) (take-append-drop at file) size
-      ∙ read-on s so-far (place .rows-in) file at (place .other)
-      ∙ sym comes)
+  readModel-no-drift = readModel-put-in file turns zeroDrift (driftRead s) (read-drift s so-far (place .rows-in)) (read-on s so-far (place .rows-in) file at (place .other))
 
   -- Its model, where it has one, has no drift.
   pub readModel-zero-drift : readModel file .status ≡ Read → readModel file .model .drift ≡ zeros 6
-  readModel-zero-drift e = by (eqb (refusal s here) 0) refl
+  readModel-zero-drift e =
+      let w = readModel-behind NoDriftSince zero-stored file turns brings e in
+      ap (λ (m : Model). m .drift) (w .2) ∙ w .1 .zero
     where
       here : Record
       here = recordAt file at
 
-      by : (b : Bool) → eqb (refusal s here) 0 ≡ b → readModel file .model .drift ≡ zeros 6
-      by true t =
-          let z = eqb-true (refusal s here) 0 t in
-          let allowed = refusal-zero s (recordKind here) (recordBody here) (sym (ap (refusal s) (whole-of-refusal s here z)) ∙ z) .0 in
-          let initial = let-in s so-far (place .rows-in) (recordKind here) allowed (place .other) in
-          let g = goesOn-true file at s (ap₂ _&&_ t (ap not (ne-eqb (recordKind here) 0xFF (λ f. omega (arith, initial .2))))) in
-          let is = comes ∙ readFrom-next file at s g in
-          let first : NoDriftSince (storedRecord s here) = zero-first s (recordKind here) (recordBody here) (initial .0) (omega (arith, initial .1)) (no-drift-yet s so-far (place .rows-in)) in
-          ap (λ (r : Reading). r .model .drift) is
-          ∙ ap (λ (m : Model). m .drift) (readFrom-model file (behind at here) (storedRecord s here) (sym (ap (λ (r : Reading). r .status) is) ∙ e))
-          ∙ stopFor-ind file (λ p. NoDriftSince (p .state)) (λ a t kind body k g. zero-stored t kind body (g .allowed) k) (suc (length file - behind at here)) (behind at here) (storedRecord s here) first .zero
-      by false t =
-          let ne = eqb-false (refusal s here) 0 t in
-          absurd (ne (elim (decLt at (length file)) [ yes h ↦ sym (ap (λ (r : Reading). statusNumber (r .status)) (comes ∙ readFrom-refused file at s refl ne h)) ∙ ap statusNumber e | no k ↦ sym (ap (λ (r : Reading). statusNumber (r .status)) (comes ∙ readFrom-nothing file at s refl ne (omega (arith, k)))) ∙ ap statusNumber e ]))
+      initial : refusal s here ≡ 0 → (partOf (recordKind here) ≡ Initial) × (0x10 ≤ recordKind here) × (recordKind here ≤ 0x14)
+      initial z = let-in s so-far (place .rows-in) (recordKind here) (refusal-zero s (recordKind here) (recordBody here) (sym (ap (refusal s) (whole-of-refusal s here z)) ∙ z) .0) (place .other)
+
+      brings : refusal s here ≡ 0 → (recordKind here ≡ 0xFF → ⊥) × NoDriftSince (storedRecord s here)
+      brings z = (
+        (λ f. omega (arith, initial z .2)),
+        zero-first s (recordKind here) (recordBody here) (initial z .0) (omega (arith, initial z .1)) (no-drift-yet s so-far (place .rows-in)),
+      )

@@ -2,15 +2,14 @@
 -- the direction make of the state there; the input set behind the direction; the reading of the file with the two records, the input
 -- set of its model, and that model's runs (Runs 8); files that are refused before. Assumes nothing.
 use mathlib.Core.Path.{_≡_, refl, sym, ap, ap₂, subst, _∙_}
-use mathlib.Core.Bool.{Bool, true, false, cond, not, _&&_, _||_}
+use mathlib.Core.Bool.{Bool, true, false, cond, _&&_, _||_}
 use mathlib.Core.List.{List, _∷_, _++_, append-assoc}
-use Prim.Native.Nat.{ℕ, zero, suc, _+_, _-_, _≤_, _<_}
+use Prim.Native.Nat.{ℕ, zero, _+_, _≤_, _<_}
 use native.Mathlib.Decide.{decLt}
 use native.Mathlib.Omega.{arith}
-use borrow.Author.Tests.{ne-eqb, eqb-true, eqb-false, lt-ltb, le-ltb, ltb-true, le-leb, leb-true}
+use borrow.Author.Tests.{eqb-true, lt-ltb, le-ltb, ltb-true, le-leb, leb-true}
 use lib.Dec.{eqb, leb, ltb}
-use lib.ListN.{length, take, drop, take-append-drop}
-use lib.Seq.{length-take-le}
+use lib.ListN.{length, drop}
 use lib.IntN.{ℤ, pos}
 use Rattle.integers.specs.Sums.{allBelow}
 use Rattle.integers.proofs.Booleans.{and-true, or-false}
@@ -37,15 +36,15 @@ use Rattle.reader.specs.NoInput.{completesInitial, NoInputAt, zeroBody, 
 use Rattle.reader.proofs.OrderFacts.{order-at}
 use Rattle.reader.proofs.order.KindNumbers.{kindNumber-zero}
 use Rattle.reader.specs.declared.Status.the-variants.{Read}
-use Rattle.reader.specs.declared.Reading.{Reading}
-use Rattle.reader.specs.Reading.{behind, storedRecord, stopFor, readFrom, readModel, statusNumber}
-use Rattle.reader.proofs.ReadingOn.{goesOn-true, stopFor-ind, stopFor-inside, readFrom-next, readFrom-refused, readFrom-comes, readFrom-alike}
+use Rattle.reader.specs.Reading.{storedRecord, stopFor, readFrom, readModel}
+use Rattle.reader.proofs.ReadingOn.{readFrom-alike}
 use Rattle.reader.proofs.RecordInPlace.{readFrom-behind}
-use Rattle.reader.proofs.ReadingRest.{readFrom-more-before, readFrom-same-start, readFrom-refused-before}
+use Rattle.reader.proofs.ReadingRest.{readFrom-refused-before}
 use Rattle.reader.proofs.ZeroBody.{sixAt-zeros}
 use Rattle.reader.proofs.PartsSoFar.{n-most, entering-zeros}
 use Rattle.reader.proofs.AcceptedSoFar.{AcceptedSoFar, ordered-zeros}
-use Rattle.reader.proofs.ReadModels.{readFrom-model, reachable-stop}
+use Rattle.reader.proofs.ReadModels.{reachable-stop}
+use Rattle.reader.proofs.Places.{readModel-put-in, readModel-behind}
 
 -- ---- a state straight after the initial set
 
@@ -220,62 +219,28 @@ module _ (file : List ℕ) (turns : ℕ) (place : NoInputAt file (stopFor turns 
   abbrev s : State
   s = stopFor turns file 0 start .state
 
-  abbrev before : List ℕ
-  before = take at file
-
-  abbrev rest : List ℕ
-  rest = drop at file
-
   so-far : AcceptedSoFar s
   so-far = reachable-stop file turns .so-far
-
-  joined : before ++ rest ≡ file
-  joined = take-append-drop at file
-
-  inside : at ≤ length file
-  inside = stopFor-inside file turns 0 start (omega arith)
-
-  size : length before ≡ at
-  size = length-take-le at file inside
-
-  -- reading comes to the place
-  comes : readModel file ≡ readFrom file at s
-  unfolding readModel
-  comes = readFrom-comes file turns 0 start
 
   -- The file is read as the file with two records of zero corners put before that direction: the same model, or the same number with
   -- the offset 50 higher.
   pub readModel-no-input : readModel (putIn zeroCorners at file) ≡ moved 50 (readModel file)
-  unfolding readModel
-  readModel-no-input =
-      readFrom-same-start file (zeroCorners ++ rest) at inside turns 0 start (omega arith)
-      ∙ ap (λ (k : ℕ). readFrom (before ++ (zeroCorners ++ rest)) k s) (sym size)
-      ∙ read-corners s so-far (place .complete) before rest
-      ∙ readFrom-more-before before zeroCorners rest (withCorners s 0x21 2)
-      ∙ ap (moved 50)
-      (ap₂ (λ (f : List ℕ) (k : ℕ). readFrom f k (withCorners s 0x21 2)) joined size
-      ∙ read-direction s so-far (place .complete) file at (place .direction)
-      ∙ sym comes)
+  readModel-no-input = readModel-put-in file turns zeroCorners (withCorners s 0x21 2) (read-corners s so-far (place .complete)) (read-direction s so-far (place .complete) file at (place .direction))
 
   -- Its model, where it has one, has the box from zero to zero for its input set.
   pub readModel-zero-input : readModel file .status ≡ Read → readModel file .model .input ≡ zeroBox
-  readModel-zero-input e = by (eqb (refusal s here) 0) refl
+  readModel-zero-input e =
+      let w = readModel-behind ZeroInput zero-stored file turns brings e in
+      ap (λ (m : Model). m .input) (w .2) ∙ w .1 .zero
     where
       here : Record
       here = recordAt file at
 
-      by : (b : Bool) → eqb (refusal s here) 0 ≡ b → readModel file .model .input ≡ zeroBox
-      by true z =
-          let g = goesOn-true file at s (ap₂ _&&_ z (ap not (ne-eqb (recordKind here) 0xFF (λ f. omega (arith, place .direction))))) in
-          let is = comes ∙ readFrom-next file at s g in
-          let first : ZeroInput (storedRecord s here) = subst (λ (k : ℕ). ZeroInput (stored s k (recordBody here))) (sym (place .direction)) (zero-first s (recordBody here) (early s so-far (place .complete))) in
-          ap (λ (r : Reading). r .model .input) is
-          ∙ ap (λ (m : Model). m .input) (readFrom-model file (behind at here) (storedRecord s here) (sym (ap (λ (r : Reading). r .status) is) ∙ e))
-          ∙ stopFor-ind file (λ p. ZeroInput (p .state)) (λ a t kind body k g. zero-stored t kind body (g .allowed) k) (suc (length file - behind at here)) (behind at here) (storedRecord s here) first .zero
-      by false z =
-          let ne = eqb-false (refusal s here) 0 z in
-          let is = comes ∙ readFrom-refused file at s refl ne (inside-file file at (place .direction)) in
-          absurd (ne (sym (ap (λ (r : Reading). statusNumber (r .status)) is) ∙ ap statusNumber e))
+      brings : refusal s here ≡ 0 → (recordKind here ≡ 0xFF → ⊥) × ZeroInput (storedRecord s here)
+      brings z = (
+        (λ f. omega (arith, place .direction)),
+        subst (λ (k : ℕ). ZeroInput (stored s k (recordBody here))) (sym (place .direction)) (zero-first s (recordBody here) (early s so-far (place .complete))),
+      )
 
   -- Runs 8: its runs have no other input than zero.
   pub no-input-runs : readModel file .status ≡ Read → {q : ℕ} (run : Run (readModel file .model) q) (j : ℕ) → j < readModel file .model .steps → (i : ℕ) → i < readModel file .model .n → run .inputs j i ≡ pos 0

@@ -112,11 +112,11 @@ fn take_drift(state: State, kind: u8, body: &[u8]) -> Taken
     ensures { λ r. ⌜ Takes (unless (driftOk (state .model .n) (now (body .entry))) 17) (withDrift state kind (now (body .entry))) r ⌝ }
 {
     let mut model = state.model;
-    let six = six_at(model.n, body, 0);
-    if !arrays::all_between(-1048576, 1048576, &six) {
+    let drift = six_at(model.n, body, 0);
+    if !arrays::all_between(-1048576, 1048576, &drift) {
         return Taken { number: 17, state };
     }
-    model.drift = six;
+    model.drift = drift;
     Taken {
         number: 0,
         state: State {

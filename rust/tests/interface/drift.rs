@@ -38,7 +38,7 @@ fn moved(model: &Model) -> Model {
 }
 
 #[test]
-fn a_drift_has_the_exact_largest_values_of_the_moved_input_set() {
+fn the_moved_input_set_has_bounds_that_are_no_higher_and_within_the_slack() {
     let mut random = Random::new(202_606);
     let (mut compared, mut smaller, mut same) = (0, 0, 0);
     for _ in 0..4_000 {
@@ -124,10 +124,10 @@ fn it_stands_once_and_straight_after_the_last_row() {
         let at = file(&records[..place]).len();
         let number = if place < records.len() { 3 } else { 10 };
         assert_eq!(refusal(&file(&changed)), (place != 3).then_some((number, at)));
-        changed = records.to_vec();
-        changed.splice(3..3, [drift(), drift()]);
-        assert_eq!(refusal(&file(&changed)), Some((3, 105)));
     }
+    let mut twice = records.to_vec();
+    twice.splice(3..3, [drift(), drift()]);
+    assert_eq!(refusal(&file(&twice)), Some((3, 105)));
     let cut = file(&[head(1, 1), row(0, &[0]), numbers(0x05, &[i32::MAX])]);
     for length in 31..cut.len() {
         assert_eq!(refusal(&cut[..length]), Some((1, 30)), "the body comes before its values");

@@ -48,7 +48,7 @@ pub(crate) fn spare_of(sum: u64) -> u32
     }
 }
 
-// What one step gives: its bound and slack, and what the inputs' supports and errors of all steps so far come to.
+// What one step gives: its bound and slack, and what the supports and errors of all that has entered so far come to.
 struct StepValues {
     bound: i64,
     slack: i64,

@@ -1,67 +1,15 @@
--- `reachability::sets::reach_within` meets its contract: the test holds of every coordinate passed. The measure is what is left of
--- six. Assumes nothing.
-use Rattle.integers.proofs.Basics.{subst, Bool, ℕ, _-_, _≤_, _<_, arith, ℤ}
-use mathlib.Core.List.{List}
-use borrow.Author.Tests.{lt-leb, le-leb}
-use lib.Dec.{leb}
-use Rattle.integers.proofs.EarlyReturn.{PassedSoFar, passed-none, passed-more, passed-fails, passed-all}
-use Rattle.reachability.specs.Sets.{reachOf, reachLimit, points as pointsOf}
-use Rattle.reachability.specs.declared.sets.Shape.{Shape}
+-- `reachability::sets::reach_within` meets its contract: it is the test beside no drift. Assumes nothing.
+use Rattle.integers.proofs.Basics.{_∙_, needs, pos}
+use lib.ListN.{replicate}
+use Rattle.integers.proofs.Machine.{getD-replicate-default}
+use Rattle.reachability.proofs.entering.Laws.{within-without}
 use Rattle.reachability.proofs.sets.reach_within.Statement.{statement}
 use Rattle.reachability.proofs.sets.reach_within.Tie as tie
 
-abbrev smallAt : Shape → ℕ → List ℤ → ℕ → Bool
-smallAt shape count xs i = leb (reachOf shape count (pointsOf xs) i) reachLimit
-
-abbrev Inv-loop : tie.InvT-loop
-Inv-loop shape count points i₀ i = PassedSoFar 6 (smallAt shape count points) i
-
-abbrev μ-loop : tie.MeasureT-loop
-μ-loop shape count points i₀ i = 6 - i
-
-returns : tie.Need-returns Inv-loop μ-loop
-returns c = simp (lt-leb _ _ (c .if1 .taken))
-
-returns-2 : tie.Need-returns-2 Inv-loop μ-loop
-returns-2 c = simp (le-leb _ _ (c .before .if1 .left), lt-leb _ _ (c .if2 .taken))
-
-loop-holds : tie.Need-loop-holds Inv-loop μ-loop
-loop-holds c =
+returns : tie.Need-returns
+returns c =
     let a = c .before .before .args in
-    passed-none 6 (smallAt (a .shape) (a .count) (a .points .now))
-
-reach-at-requires : tie.Need-reach-at-requires Inv-loop μ-loop
-reach-at-requires c κs =
-    let at-count = c .before .before in
-    (record { some = at-count .before .if1 .left; most = at-count .if2 .left }, c .loop-test .taken)
-
-returns-3 : tie.Need-returns-3 Inv-loop μ-loop
-returns-3 c =
-    let at-loop = c .before .before .before in
-    let fails = lt-leb _ _ (subst (λ (k : ℕ). reachLimit < k) (c .before .reach-at .ensures) (c .if3 .taken)) in
-    simp (le-leb _ _ (at-loop .before .before .if1 .left), le-leb _ _ (at-loop .before .if2 .left), passed-fails (at-loop .loop .inv) (c .before .before .loop-test .taken) fails)
-
-loop-again : tie.Need-loop-again Inv-loop μ-loop
-loop-again c =
-    passed-more (c .before .before .before .loop .inv) (c .before .before .loop-test .taken) (le-leb _ _ (subst (λ (k : ℕ). k ≤ reachLimit) (c .before .reach-at .ensures) (c .if3 .left)))
-
-returns-4 : tie.Need-returns-4 Inv-loop μ-loop
-returns-4 c =
-    let at-loop = c .before in
-    simp (le-leb _ _ (at-loop .before .before .if1 .left), le-leb _ _ (at-loop .before .if2 .left), passed-all (at-loop .loop .inv) (c .loop-test .left))
+    c .entering-within .ensures ∙ within-without (a .shape) (a .count) (a .points .now) (replicate 6 (pos 0)) (λ i. getD-replicate-default 6 i (pos 0))
 
 pub reach-within-spec : {M : Type 1} → statement M
-reach-within-spec =
-    tie.close
-    (tie.spec
-    Inv-loop
-    μ-loop
-    returns
-    returns-2
-    loop-holds
-    reach-at-requires
-    returns-3
-    (λ c. omega arith)
-    (λ c. omega arith)
-    loop-again
-    returns-4)
+reach-within-spec = tie.close (tie.spec (λ c κs. search needs) returns)
