@@ -9,11 +9,11 @@ use Rattle.integers.specs.Sums.{vector, dot, allBelow}
 use Rattle.reachability.specs.Sets.{points, supportOf, reachOf, reachLimit}
 use Rattle.reachability.specs.declared.sets.Shape.{Shape}
 
--- Recurrence 15: the support of the input set at r, and r · drift.
+-- Recurrence 15: the support of the input set at r, plus r · drift.
 abbrev pub enteringSupport : ℕ → Shape → ℕ → List ℤ → List ℤ → (ℕ → ℤ) → ℤ
 enteringSupport n shape count xs drift r = supportOf n shape count (points xs) r +ℤ dot n r (vector drift)
 
--- Recurrence 16: the reach of the input set in a coordinate, and |drift|.
+-- Recurrence 16: the reach of the input set in a coordinate, plus |drift|.
 abbrev pub enteringReach : Shape → ℕ → List ℤ → List ℤ → ℕ → ℕ
 enteringReach shape count xs drift i = reachOf shape count (points xs) i + natAbs (vector drift i)
 

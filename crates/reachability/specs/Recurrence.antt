@@ -77,11 +77,11 @@ enteringReachOf m = enteringReach (m .input .shape) (m .input .count) (m .input 
 abbrev pub errorAt : ℕ → (ℕ → ℕ) → Working → ℕ
 errorAt n reach w = dotℕ n (w .e) reach
 
--- Recurrence 10: the error terms of step k, of the initial set at k and of what reaches so far and enters at each j below k.
+-- Recurrence 10: the error terms of step k, of the initial set at k and of what enters, with this reach, at each j below k.
 abbrev pub errorsBy : Model → (ℕ → ℕ) → ℕ → ℕ → ℕ
 errorsBy m reach d k = errorAt (m .n) (initialReach m) (working m d k k) + sumℕ k (λ j. errorAt (m .n) reach (working m d k j))
 
--- Recurrence 11: the supports of step k, counted in the same way.
+-- Recurrence 11: the supports of step k, counted in the same way, with this support of what enters.
 abbrev pub supportsBy : Model → ((ℕ → ℤ) → ℤ) → ℕ → ℕ → ℤ
 supportsBy m support d k = initialSupport m (working m d k k .r) +ℤ sum k (λ j. support (working m d k j .r))
 
