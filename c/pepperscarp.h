@@ -69,9 +69,9 @@ static inline int pepperscarp_file_refused(uint64_t answer)
  * touched page by page from above, so that a guard page of 4,096 bytes stops a call that has too little stack. c/test measures the
  * four, and refuses a figure that is below the need or above twice the need. */
 #define PEPPERSCARP_STEP_STACK 512
-#define PEPPERSCARP_SWEEP_STACK 26624
-#define PEPPERSCARP_JUDGE_STACK 26624
-#define PEPPERSCARP_LISTING_STACK 34816
+#define PEPPERSCARP_SWEEP_STACK 24576
+#define PEPPERSCARP_JUDGE_STACK 24576
+#define PEPPERSCARP_LISTING_STACK 32768
 
 /* The most steps that a model has. Lists of one more suffice for every model, lent with a length of K + 1. */
 #define PEPPERSCARP_STEPS_MOST 256
