@@ -49,6 +49,7 @@ REASONS = {
     9: "one generator, vertex, direction or guard too many",
     10: "bytes follow the end",
     15: f"an entry of a fitted row that is no number from {-MAX_FACTOR} to {MAX_FACTOR}",
+    16: "an entry beyond n that is not zero",
     17: f"the drift, or the reach of the input set with the drift, passes {MAX_REACH:,}",
 }
 
@@ -95,14 +96,25 @@ class _File:
         if not condition:
             raise _Refused(number, self.start)
 
+    def require_zeros(self, beyond: Sequence[Fraction | int | None]) -> None:
+        """Refuse the record taken last unless its entries beyond n are all zero (Refusals 16)."""
+        self.require(all(entry == 0 for entry in beyond), 16)
+
 
 def _signed(data: bytes) -> int:
     return int.from_bytes(data, "little", signed=True)
 
 
-def _vector(data: bytes, n: int) -> Vector:
-    """The first n of the numbers of 4 bytes; those beyond n are ignored."""
-    return tuple(_signed(data[4 * i : 4 * i + 4]) for i in range(n))
+def _numbers(data: bytes) -> Vector:
+    """The six numbers of 4 bytes."""
+    return tuple(_signed(data[4 * i : 4 * i + 4]) for i in range(MAX_N))
+
+
+def _vector(file: _File, n: int) -> Vector:
+    """The first n numbers of the next body, which holds six and nothing else."""
+    numbers = _numbers(file.body())
+    file.require_zeros(numbers[n:])
+    return numbers[:n]
 
 
 # Fitted entries
@@ -131,9 +143,9 @@ def fitted_entry(value: Fraction) -> int:
     return nearest(MATRIX_UNIT * value)
 
 
-def _fitted_values(data: bytes, n: int) -> list[Fraction | None]:
-    """The exact values of the first n entries of 8 bytes; those beyond n are ignored."""
-    return [binary64(int.from_bytes(data[8 * i : 8 * i + 8], "little")) for i in range(n)]
+def _fitted_values(data: bytes) -> tuple[Fraction | None, ...]:
+    """The exact values of the six entries of 8 bytes."""
+    return tuple(binary64(int.from_bytes(data[8 * i : 8 * i + 8], "little")) for i in range(MAX_N))
 
 
 # The records of a file
@@ -143,12 +155,13 @@ def _read_row(file: _File, number: int, n: int) -> Vector:
     """The entries of the row with this number, scaled or fitted."""
     kind = file.kind({ROW, FITTED})
     body = file.body()
+    all_six = _numbers(body[1:]) if kind == ROW else _fitted_values(body[1:])
+    file.require_zeros(all_six[n:])
     file.require(body[0] == number, 5)
+    values = all_six[:n]
     if kind == ROW:
-        entries = _vector(body[1:], n)
-        file.require(all(abs(entry) <= MAX_ENTRY for entry in entries), 5)
-        return entries
-    values = _fitted_values(body[1:], n)
+        file.require(all(abs(entry) <= MAX_ENTRY for entry in values), 5)
+        return values
     file.require(all(value is not None and abs(value) <= MAX_FACTOR for value in values), 15)
     return tuple(map(fitted_entry, values))
 
@@ -157,7 +170,7 @@ def _read_drift(file: _File, n: int) -> Vector:
     """The drift, which is zero where the initial set follows the rows."""
     if file.kind({DRIFT, INITIAL + LOWER, INITIAL + CENTRE, INITIAL + VERTEX}) != DRIFT:
         return (0,) * n
-    drift = _vector(file.body(), n)
+    drift = _vector(file, n)
     file.require(all(abs(entry) <= MAX_REACH for entry in drift), 17)
     return drift
 
@@ -173,7 +186,7 @@ def _read_set(file: _File, part: int, drift: Vector, later: set[int]) -> Set:
     other = part + POINT_KINDS[form][1]
     points: list[Vector] = []
     while True:
-        points.append(_vector(file.body(), n))
+        points.append(_vector(file, n))
         so_far = Set(form, tuple(points))
         in_reach = max(reach(so_far, n)) <= MAX_REACH
         in_order = form != BOX or all(low <= high for low, high in zip(points[0], points[-1]))
@@ -206,7 +219,7 @@ def _read(file: _File) -> Model:
     directions: list[Vector] = []
     allowed = {DIRECTION}
     while file.kind(allowed, {DIRECTION} if len(directions) == MAX_DIRECTIONS else ()) == DIRECTION:
-        entries = _vector(file.body(), n)
+        entries = _vector(file, n)
         in_limits = all(abs(entry) <= MAX_DIRECTION_ENTRY for entry in entries)
         file.require(in_limits and any(entries), 7)
         directions.append(entries)

@@ -20,8 +20,8 @@ import models
 import readerfiles
 from layout import (
     BODY_LENGTHS, BOX, FITTED, GROWTH_LIMIT, LONGEST_FILE, MIN_POINTS, ROW, VERTICES, ZONOTOPE,
-    Model, Set, direction, drift, encode, fitted, fitted_rows_of, guard, head, pattern, point, row,
-    states_input,
+    Model, Set, direction, drift, encode, fitted, fitted_rows_of, guard, head, offsets, pattern,
+    point, row, states_input,
 )
 from listings import Growth, Listing, Refusal, Sweep, Verdict
 
@@ -376,7 +376,7 @@ class Reader(unittest.TestCase):
         self.refused(head(1, 3) + row(0, [-(2**31)]), 5, 4)
         self.refused(self.rows + point(0x10, [3]) + point(0x11, [2]), 6, 55)
         self.refused(self.rows + point(0x12, [-9]) + point(0x13, [1_048_568]), 6, 55)
-        self.refused(self.sets + direction([0, 1]), 7, 80)
+        self.refused(self.sets + direction([0]), 7, 80)
         self.refused(self.asked + guard(1, 0), 8, 105)
 
     def test_reach_of_a_zonotope_is_summed(self):
@@ -384,19 +384,9 @@ class Reader(unittest.TestCase):
         self.refused(start, 1, 80)
         self.refused(start + point(0x13, [1]), 6, 80)
 
-    def test_corners_may_cross_beyond_n(self):
-        data = self.rows + point(0x10, [1, 5]) + point(0x11, [1, 4]) + point(0x24, [0])
-        self.assertIsInstance(exact.read_model(data + direction([1]) + b"\xff"), Model)
-
     def test_bytes_after_the_end(self):
         self.refused(self.asked + b"\xff\xff", 10, 106)
         self.refused(self.asked + b"\xff" + bytes(5_000), 10, 106)
-
-    def test_entries_beyond_n_are_ignored(self):
-        junk = [7] * 5
-        data = head(1, 3) + row(0, [5, *junk]) + point(0x14, [1, *junk])
-        data += point(0x24, [1, *junk]) + direction([1, *junk]) + b"\xff"
-        self.assertEqual(exact.read_model(data), exact.read_model(self.asked + b"\xff"))
 
     def test_longest_file(self):
         points = Set(VERTICES, ((1,) * 6,) * 16)
@@ -424,7 +414,7 @@ def patterns():
 class Fitted(unittest.TestCase):
     """Fitted rows (File 11 to 14, Refusals 15), also against the floats of Python."""
 
-    ONE, HALF = 0x3FF0_0000_0000_0000, 0x3FE0_0000_0000_0000
+    ONE = 0x3FF0_0000_0000_0000
     NO_ENTRIES = {
         "next above 2": 0x4000_0000_0000_0001,
         "next below -2": 0xC000_0000_0000_0001,
@@ -495,15 +485,9 @@ class Fitted(unittest.TestCase):
         for n in range(1, 7):
             for i, number in itertools.product(range(n), {0, n - 1}):
                 for what, bits in self.NO_ENTRIES.items():
-                    rows = [fitted(j, [self.ONE] * 6) for j in range(n)]
+                    rows = [fitted(j, [self.ONE] * n) for j in range(n)]
                     rows[number] = fitted(number, [bits if j == i else 0 for j in range(n)])
                     self.assertEqual(self.read(n, *rows), Refusal(15, 4 + 50 * number), what)
-
-    def test_entries_beyond_n_are_ignored(self):
-        for bits in self.NO_ENTRIES.values():
-            for n in range(1, 6):
-                rows = [fitted(i, [self.HALF] * n + [bits] * (6 - n)) for i in range(n)]
-                self.assertEqual(self.read(n, *rows), ((32_768,) * n,) * n)
 
     def test_body_then_number_then_entries(self):
         wrong = fitted(1, [self.NO_ENTRIES["quiet NaN"]])
@@ -580,11 +564,6 @@ class Drift(unittest.TestCase):
                         self.assertEqual(read.drift, tuple(entries))
                     else:
                         self.assertEqual(read, Refusal(17, at))
-
-    def test_entries_beyond_n_are_ignored(self):
-        for n, rubbish in itertools.product(range(1, 6), (1, LIMIT + 1, -(2**31), 2**31 - 1)):
-            read = exact.read_model(self.file(n, [3] * n + [rubbish] * (6 - n)))
-            self.assertEqual(read.drift, (3,) * n)
 
     def test_place(self):
         """Straight after the last row, and nowhere else."""
@@ -724,7 +703,7 @@ class Drift(unittest.TestCase):
                 self.assertEqual(read.drift, (0,) * read.n)
             self.assertEqual(exact.read_model(with_drift), expected, data.hex())
             seen[reply] += 1
-        self.assertEqual(set(seen), {"model", "before", 1, 2, 3, *range(6, 11)})
+        self.assertEqual(set(seen), {"model", "before", 1, 2, 3, *range(6, 11), 16})
 
     def test_zero_drift_adds_nothing(self):
         """Recurrence 17: supports and reaches are those of the input set alone."""
@@ -737,6 +716,232 @@ class Drift(unittest.TestCase):
                                  exact.support(without.input, r))
             self.assertEqual(exact.listing(encode(without)),
                              exact.listing(encode(without, drift_stated=True)))
+
+
+SIX_ENTRIES = (0x02, 0x03, 0x05, *range(0x10, 0x15), *range(0x20, 0x25), 0x30)
+
+
+def numbers_of(record):
+    """The six entries of a record of SIX_ENTRIES; of a fitted row the 64 bits of each."""
+    if record[0] == FITTED:
+        return struct.unpack("<6Q", record[2:])
+    return struct.unpack("<6i", record[2 if record[0] == ROW else 1 :])
+
+
+def whole_records(data):
+    """The records of SIX_ENTRIES in a file whose bodies are whole, with their offsets."""
+    for at in offsets(data):
+        end = at + 1 + BODY_LENGTHS[data[at]]
+        if data[at] in SIX_ENTRIES and end <= len(data):
+            yield at, data[at:end]
+
+
+def beyond(record, n):
+    """The entries of a record beyond n that are not zero; of a fitted row either zero is one."""
+    zeros = (0, 2**63) if record[0] == FITTED else (0,)
+    return [entry for entry in numbers_of(record)[n:] if entry not in zeros]
+
+
+def without_rubbish(data, n):
+    """A file with zero in all entries beyond n."""
+    kept = bytearray(data)
+    for at, record in whole_records(data):
+        first, size = (2 if record[0] in (ROW, FITTED) else 1), (8 if record[0] == FITTED else 4)
+        kept[at + first + size * n : at + len(record)] = bytes(size * (6 - n))
+    return bytes(kept)
+
+
+class BeyondN(unittest.TestCase):
+    """Entries beyond n (File 7, Refusals 16), of each kind that has entries."""
+
+    numbers = (1, -1, 256, 1 << 24, 7, 2**31 - 1, -(2**31))
+    patterns = {
+        "smallest": 1, "minus the smallest": 2**63 | 1, "smallest normal one": 2**52,
+        "second byte": 1 << 8, "fifth byte": 1 << 32, "last but one bit": 1 << 62,
+        "1": 0x3FF0_0000_0000_0000, "-1": 0xBFF0_0000_0000_0000, "3": 0x4008_0000_0000_0000,
+        "infinity": 0x7FF0_0000_0000_0000, "minus infinity": 0xFFF0_0000_0000_0000,
+        "signalling NaN": 0x7FF0_0000_0000_0001, "quiet NaN": 0xFFF8_0000_0000_0000,
+    }
+
+    def refused(self, data, number, offset):
+        self.assertEqual(exact.read_model(data), Refusal(number, offset), data.hex())
+
+    def start(self, n, kind):
+        """The start of a file behind which a record of this kind may stand."""
+        made = {0x02: row, 0x03: fitted}.get(kind, row)
+        rows = head(n, 3) + b"".join(made(i, [1] * n) for i in range(n))
+        if kind in (0x02, 0x03):
+            return rows[: -1 - BODY_LENGTHS[kind]]  # the last row comes next
+        firsts = {0x11: 0x10, 0x13: 0x12, 0x21: 0x20, 0x23: 0x22}
+        before = rows if kind < 0x20 else rows + point(0x14, [2] * n)
+        return before + (point(firsts[kind], [0] * n) if kind in firsts else b"")
+
+    def record(self, kind, n, entries, number=None):
+        """A record of these six entries; of a row the number is n - 1, or this one."""
+        made = {0x02: row, 0x03: fitted}.get(kind)
+        if made:
+            return made(n - 1 if number is None else number, entries)
+        return point(kind, entries)
+
+    def each(self):
+        """Each n that leaves room beyond it, with each kind."""
+        return itertools.product(range(1, 6), SIX_ENTRIES)
+
+    def rubbish(self, kind):
+        return self.patterns.values() if kind == FITTED else self.numbers
+
+    def test_each_column_of_each_kind(self):
+        for n, kind in self.each():
+            start = self.start(n, kind)
+            right = self.record(kind, n, [1] * n)
+            self.refused(start + right, 1, len(start + right))
+            for column, entry in itertools.product(range(n, 6), self.rubbish(kind)):
+                entries = [1] * n + [entry if i == column else 0 for i in range(n, 6)]
+                self.refused(start + self.record(kind, n, entries), 16, len(start))
+            entries = [1] * n + [entry] * (6 - n)
+            self.refused(start + self.record(kind, n, entries), 16, len(start))
+
+    def test_all_six_count_with_n_6(self):
+        for kind in SIX_ENTRIES:
+            start, record = self.start(6, kind), self.record(kind, 6, [1] * 6)
+            self.refused(start + record, 1, len(start + record))
+        for column in range(6):
+            alone = self.record(0x30, 6, [1 if i == column else 0 for i in range(6)])
+            data = self.start(6, 0x30) + alone + b"\xff"
+            self.assertEqual(exact.read_model(data).directions[0][column], 1)
+
+    def test_either_zero_passes_in_a_fitted_row(self):
+        for n in range(1, 6):
+            models_ = {
+                exact.read_model(
+                    self.start(n, FITTED) + fitted(n - 1, [2**62] * n + list(zeros))
+                    + point(0x14, [1]) + direction([1]) + b"\xff"
+                )
+                for zeros in itertools.product((0, 2**63), repeat=6 - n)
+            }
+            [model] = models_
+            self.assertEqual(model.matrix[-1], (131_072,) * n)
+
+    def test_one_bit_is_no_zero(self):
+        """Of a fitted entry the sign alone may be set; of a number of 4 bytes no bit."""
+        for column, bit in itertools.product(range(1, 6), range(64)):
+            data = head(1, 3) + fitted(0, [0] * column + [1 << bit])
+            self.refused(data, *((1, 54) if bit == 63 else (16, 4)))
+        for column, bit in itertools.product(range(1, 6), range(32)):
+            data = head(1, 3) + row(0, []) + b"\x14" + bytes(4 * column)
+            self.refused(data + (1 << bit).to_bytes(4, "little") + bytes(20 - 4 * column), 16, 30)
+
+    def test_it_comes_before_the_row_number(self):
+        for n, kind in itertools.product(range(1, 6), (ROW, FITTED)):
+            start = self.start(n, kind)
+            for number in {0, 1, n, 255} - {n - 1}:
+                self.refused(start + self.record(kind, n, [1] * n, number), 5, len(start))
+                for column in range(n, 6):
+                    entries = [0] * column + [1]
+                    self.refused(start + self.record(kind, n, entries, number), 16, len(start))
+
+    def test_it_comes_before_the_other_values(self):
+        """Of each kind something else is wrong too: 16 with rubbish, and its own number without."""
+        nan, large = 0x7FF8_0000_0000_0000, LIMIT + 1
+        wrong = {0x02: [131_073], 0x03: [nan], 0x05: [large], 0x30: [1_001]}
+        own = {0x02: 5, 0x03: 15, 0x05: 17, 0x30: 7}
+        for n, kind in self.each():
+            entries = wrong.get(kind, [large])
+            start = self.start(n, kind)
+            self.refused(start + self.record(kind, n, entries), own.get(kind, 6), len(start))
+            for column in range(n, 6):
+                full = entries + [0] * (column - len(entries)) + [1]
+                self.refused(start + self.record(kind, n, full), 16, len(start))
+        for n, column in ((n, column) for n in range(1, 6) for column in range(n, 6)):
+            rubbish = [0] * (column - n) + [-1]
+            # Directions of zeros, crossed corners, and the sum of reach and drift.
+            self.refused(self.start(n, 0x30) + direction([0] * n + rubbish), 16,
+                         len(self.start(n, 0x30)))
+            for kind in (0x11, 0x21):
+                start = self.start(n, kind)
+                self.refused(start + point(kind, [-1]), 6, len(start))
+                self.refused(start + point(kind, [-1] * n + rubbish), 16, len(start))
+            start = self.start(n, 0x05) + drift([LIMIT]) + point(0x14, [])
+            for kind in (0x20, 0x22, 0x24):
+                self.refused(start + point(kind, [1]), 17, len(start))
+                self.refused(start + point(kind, [1] * n + rubbish), 16, len(start))
+
+    def test_the_whole_body_comes_first(self):
+        for n, kind in self.each():
+            start, record = self.start(n, kind), self.record(kind, n, [1] * 6)
+            for length in range(1, len(record)):
+                self.refused(start + record[:length], 1, len(start))
+
+    def test_place_and_count_come_first(self):
+        for n, kind in self.each():
+            record = self.record(kind, n, [1] * 6)
+            self.refused(record, 3, 0)
+            rest = {0x02: self.start(n, 0x05), 0x03: self.start(n, 0x05)}
+            behind = rest.get(kind, self.start(n, 0x30) + direction([1]) + guard(0, 1))
+            self.refused(behind + record, 3, len(behind))
+        for n in range(1, 6):
+            for kind, count in ((0x13, 8), (0x14, 16), (0x23, 8), (0x24, 16), (0x30, 16)):
+                start = self.start(n, kind) + point(kind, [1] * n) * count
+                self.refused(start + point(kind, [1] * 6), 9, len(start))
+                self.refused(start[:-25] + point(kind, [1] * 6), 16, len(start) - 25)
+
+    def test_heads_and_guards_have_no_such_entries(self):
+        start = self.start(1, 0x30) + direction([1])
+        for level in (1 << bit for bit in range(63)):
+            self.assertEqual(exact.read_model(start + guard(0, level) + b"\xff").guards,
+                             ((0, level),))
+
+    def test_the_sample_with_rubbish_in_one_place(self):
+        """Each of the 20 bytes beyond n of six records gives 16, and no other byte of a body."""
+        others = set(range(len(SAMPLE))) - set(offsets(SAMPLE))
+        for at, record in whole_records(SAMPLE):
+            for offset in range(at + len(record) - 20, at + len(record)):
+                self.refused(SAMPLE[:offset] + b"\x01" + SAMPLE[offset + 1 :], 16, at)
+                others.remove(offset)
+        self.assertEqual(len(others), 3 + 1 + 6 * 4 + 3 * 9)
+        for offset, byte in itertools.product(others, range(256)):
+            read = exact.read_model(SAMPLE[:offset] + bytes([byte]) + SAMPLE[offset + 1 :])
+            self.assertNotEqual(getattr(read, "number", None), 16, (offset, byte))
+
+    def files(self):
+        return (*(data for _, data in readerfiles.all_files()), *models.stream(19, 1_500))
+
+    def test_accepted_files_have_zeros_alone(self):
+        """Limits 9 of the file itself: of every record, each entry beyond n."""
+        seen = collections.Counter()
+        for data in self.files():
+            read = exact.read_model(data)
+            if isinstance(read, Refusal):
+                continue
+            for _, record in whole_records(data):
+                self.assertEqual(beyond(record, read.n), [], data.hex())
+                seen[record[0]] += read.n < 6
+        self.assertEqual(set(seen), set(SIX_ENTRIES))
+        self.assertGreater(min(seen.values()), 20, seen)
+
+    def test_a_file_is_read_as_without_rubbish_up_to_the_first_of_it(self):
+        """With zeros in place of all rubbish the reply is the same if it comes before the first.
+
+        At the first record with rubbish 1, 2, 3, 9 and 10 stay, and every other number gives way.
+        """
+        seen = collections.Counter()
+        for data in self.files():
+            n = data[1] if data[:1] == b"\x01" and len(data) > 3 and 1 <= data[1] <= 6 else 6
+            first = next((at for at, record in whole_records(data) if beyond(record, n)), None)
+            read, cleaned = exact.read_model(data), exact.read_model(without_rubbish(data, n))
+            if first is None:
+                self.assertEqual(read, cleaned)
+                continue
+            number, offset = "model", len(data)
+            if isinstance(cleaned, Refusal):
+                number, offset = cleaned.number, cleaned.offset
+            stays = offset < first or offset == first and number in (1, 2, 3, 9, 10)
+            self.assertEqual(read, cleaned if stays else Refusal(16, first), data.hex())
+            if offset == first:
+                seen["stays" if stays else "gives way", number] += 1
+            else:
+                seen["before" if offset < first else "behind"] += 1
+        self.assertLessEqual({"before", "behind"}, set(seen), seen)
 
 
 class NoInput(unittest.TestCase):
@@ -783,7 +988,8 @@ class NoInput(unittest.TestCase):
                 (direction([1]), 1, at + 25),
                 (direction([1])[:-1], 1, at),
                 (b"\x30", 1, at),
-                (direction([0, 1]), 7, at),
+                (direction([0]), 7, at),
+                (direction([0, 1]), 16, at),
                 (direction([1_001]), 7, at),
                 (guard(0, 1), 3, at),
                 (b"\x40", 3, at),
@@ -853,11 +1059,11 @@ class NoInput(unittest.TestCase):
             reply = "model"
             if isinstance(read, Refusal):
                 reply = "before" if read.offset < at else read.number
-            if reply in range(1, 11):
+            if reply in (*range(1, 11), 16):
                 expected = Refusal(read.number, read.offset + 50)
             self.assertEqual(exact.read_model(with_corners), expected, data.hex())
             replies[reply] = replies.get(reply, 0) + 1
-        self.assertEqual(set(replies), {"before", "model", 1, 2, 3, 7, 8, 9, 10})
+        self.assertEqual(set(replies), {"before", "model", 1, 2, 3, *range(7, 11), 16})
         self.assertGreater(min(replies.values()), 5, replies)
 
     def test_no_input_is_checked_with_the_zero_input_alone(self):
