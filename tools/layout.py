@@ -1,8 +1,8 @@
 """The limits, the record layout and the model values of the specification, each stated once.
 
 In order: limits and units; record kinds and body lengths; sets and models; makers of records; where
-records start. The makers fill up to six entries with zeros and test nothing, so that wrong files
-can be made too. Not here: reading a file (`exact`).
+records start, and the six entries of a record. The makers fill up to six entries with zeros and
+test nothing, so that wrong files can be made too. Not here: reading a file (`exact`).
 """
 
 from __future__ import annotations
@@ -51,6 +51,7 @@ BODY_LENGTHS = {
     GUARD: 9,
     END: 0,
 }
+ENTRY_KINDS = tuple(kind for kind in BODY_LENGTHS if kind not in (HEAD, GUARD, END))  # six entries
 
 BOX, ZONOTOPE, VERTICES = "box", "zonotope", "vertices"
 # The kind of a form's first point and that of the others.
@@ -208,3 +209,26 @@ def states_input(data: bytes) -> bool:
 def states_drift(data: bytes) -> bool:
     """Whether a file has a drift record."""
     return any(data[at] == DRIFT for at in offsets(data))
+
+
+# The six entries of a record
+
+
+def entry_places(kind: int) -> range:
+    """Where the entries of a record start, counted from its kind byte; none of other kinds."""
+    if kind not in ENTRY_KINDS:
+        return range(0)
+    return range(2 if kind in ROW_KINDS else 1, 1 + BODY_LENGTHS[kind], 8 if kind == FITTED else 4)
+
+
+def beyond(record: bytes, n: int) -> dict[int, int]:
+    """The entries of a whole record beyond n that are not zero, by column (Refusals 16).
+
+    Those of a fitted row are told by their 64 bits, and either zero is one.
+    """
+    places = entry_places(record[0])
+    if not places:
+        return {}
+    entries = struct.unpack_from("<6Q" if record[0] == FITTED else "<6i", record, places[0])
+    zeros = (0, pattern(-0.0)) if record[0] == FITTED else (0,)
+    return {column: entries[column] for column in range(n, MAX_N) if entries[column] not in zeros}

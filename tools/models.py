@@ -2,8 +2,9 @@
 """Random models and files, the same for the same seed.
 
 In order: the parts of an accepted model; guards near the model's own bounds; fitted rows that
-become those of the model; values beyond a limit; damaged files; points for tests that build a set
-point by point. Most models have few steps and directions, so that checking them is quick.
+become those of the model; values beyond a limit; damaged files; rubbish beyond n, alone and beside
+another fault; points for tests that build a set point by point. Most models have few steps and
+directions, so that checking them is quick.
 
     models.py SEED NUMBER    write file NUMBER of that seed to standard output
 """
@@ -23,9 +24,9 @@ from layout import (
     BODY_LENGTHS, BOX, DIRECTION, END, FITTED, GUARD, HEAD, INITIAL, INPUT, LONGEST_FILE,
     MATRIX_UNIT, MAX_DIRECTION_ENTRY, MAX_DIRECTIONS, MAX_ENTRY, MAX_GUARDS, MAX_LEVEL, MAX_N,
     MAX_POINTS, MAX_REACH, MAX_STEPS, MIN_LEVEL, READ_LIMIT, ROW, ROW_KINDS, VERTICES, ZONOTOPE,
-    Model, Set, Vector, drift, guard, head, zero_box, pattern, point, records,
+    Model, Set, Vector, drift, entry_places, guard, head, zero_box, pattern, point, records,
 )
-from listings import Growth
+from listings import Growth, Refusal
 
 I32_EXTREMES = (-(2**31), 2**31 - 1)
 SIGN = 1 << 63  # of 64 bits
@@ -262,8 +263,12 @@ def becoming(rng: random.Random, entry: int) -> int:
 def _fitted_rows(rng: random.Random, model: Model) -> dict[int, Vector]:
     """Fitted rows that become those of the model: none in half of the models, some or all."""
     share = rng.choice((0, 0, 0.5, 1))
+    zeros = rng.choice(((0,), (SIGN,), (0, SIGN)))  # beyond n
     return {
-        number: tuple(becoming(rng, entry) for entry in entries)
+        number: (
+            *(becoming(rng, entry) for entry in entries),
+            *rng.choices(zeros, k=MAX_N - model.n),
+        )
         for number, entries in enumerate(model.matrix)
         if rng.random() < share
     }
@@ -290,33 +295,9 @@ def _put(record: bytes, offset: int, form: str, value: int) -> bytes:
     return bytes(data)
 
 
-def _entries(record: bytes) -> list[int]:
-    """The offsets of the six entries in a record that has them, told by its length."""
-    lengths = {1 + BODY_LENGTHS[kind]: kind for kind in (ROW, FITTED, DIRECTION)}
-    kind = lengths.get(len(record))
-    if kind is None:
-        return []
-    first, size = (1 if kind == DIRECTION else 2), (8 if kind == FITTED else 4)
-    return [first + size * i for i in range(MAX_N)]
-
-
 def _no_entry(rng: random.Random) -> int:
     """The 64 bits of what is no fitted entry, of either sign."""
     return rng.choice(list(NO_ENTRIES.values())) | rng.choice((0, SIGN))
-
-
-def _with_rubbish(rng: random.Random, parts: list[bytes], n: int) -> list[bytes]:
-    """The records with any numbers in the entries beyond n, which the reader ignores."""
-    result = []
-    for record in parts:
-        for at in _entries(record)[n:]:
-            if len(record) == 1 + BODY_LENGTHS[FITTED]:
-                record = _put(record, at, "Q", rng.choice((_no_entry(rng), rng.getrandbits(64))))
-            else:
-                value = rng.choice((*I32_EXTREMES, rng.randint(*I32_EXTREMES)))
-                record = _put(record, at, "i", value)
-        result.append(record)
-    return result
 
 
 # Values at and beyond the limits
@@ -337,7 +318,7 @@ def _strained(rng: random.Random, model: Model) -> list[bytes]:
     index = rng.choice((0, *rng.choices(anywhere, k=2), *rng.choices(fitted or anywhere, k=2)))
     record = parts[index]
     kind = record[0]
-    at = rng.choice(_entries(record)[: model.n] or [0])
+    at = rng.choice(entry_places(kind)[: model.n] or [0])
     if kind == FITTED and rng.random() < 0.9:
         two = pattern(2.0) | rng.choice((0, SIGN))
         bits = rng.choice((two, two - 1, rng.getrandbits(64), *(_no_entry(rng) for _ in range(4))))
@@ -487,28 +468,119 @@ def _damaged(rng: random.Random, parts: list[bytes]) -> bytes:
     return bytes([rng.choice(list(BODY_LENGTHS))]) + rng.randbytes(rng.randrange(300))
 
 
+# Rubbish beyond n
+
+
+def _rubbish(rng: random.Random, kind: int) -> int:
+    """What no entry of a record may be beyond n: 1 or -1, one bit, the largest, any; no number."""
+    if kind == FITTED:
+        one_bit = 1 << rng.randrange(63)
+        bits = rng.choice((1, one_bit, pattern(1.0), _no_entry(rng), rng.randrange(1, SIGN)))
+        return bits | rng.choice((0, SIGN))
+    one_bit, size = 1 << rng.randrange(31), rng.randrange(1, 2**31)
+    return rng.choice((1, -1, one_bit, *I32_EXTREMES, size, -size))
+
+
+def _fits(record: bytes) -> bool:
+    """Whether a record has six entries and the length that its kind says."""
+    return bool(entry_places(record[0])) and len(record) == 1 + BODY_LENGTHS[record[0]]
+
+
+def _with_rubbish(rng: random.Random, record: bytes, n: int) -> bytes:
+    """A record with rubbish beyond n: next to n, in the last column, in any one, some or all."""
+    places = entry_places(record[0])[n:]
+    some = rng.sample(places, rng.randint(1, len(places)))
+    for at in rng.choice((places[:1], places[-1:], some[:1], some, places)):
+        form = "Q" if record[0] == FITTED else "i"
+        record = _put(record, at, form, _rubbish(rng, record[0]))
+    return record
+
+
+def _saved(rng: random.Random, model: Model) -> list[bytes]:
+    """The records of a model whose head says fewer coordinates, without the rows beyond them."""
+    n = rng.randint(1, model.n)
+    parts = _records(rng, model)
+    return [head(n, model.steps), *parts[1 : 1 + n], *parts[1 + model.n :]]
+
+
+def _refused_record(parts: list[bytes]) -> int | None:
+    """Which record of a file is refused, where one is."""
+    read = exact.read_model(b"".join(parts))
+    at = 0
+    for index, record in enumerate(parts):
+        if isinstance(read, Refusal) and read.offset == at:
+            return index
+        at += len(record)
+    return None
+
+
+def _with_wrong_value(rng: random.Random, record: bytes, n: int) -> bytes:
+    """A record of six entries with a wrong number, an entry beyond its limit, or zeros alone."""
+    kind, at = record[0], rng.choice(entry_places(record[0])[:n])
+    if kind in ROW_KINDS and rng.random() < 0.5:
+        return _put(record, 1, "B", rng.choice((record[1] + 1 & 255, record[1] - 1 & 255, 255)))
+    if kind == FITTED:
+        return _put(record, at, "Q", _no_entry(rng))
+    if kind == DIRECTION and rng.random() < 0.5:
+        return point(kind, ())
+    limit = {ROW: MAX_ENTRY, DIRECTION: MAX_DIRECTION_ENTRY}.get(kind, MAX_REACH)
+    return _put(record, at, "i", rng.choice((-1, 1)) * (limit + 1))
+
+
+def _unclean(rng: random.Random, model: Model) -> bytes:
+    """A file with rubbish beyond n, alone or beside a fault of the same record or of another.
+
+    The other fault is one of its values or its place, or its list is full, or its body is cut.
+    """
+    sources = (_stated, _overreaching, _overdrifting, _crowded, _disordered)
+    [source] = rng.choices(sources, weights=(52, 8, 10, 20, 10))
+    parts = source(rng, model)
+    index = _refused_record(parts)
+    if index is None or not _fits(parts[index]) or rng.random() < 0.1:
+        # Rows come oftenest, and all other kinds equally often, though there are more of some.
+        fitting = [i for i, record in enumerate(parts) if _fits(record)]
+        kinds = sorted({parts[i][0] for i in fitting})
+        kind = rng.choice(kinds + 2 * [kind for kind in kinds if kind in ROW_KINDS])
+        index = rng.choice([i for i in fitting if parts[i][0] == kind])
+        if rng.random() < 0.4:
+            parts[index] = _with_wrong_value(rng, parts[index], model.n)
+    parts[index] = _with_rubbish(rng, parts[index], model.n)
+    if rng.random() < 0.15:
+        parts = [
+            _with_rubbish(rng, record, model.n) if _fits(record) and rng.random() < 0.3 else record
+            for record in parts
+        ]
+    data = b"".join(parts)
+    if rng.random() < 0.12:
+        start = len(b"".join(parts[:index]))
+        return data[: start + rng.randrange(1, len(parts[index]))]
+    return data
+
+
 def random_file(rng: random.Random) -> bytes:
-    """A file: of an accepted model, of one at or beyond a limit, or a damaged one."""
+    """A file: of an accepted model, of one at or beyond a limit, with rubbish, or a damaged one."""
     model = random_model(rng)
     choice = rng.random()
-    if choice < 0.58:
+    if choice < 0.53:
         parts = _stated(rng, model)
-    elif choice < 0.70:
+    elif choice < 0.63:
         parts = _strained(rng, model)
-    elif choice < 0.74:
+    elif choice < 0.67:
         parts = _overreaching(rng, model)
-    elif choice < 0.78:
+    elif choice < 0.71:
         parts = _overdrifting(rng, model)
-    elif choice < 0.82:
+    elif choice < 0.74:
         parts = _crowded(rng, model)
-    elif choice < 0.86:
+    elif choice < 0.77:
         parts = _with_wrong_sets(rng, model)
-    elif choice < 0.92:
+    elif choice < 0.83:
         parts = _disordered(rng, model)
+    elif choice < 0.84:
+        parts = _saved(rng, model)
+    elif choice < 0.94 and model.n < MAX_N:
+        return _unclean(rng, model)
     else:
         return _damaged(rng, _records(rng, model))
-    if rng.random() < 0.3:
-        parts = _with_rubbish(rng, parts, model.n)
     return b"".join(parts)
 
 

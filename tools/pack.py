@@ -36,7 +36,8 @@ or NAME, and the row.
 
 A file has no names, units or time. Unpacked, its coordinates are x0, x1, .. and its directions d0,
 d1, .., or all of these are those of the text that `--names` gives. Fitted rows stay so: each entry
-is the shortest decimal that gives its 64 bits again.
+is the shortest decimal that gives its 64 bits again. Beyond its coordinates a text packs zeros, and
+a file that has anything else there is refused.
 
 `rounded` prints how far the matrix of MODEL, a text or a file, is from what was written. For each
 entry that rounding changes: row, column, the entry (cut where it is long), the whole number of
@@ -265,7 +266,7 @@ def main() -> None:
         return
     source = read_source(data, name)
     if source.data != data:
-        print(f"{name}: note: entries beyond n are left out", file=sys.stderr)
+        print(f"{name}: note: negative zeros beyond n become zeros", file=sys.stderr)
     if options.names is not None:
         by_name = files.shown(options.names)
         by = read_text(files.read_bytes(options.names), by_name)

@@ -19,11 +19,12 @@ from typing import Iterator, Sequence
 import exact
 import files
 from layout import (
-    BODY_LENGTHS, BOX, CENTRE, DEFAULT_STEPS, DIRECTION, DRIFT, END, FITTED, GENERATOR, GUARD, HEAD,
-    INITIAL, INPUT, LOWER, MATRIX_UNIT, MAX_DIRECTION_ENTRY, MAX_DIRECTIONS, MAX_ENTRY, MAX_GUARDS,
-    MAX_LEVEL, MAX_N, MAX_POINTS, MAX_REACH, MAX_STEPS, MIN_POINTS, MIN_LEVEL, POINT_KINDS,
-    READ_LIMIT, ROW, ROW_KINDS, UPPER, VERTEX, VERTICES, ZONOTOPE, Model, Set, direction, drift,
-    encode, fitted, guard, head, zero_box, offsets, pattern, point, records, row, set_records,
+    BODY_LENGTHS, BOX, CENTRE, DEFAULT_STEPS, DIRECTION, DRIFT, END, ENTRY_KINDS, FITTED, GENERATOR,
+    GUARD, HEAD, INITIAL, INPUT, LOWER, MATRIX_UNIT, MAX_DIRECTION_ENTRY, MAX_DIRECTIONS, MAX_ENTRY,
+    MAX_GUARDS, MAX_LEVEL, MAX_N, MAX_POINTS, MAX_REACH, MAX_STEPS, MIN_POINTS, MIN_LEVEL,
+    POINT_KINDS, READ_LIMIT, ROW, ROW_KINDS, UPPER, VERTEX, VERTICES, ZONOTOPE, Model, Set,
+    direction, drift, encode, fitted, guard, head, zero_box, offsets, pattern, point, records, row,
+    set_records,
 )
 from listings import Refusal
 from models import NO_ENTRIES, SIGN
@@ -358,7 +359,7 @@ def fitted_place_files() -> Iterator[File]:
 
 
 def mixed_files() -> Iterator[File]:
-    """Scaled and fitted rows in every mixture of three, each n, and any bits beyond n."""
+    """Scaled and fitted rows in every mixture of three, each n, and any bits beyond n (16)."""
     model = made_model(BOX, n=3)
     for kinds in itertools.product(ROW_KINDS, repeat=3):
         chosen = {i: bits for i, bits in fitted_rows(model).items() if kinds[i] == FITTED}
@@ -470,7 +471,7 @@ def drift_place_files() -> Iterator[File]:
 
 
 def drift_value_files() -> Iterator[File]:
-    """Entries of the drift at and beyond their limit, each of every n; and any beyond n."""
+    """Entries of the drift at and beyond their limit, each of every n; and any beyond n (16)."""
     for n in range(1, MAX_N + 1):
         model = replace(made_model(BOX, n), input=zero_box(n))
         last = {n - 1: [HALF] * n} if n % 2 else {}
@@ -576,13 +577,172 @@ def drift_length_files() -> Iterator[File]:
     yield "longest with a drift and scaled rows", encode(model)
 
 
+# Entries beyond n (Refusals 16)
+
+# What is no zero: the least in magnitude, one bit of each byte, the largest; of a fitted row these,
+# 1 and what is no number.
+NO_ZEROS = (1, -1, 2**31 - 1, -(2**31), 1 << 8, 1 << 16, 1 << 24, 7)
+NO_FITTED_ZEROS = {
+    "the smallest": 1,
+    "the largest below the normal ones": 2**52 - 1,
+    "1": pattern(1.0),
+    "a bit of the high half": 1 << 32,
+    "infinity": NO_ENTRIES["infinity"],
+    "the first signalling NaN": NO_ENTRIES["the first signalling NaN"],
+    "the first quiet NaN": NAN,
+    "the last quiet NaN": NO_ENTRIES["the last quiet NaN"],
+}
+
+
+def start_of(n: int, kind: int) -> bytes:
+    """The start of a file behind which a record of this kind may stand; of a row the last one."""
+    rows = [row(i, [9] * n) for i in range(n)]
+    if kind in ROW_KINDS:
+        return head(n, 3) + b"".join(rows[:-1])
+    firsts = {part + UPPER: part + LOWER for part in (INITIAL, INPUT)}
+    firsts |= {part + GENERATOR: part + CENTRE for part in (INITIAL, INPUT)}
+    before = [point(INITIAL + VERTEX, [2] * n)] if kind >= INPUT else []
+    before += [point(firsts[kind], [0] * n)] if kind in firsts else []
+    return head(n, 3) + b"".join(rows + before)
+
+
+def six(kind: int, n: int, entries: Sequence[int], number: int | None = None) -> bytes:
+    """A record of this kind with these entries; of a row with the last number, or with this one."""
+    number = n - 1 if number is None else number
+    if kind == FITTED:
+        return fitted(number, entries)
+    return row(number, entries) if kind == ROW else point(kind, entries)
+
+
+def first_entries(kind: int, n: int) -> list[int]:
+    """Right entries up to n."""
+    return [HALF if kind == FITTED else 1] * n
+
+
+def with_rubbish(kind: int, n: int, column: int, entry: int, number: int | None = None) -> bytes:
+    """A record that is right up to n, but for its number, and has this entry in a column beyond."""
+    entries = first_entries(kind, n) + [0] * (column - n) + [entry]
+    return six(kind, n, entries, number)
+
+
+def column_files() -> Iterator[File]:
+    """Each kind with something in each column beyond each n, and in all of them."""
+    numbers, signs = itertools.cycle(NO_ZEROS), (0, SIGN)
+    patterns = itertools.cycle(bits | bit for bits in NO_FITTED_ZEROS.values() for bit in signs)
+    for kind, n in itertools.product(ENTRY_KINDS, range(1, MAX_N)):
+        start = start_of(n, kind)
+        for column in range(n, MAX_N):
+            entry = next(patterns if kind == FITTED else numbers)
+            about = f"{kind:02X}, n {n}: column {column} is not zero"
+            yield about, start + with_rubbish(kind, n, column, entry)
+    for kind, n in zip(ENTRY_KINDS, itertools.cycle(range(1, MAX_N - 1))):
+        source = patterns if kind == FITTED else numbers
+        entries = first_entries(kind, n) + list(itertools.islice(source, MAX_N - n))
+        about = f"{kind:02X}, n {n}: no column beyond is zero"
+        yield about, start_of(n, kind) + six(kind, n, entries)
+
+
+def beyond_order_files() -> Iterator[File]:
+    """16 before the row number and the other values, and behind 1, 3 and 9."""
+    for kind, n in itertools.product(ROW_KINDS, range(1, MAX_N)):
+        for column, number in ((n, n % 2 * 255), (MAX_N - 1, n)):
+            about = f"{kind:02X} with number {number}, n {n}: column {column} is not zero"
+            yield about, start_of(n, kind) + with_rubbish(kind, n, column, 1, number)
+
+    sizes = {ROW: MAX_ENTRY + 1, FITTED: NAN, DIRECTION: MAX_DIRECTION_ENTRY + 1}
+    for kind, n in zip(ENTRY_KINDS, itertools.cycle((3, 1, 5, 2, 4))):
+        start, wrong = start_of(n, kind), [sizes.get(kind, MAX_REACH + 1)] + [0] * (MAX_N - 2)
+        yield f"{kind:02X} with a wrong entry, n {n}", start + six(kind, n, wrong[:n])
+        about = f"{kind:02X} with a wrong entry, n {n}: column {MAX_N - 1} is not zero"
+        yield about, start + six(kind, n, [*wrong, 1])
+    nothing = start_of(2, DIRECTION) + direction([0, 0, 0, 1])
+    yield "30 with zeros up to n, n 2: column 3 is not zero", nothing
+    for part in (INITIAL, INPUT):
+        crossed = point(part + UPPER, [0, -1, 1])
+        about = f"crossed corners at {part + UPPER:02X}, n 2: column 2 is not zero"
+        yield about, start_of(2, part + UPPER) + crossed
+    full = ROWS + drift([0, MAX_REACH]) + point(INITIAL + VERTEX, [0, 0])
+    for kind in (INPUT + LOWER, INPUT + CENTRE, INPUT + VERTEX):
+        about = f"sum beyond its limit at {kind:02X}, n 2: column 4 is not zero"
+        yield about, full + point(kind, [0, 1, 0, 0, -1])
+
+    for kind, n in zip(ENTRY_KINDS, itertools.cycle((1, 4, 2, 3))):
+        cut = six(kind, n, [1] * MAX_N)[:-1]
+        yield f"{kind:02X} with rubbish, without its last byte, n {n}", start_of(n, kind) + cut
+        before = start_of(n, DIRECTION) + direction([1] * n) + guard(0, 1)
+        about = f"{kind:02X} with rubbish behind a guard, n {n}"
+        yield about, before + with_rubbish(kind, n, n, 1)
+    yield "02 with rubbish before the head, n 1", with_rubbish(ROW, 1, 1, 1) + encode(SAMPLE)
+    n = 4
+    for kind, count in (
+        (INITIAL + GENERATOR, 8), (INITIAL + VERTEX, 16), (INPUT + GENERATOR, 8),
+        (INPUT + VERTEX, 16), (DIRECTION, 16),
+    ):
+        start, last = start_of(n, kind), with_rubbish(kind, n, n + 1, 1)
+        others = [point(kind, [1] * n)] * count
+        yield f"one {kind:02X} too many, with rubbish", start + b"".join(others) + last
+        yield f"the last {kind:02X} with rubbish", start + b"".join(others[1:]) + last
+
+
+def zero_files() -> Iterator[File]:
+    """Either zero beyond n in fitted rows, what is near to zero, and zeros in place of rubbish."""
+    for n in range(1, MAX_N):
+        model = made_model(BOX, n)
+        for what, zero in (("zeros", 0), ("negative zeros", SIGN)):
+            rows = {i: bits + [zero] * (MAX_N - n) for i, bits in fitted_rows(model).items()}
+            yield f"fitted rows, {what} beyond n {n}", encode(model, fitted_rows=rows)
+    mixed = {0: [HALF, 0, SIGN, 0, SIGN, SIGN]}
+    yield "fitted row, zeros of either sign beyond n 1", encode(SAMPLE, fitted_rows=mixed)
+    for what, bits in NO_FITTED_ZEROS.items():
+        for sign, bit, column in (("", 0, MAX_N - 1), ("minus ", SIGN, 1)):
+            rows = {0: [HALF] + [SIGN] * (column - 1) + [bits | bit]}
+            about = f"fitted row, {sign}{what} in column {column} beyond n 1"
+            yield about, encode(SAMPLE, fitted_rows=rows)
+
+    sample = records(SAMPLE)
+    for index, record in enumerate(sample):
+        if record[0] in ENTRY_KINDS:
+            changed = [*sample[:index], record[:-1] + b"\x80", *sample[index + 1 :]]
+            yield f"the sample with a bit in the last column of {record[0]:02X}", b"".join(changed)
+    corners = point(INITIAL + LOWER, [0]) + point(INITIAL + UPPER, [0])
+    rows = head(1, 3) + row(0, [32_768])
+    vertex, asked = point(INITIAL + VERTEX, [5]), direction([1]) + bytes([END])
+    zero_corners = point(INPUT + LOWER, []) + point(INPUT + UPPER, [])
+    for what, data in (
+        ("any numbers beyond n", rows + corners + point(INPUT + VERTEX, [1]) + asked),
+        ("no input set: any numbers beyond n", rows + vertex + asked),
+        ("input set from zero to zero: any numbers beyond n", rows + vertex + zero_corners + asked),
+        *((f"drift, any numbers beyond n {n}", with_drift(made_model(FORMS[n % 3], n), [7] * n))
+          for n in range(1, MAX_N)),
+    ):
+        yield f"zeros in place of: {what}", data
+
+    # A file of three coordinates that was saved from a model of four.
+    four = made_model(BOX, 4)
+    parts = records(four)
+    saved = [head(3, four.steps), *parts[1:4], *parts[5:]]
+    yield "three coordinates saved from four", b"".join(saved)
+    zeros = [record[:13] + bytes(12) if record[0] in ENTRY_KINDS else record for record in saved]
+    zeros[1:4] = (record[:14] + bytes(12) for record in saved[1:4])
+    yield "three coordinates saved from four, and zeros beyond", b"".join(zeros)
+
+    # The first wrong record is told.
+    early, late = with_rubbish(ROW, 2, 2, 1, 0), with_rubbish(ROW, 2, MAX_N - 1, -1, 1)
+    for what, rows_ in (
+        ("both rows", early + late), ("the second row", row(0, [1, 1]) + late),
+        ("the first row, and number 0 twice", early + row(0, [1, 1])),
+        ("the second row, and a wrong entry in the first", row(0, [MAX_ENTRY + 1]) + late),
+    ):
+        yield f"rubbish in {what}", head(2, 3) + rows_
+
+
 def all_files() -> list[File]:
     """All files, in their order."""
     makers = (
         accepted_files, order_files, count_files, value_files, spoilt_files, steps_files,
         behind_initial_files, no_input_files, fitted_place_files, mixed_files, fitted_value_files,
         fitted_length_files, drift_place_files, drift_value_files, entering_files,
-        drift_length_files,
+        drift_length_files, column_files, beyond_order_files, zero_files,
     )
     return [file for maker in makers for file in maker()]
 

@@ -21,7 +21,7 @@ from layout import (
     BODY_LENGTHS, BOX, CENTRE, DEFAULT_STEPS, DIRECTION, DRIFT, END, FITTED, GENERATOR, GUARD, HEAD,
     INITIAL, INPUT, LOWER, MATRIX_UNIT, MAX_DIRECTION_ENTRY, MAX_DIRECTIONS, MAX_ENTRY, MAX_FACTOR,
     MAX_GENERATORS, MAX_GUARDS, MAX_N, MAX_REACH, MAX_STEPS, MAX_VERTICES, POINT_KINDS, ROW,
-    ROW_KINDS, UPPER, VERTEX, Set, Vector,
+    ROW_KINDS, UPPER, VERTEX, Set, Vector, beyond, float_of,
 )
 from listings import Refusal
 
@@ -163,6 +163,22 @@ class Place:
     def vector(self, body: bytes) -> Vector:
         return struct.unpack("<6i", body)[: self.n]
 
+    def beyond_n(self) -> str:
+        """Which entries beyond n are not zero, and in which record of the file."""
+        found = beyond(bytes([self.kind]) + self.body, self.n)
+        shown = (lambda bits: repr(float_of(bits))) if self.kind == FITTED else "{:,}".format
+        told = [
+            f"entry {shown(entry)} in {counted('column', column)}"
+            for column, entry in found.items()
+        ]
+        last = MAX_N - 1
+        columns = f"column {last}" if self.n == last else f"columns {self.n} to {last}"
+        return (
+            f"{self.name}, record {len(self.before)} of the file from 0: {'; '.join(told)}; n is"
+            f" {self.n}, so that {columns} must be zero: put zeros there, or save the model with"
+            " all of its coordinates"
+        )
+
     def beyond(self, entries: Vector, limit: int, what: str = "column") -> list[str]:
         return [
             f"entry {entry:,} in {counted(what, number)} must be {-limit:,} to {limit:,}"
@@ -235,7 +251,7 @@ class Place:
         told = self.beyond(entries, MAX_DIRECTION_ENTRY)
         if not any(entries):
             first = "its entry is" if self.n == 1 else f"all of its {self.n} entries are"
-            told.append(f"{first} zero; one must not be (those beyond n, {self.n}, don't count)")
+            told.append(f"{first} zero; one must not be")
         return f"{self.name}: {'; '.join(told)}"
 
     def guard(self) -> str:
@@ -256,7 +272,7 @@ class Place:
 WORDS = {
     1: Place.ends, 2: Place.unknown, 3: Place.not_here, 4: Place.head, 5: Place.row,
     6: Place.points, 7: Place.direction, 8: Place.guard, 9: Place.too_many, 10: Place.behind_end,
-    15: Place.row, 17: Place.drift,
+    15: Place.row, 16: Place.beyond_n, 17: Place.drift,
 }
 
 

@@ -1,5 +1,6 @@
 """Comparing: a right program agrees, and each kind of wrong one is told, with its file saved."""
 
+import collections
 import os
 import stat
 import sys
@@ -7,9 +8,11 @@ import unittest
 
 from helpers import TOOLS, FolderTest, run_tool
 
+import compare
 import exact
 import models
 from layout import FITTED, Model, offsets, states_drift, states_input
+from listings import Refusal
 
 
 class Compare(FolderTest):
@@ -49,13 +52,25 @@ class Compare(FolderTest):
         sorts = f"with fitted rows:{fitted} with a drift:{drifting} without input:{without}"
         told = f", {sorts}), refused 1:"
         self.assertIn(told.encode(), out)
-        self.assertRegex(out, rb" 10:\d+ 15:\d+ 17:\d+; directions")
+        self.assertRegex(out, rb" 10:\d+ 15:\d+ 16:\d+ 17:\d+; directions")
 
     def test_models_without_input_come_seldom(self):
         files = models.stream(3, 400)
         accepted = [data for data in files if isinstance(exact.read_model(data), Model)]
         without = sum(not states_input(data) for data in accepted)
         self.assertTrue(0 < without < len(accepted) / 4, without)
+
+    def test_refusals_are_counted_by_number(self):
+        """Each number comes up in a thousand files, and 16 in some percent of them."""
+        counts, seen = compare.Counts(), collections.Counter()
+        for data in models.stream(2026, 1_000):
+            if isinstance(read := exact.read_model(data), Refusal):
+                counts.add(data, read)
+                seen[read.number] += 1
+        self.assertEqual(set(seen), set(exact.REASONS))
+        self.assertTrue(50 < seen[16] < 120, seen)
+        for number, count in seen.items():
+            self.assertIn(f" {number}:{count}", counts.summary())
 
     def test_wrong_output(self):
         number = next(n for n in range(99) if "guard" in exact.listing(models.file_of(4, n)))

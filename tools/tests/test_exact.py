@@ -941,7 +941,9 @@ class BeyondN(unittest.TestCase):
                 seen["stays" if stays else "gives way", number] += 1
             else:
                 seen["before" if offset < first else "behind"] += 1
-        self.assertLessEqual({"before", "behind"}, set(seen), seen)
+        expected = {"before", "behind", ("stays", 3), ("stays", 9)}
+        expected |= {("gives way", number) for number in (5, 6, 7, 15, 17)}
+        self.assertLessEqual(expected, set(seen), seen)
 
 
 class NoInput(unittest.TestCase):

@@ -15,8 +15,9 @@ import exact
 import models
 import refusal
 from layout import (
-    BOX, FITTED, GROWTH_LIMIT, MAX_REACH, READ_LIMIT, VERTICES, ZONOTOPE, encode, fitted_rows_of,
-    offsets, pattern, zero_box, states_drift, states_input,
+    BODY_LENGTHS, BOX, ENTRY_KINDS, FITTED, GROWTH_LIMIT, MAX_REACH, READ_LIMIT, VERTICES, ZONOTOPE,
+    beyond, encode, entry_places, fitted_rows_of, offsets, pattern, zero_box, states_drift,
+    states_input,
 )
 from listings import Growth, Refusal
 
@@ -32,6 +33,16 @@ OWN = "all(abs(entry) <= MAX_REACH for entry in drift)"
 SUM = "max(entering_reach(so_far, drift)) <= MAX_REACH"
 GENERATORS = "sum(abs(dot(generator, r)) for generator in generators)"
 LARGEST = "max(dot(vertex, r) for vertex in set_.points)"
+ZEROS = "self.require(all(entry == 0 for entry in beyond), 16)"
+ROW_ZEROS = "file.require_zeros(all_six[n:])"
+POINT, DRIFT, ENTRIES = ("points.append(_vector(file, n))", "drift = _vector(file, n)",
+                         "entries = _vector(file, n)")
+UNTESTED = "_numbers(file.body())[:n]"  # the first n numbers of a body, whatever comes behind them
+LATE = "file.require_zeros(_numbers(file.data[file.start + 1 : file.at])[n:])"
+# Whether what is there of the next record, a point, drift or direction, has rubbish beyond n.
+EARLY = ("(kind == 5 or kind & 0xF0 in (0x10, 0x20, 0x30)) and"
+         " any(self.data[self.at + 1 + 4 * self.data[1] : self.at + 25])")
+WHOLE = f"self.at + 25 <= len(self.data) and {EARLY}"
 
 # A wrong answer's name, the text of `exact` that is changed, and what it becomes.
 EDITS = (
@@ -117,14 +128,11 @@ EDITS = (
      "value is not None and abs(fitted_entry(value)) <= MAX_ENTRY"),
     ("fitted_no_number_as_zero", "if exponent == 0x7FF:\n        return None",
      "if exponent == 0x7FF:\n        return Fraction(0)"),
-    ("fitted_entries_beyond_n_tested", '8], "little")) for i in range(n)]',
-     '8], "little")) for i in range(6)]'),
     ("fitted_entries_refused_by_5", "for value in values), 15)", "for value in values), 5)"),
     ("reach_of_one_point", "Set(form, tuple(points))\n", "Set(form, (points[-1],))\n"),
     ("corners_crossed", "in_reach and in_order", "in_reach"),
     ("big_endian", 'int.from_bytes(data, "little", signed=True)',
      'int.from_bytes(data, "big", signed=True)'),
-    ("entries_beyond_n_kept", "4 * i + 4]) for i in range(n))", "4 * i + 4]) for i in range(6))"),
     ("bytes_after_end_ignored", "if file.at < len(file.data)", "if False"),
     ("zero_direction", "in_limits and any(entries)", "in_limits"),
     ("guard_on_no_direction", "body[0] < len(directions)", "True"),
@@ -154,8 +162,6 @@ EDITS = (
     ("drift_limit_of_one_sign", OWN, OWN.replace("abs(entry)", "entry")),
     ("drift_limit_untested", f"file.require({OWN}, 17)", "pass"),
     ("drift_refused_by_6", f"{OWN}, 17", f"{OWN}, 6"),
-    ("drift_entries_beyond_n_tested", OWN,
-     "max(map(abs, _vector(file.data[file.start + 1 : file.at], 6))) <= MAX_REACH"),
     ("sum_limit_off_by_one", SUM, SUM.replace("<=", "<= 1 +")),
     ("sum_at_its_limit_refused", SUM, SUM.replace("<=", "<")),
     ("sum_untested", f"file.require({SUM}, 17)", "pass"),
@@ -173,6 +179,72 @@ EDITS = (
      "drift = _read_drift(file, n)\n"
      "    if file.data[file.at : file.at + 1] == b'\\x05':\n"
      "        drift = _read_drift(file, n)\n"),
+    ("beyond_n_ignored", ZEROS, "pass"),
+    ("beyond_n_next_column_alone", "for entry in beyond)", "for entry in beyond[:1])"),
+    ("beyond_n_next_column_forgotten", "for entry in beyond)", "for entry in beyond[1:])"),
+    ("beyond_n_last_column_forgotten", "for entry in beyond)", "for entry in beyond[:-1])"),
+    ("beyond_n_last_column_alone", "for entry in beyond)", "for entry in beyond[-1:])"),
+    ("beyond_n_two_columns_needed", ZEROS,
+     "self.require(sum(entry != 0 for entry in beyond) < 2, 16)"),
+    ("beyond_n_below_zero_passes", "all(entry == 0", "all(entry is not None and entry <= 0"),
+    ("beyond_n_above_zero_passes", "all(entry == 0", "all(entry is not None and entry >= 0"),
+    ("beyond_n_1_passes", "all(entry == 0", "all(entry in (0, 1)"),
+    ("beyond_n_no_number_passes", "all(entry == 0", "all(entry is None or entry == 0"),
+    ("beyond_n_tiny_passes", "all(entry == 0",
+     "all(entry is not None and fitted_entry(Fraction(entry)) == 0"),
+    ("beyond_n_low_bytes_alone", ZEROS,
+     "self.require(all(isinstance(x, int) and x % 2**16 == 0 or x == 0 for x in beyond), 16)"),
+    ("beyond_n_refused_by_5", "in beyond), 16)", "in beyond), 5)"),
+    ("beyond_n_at_the_body", ZEROS,
+     "if not all(entry == 0 for entry in beyond):\n            raise _Refused(16, self.start + 1)"),
+    ("negative_zero_refused", ROW_ZEROS,
+     f"{ROW_ZEROS}\n    file.require(kind == ROW or not any(body[1 + 8 * n :]), 16)"),
+    ("negative_zero_refused_in_the_last_column", ROW_ZEROS,
+     f"{ROW_ZEROS}\n    file.require(kind == ROW or n == 6 or body[-1] == 0, 16)"),
+    ("beyond_n_of_scaled_rows_forgotten", ROW_ZEROS, f"if kind == FITTED:\n        {ROW_ZEROS}"),
+    ("beyond_n_of_fitted_rows_forgotten", ROW_ZEROS, f"if kind == ROW:\n        {ROW_ZEROS}"),
+    ("beyond_n_of_the_first_row_alone", ROW_ZEROS, f"if number == 0:\n        {ROW_ZEROS}"),
+    ("beyond_n_of_fitted_rows_in_four_bytes", ROW_ZEROS,
+     "file.require_zeros(_numbers(body[1:])[n:])"),
+    ("beyond_n_of_fitted_rows_low_halves", ROW_ZEROS,
+     "file.require_zeros(all_six[n:] if kind == ROW else [_signed(body[1 + 8 * i : 5 + 8 * i])"
+     " for i in range(n, 6)])"),
+    ("beyond_n_of_fitted_rows_high_halves", ROW_ZEROS,
+     "file.require_zeros(all_six[n:] if kind == ROW else [_signed(body[5 + 8 * i : 9 + 8 * i])"
+     " % 2**31 for i in range(n, 6)])"),
+    ("row_number_before_beyond_n", ROW_ZEROS,
+     f"file.require(body[0] == number, 0 + 5)\n    {ROW_ZEROS}"),
+    ("scaled_row_number_before_beyond_n", ROW_ZEROS,
+     f"file.require(kind == FITTED or body[0] == number, 0 + 5)\n    {ROW_ZEROS}"),
+    ("fitted_row_number_before_beyond_n", ROW_ZEROS,
+     f"file.require(kind == ROW or body[0] == number, 0 + 5)\n    {ROW_ZEROS}"),
+    ("entries_of_a_scaled_row_before_beyond_n", ROW_ZEROS,
+     f"file.require(kind == FITTED or all(abs(x) < 131_073 for x in all_six[:n]), 5)\n"
+     f"    {ROW_ZEROS}"),
+    ("entries_of_a_fitted_row_before_beyond_n", ROW_ZEROS,
+     f"file.require(kind == ROW or all(x is not None and abs(x) <= 2 for x in all_six[:n]), 15)\n"
+     f"    {ROW_ZEROS}"),
+    ("beyond_n_of_the_drift_forgotten", DRIFT, f"drift = {UNTESTED}"),
+    ("beyond_n_of_directions_forgotten", ENTRIES, f"entries = {UNTESTED}"),
+    ("beyond_n_of_the_first_direction_alone", ENTRIES,
+     f"entries = {UNTESTED} if directions else _vector(file, n)"),
+    ("beyond_n_of_points_forgotten", POINT, f"points.append({UNTESTED})"),
+    ("beyond_n_of_the_first_point_alone", POINT,
+     f"points.append({UNTESTED} if points else _vector(file, n))"),
+    ("beyond_n_of_the_initial_set_forgotten", POINT,
+     f"points.append({UNTESTED} if part == INITIAL else _vector(file, n))"),
+    ("beyond_n_of_the_input_set_forgotten", POINT,
+     f"points.append({UNTESTED} if part == INPUT else _vector(file, n))"),
+    *((f"beyond_n_of_{kind:02X}_forgotten", POINT,
+       f"points.append({UNTESTED} if file.data[file.at] == {kind} else _vector(file, n))")
+      for kind in (*range(0x10, 0x15), *range(0x20, 0x25))),
+    ("beyond_n_before_order", "if kind not in allowed:",
+     f"if {WHOLE}:\n            raise _Refused(16, self.at)\n        if kind not in allowed:"),
+    ("beyond_n_before_count", "if kind in full:",
+     f"if {WHOLE}:\n            raise _Refused(16, self.at)\n        if kind in full:"),
+    ("beyond_n_before_the_whole_body", "if kind in full:\n            raise _Refused(9, self.at)",
+     "if kind in full:\n            raise _Refused(9, self.at)\n"
+     f"        if {EARLY}:\n            raise _Refused(16, self.at)"),
     ("ninth_generator", "len(points) == MAX_POINTS[form]", "len(points) == MAX_POINTS[form] + 1"),
     ("seventeenth_direction", "len(directions) == MAX_DIRECTIONS", "len(directions) == 17"),
     ("seventeenth_guard", "len(guards) == MAX_GUARDS", "len(guards) == 17"),
@@ -196,6 +268,14 @@ LARGER_EDITS = (
         ("return tuple(map(fitted_entry, values))",
          "file.require(body[0] == number, 5)\n    return tuple(map(fitted_entry, values))"),
     )),
+    *((f"beyond_n_of_{what}", ((taken, taken.replace("_vector(file, n)", UNTESTED)),
+                               (test, f"{test}\n{indent}{LATE}")))
+      for what, taken, test, indent in (
+          ("points_after_6", POINT, "file.require(in_reach and in_order, 6)", " " * 8),
+          ("points_after_17", POINT, f"file.require({SUM}, 17)", " " * 8),
+          ("directions_after_7", ENTRIES, "file.require(in_limits and any(entries), 7)", " " * 8),
+          ("the_drift_after_17", DRIFT, f"file.require({OWN}, 17)", " " * 4),
+      )),
     ("old_recurrence", (
         (NEAREST, "total // MATRIX_UNIT"),
         ("abs(x) + up(y, 2)", "abs(x) + y"),
@@ -292,7 +372,7 @@ class Stream(unittest.TestCase):
         replies = [exact.read_model(data) for data in files]
         accepted = [reply for reply in replies if not isinstance(reply, Refusal)]
         refused = {reply.number for reply in replies if isinstance(reply, Refusal)}
-        self.assertEqual(refused, {*range(1, 11), 15, 17})
+        self.assertEqual(refused, {*range(1, 11), 15, 16, 17})
         forms = {(model.initial.form, model.input.form) for model in accepted}
         self.assertEqual(forms, set(itertools.product((BOX, ZONOTOPE, VERTICES), repeat=2)))
         self.assertEqual({model.n for model in accepted}, set(range(1, 7)))
@@ -315,7 +395,7 @@ class Stream(unittest.TestCase):
         refused = {
             reply.number for stated, reply in replies if isinstance(reply, Refusal) and not stated
         }
-        self.assertEqual(refused, {*range(1, 11), 15, 17})
+        self.assertEqual(refused, {*range(1, 11), 15, 16, 17})
 
     def test_fitted_rows(self):
         """Models with and without them and with both sorts; entries of every sort; 5 before 15."""
@@ -328,12 +408,8 @@ class Stream(unittest.TestCase):
                 continue
             rows = fitted_rows_of(data, model.n)
             seen["all" if len(rows) == model.n else "some" if rows else "none"] += 1
-            for at in offsets(data):
-                if data[at] == FITTED:
-                    beyond = struct.unpack_from("<6Q", data, at + 2)[model.n :]
-                    seen["beyond n"] += any(map(no_entry, beyond))
             seen.update(itertools.chain(*(map(sort_of, patterns) for patterns in rows.values())))
-        for what in ("none", "some", "all", "beyond n", "zero", "zero, -", "tiny", "tiny, -", "tie",
+        for what in ("none", "some", "all", "zero", "zero, -", "tiny", "tiny, -", "tie",
                      "tie, -", "one bit from a tie", "one bit from a tie, -", "2", "2, -"):
             self.assertGreater(seen[what], 10, (what, seen))
         for number, wrong in ((15, True), (5, True), (5, False)):
@@ -367,6 +443,62 @@ class Stream(unittest.TestCase):
             self.assertGreater(seen[17, kind], 3, (hex(kind), seen))
         self.assertGreater(seen[3, 0x05], 10, seen)
         self.assertGreater(seen["6 before 17"], 10, seen)
+
+    def test_zeros_beyond_n(self):
+        """Accepted fitted rows hold either zero there, often one sort alone and often both."""
+        seen = collections.Counter()
+        for data in models.stream(SEED, 1_000):
+            model = exact.read_model(data)
+            if not isinstance(model, Refusal):
+                for at in (at for at in offsets(data) if data[at] == FITTED):
+                    zeros = set(struct.unpack_from("<6Q", data, at + 2)[model.n :])
+                    seen[frozenset(zeros)] += 1
+        for zeros in ({0}, {models.SIGN}, {0, models.SIGN}):
+            self.assertGreater(seen[frozenset(zeros)], 50, seen)
+
+    def test_rubbish_beyond_n(self):
+        """Some percent of the files, in each kind and column, and beside every other fault."""
+        seen = collections.Counter()
+        for data in models.stream(SEED, 3_000):
+            read = exact.read_model(data)
+            if not isinstance(read, Refusal) or len(data) < 4:
+                continue
+            n, record = data[1], data[read.offset :]
+            if read.number != 16:
+                whole = record and len(record) > BODY_LENGTHS.get(record[0], 0)
+                seen["whole", read.number] += bool(whole and beyond(record, n))
+                cut = read.number == 1 and record and entry_places(record[0])[n:]
+                seen["cut"] += bool(cut and any(record[cut[0] :]))
+                continue
+            seen[16] += 1
+            rubbish = beyond(record, n)
+            seen[record[0]] += 1
+            seen["next"] += n in rubbish
+            seen["next alone"] += list(rubbish) == [n]
+            seen["last alone"] += n < 5 and list(rubbish) == [5]
+            seen["several"] += len(rubbish) > 1
+            seen["all"] += 1 < len(rubbish) == 6 - n
+            seen["n", n] += 1
+            entries = rubbish.values()
+            seen["1"] += record[0] != FITTED and set(entries) <= {1, -1}
+            seen["tiny"] += record[0] == FITTED and any(x % models.SIGN < 2**52 for x in entries)
+            seen["no number"] += record[0] == FITTED and any(map(no_entry, entries))
+            # What the record would be refused by without it.
+            size = entry_places(record[0]).step * (6 - n)
+            end = read.offset + 1 + BODY_LENGTHS[record[0]]
+            other = exact.read_model(data[: end - size] + bytes(size) + data[end:])
+            if isinstance(other, Refusal) and other.offset == read.offset:
+                seen["in place of", other.number, record[0]] += 1
+                seen["in place of", other.number] += 1
+        self.assertTrue(0.05 < seen[16] / 3_000 < 0.12, seen)
+        for what in (*ENTRY_KINDS, "next", "next alone", "last alone", "several", "all", "1",
+                     "tiny", "no number", "cut", ("whole", 3), ("whole", 9),
+                     *(("n", n) for n in range(1, 6)),
+                     *(("in place of", number) for number in (5, 6, 7, 15, 17)),
+                     ("in place of", 5, 0x02), ("in place of", 5, 0x03), ("in place of", 17, 0x05)):
+            self.assertGreater(seen[what], 2, (what, seen))
+        for number in (4, 5, 6, 7, 8, 15, 17):
+            self.assertEqual(seen["whole", number], 0, seen)
 
     def test_patterns_that_become_an_entry(self):
         rng = random.Random(6)

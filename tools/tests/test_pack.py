@@ -6,9 +6,10 @@ import re
 import unittest
 from dataclasses import replace
 from fractions import Fraction
+from pathlib import Path
 
 import helpers
-from helpers import box, run_tool
+from helpers import TOOLS, box, run_tool
 
 import exact
 import files
@@ -16,8 +17,8 @@ import models
 import pack
 import spelling
 from layout import (
-    FITTED, VERTICES, ZONOTOPE, Model, Set, encode, fitted_rows_of, float_of, guard, offsets,
-    pattern, states_drift, states_input,
+    BODY_LENGTHS, ENTRY_KINDS, FITTED, VERTICES, ZONOTOPE, Model, Set, encode, entry_places,
+    fitted_rows_of, float_of, guard, offsets, pattern, states_drift, states_input,
 )
 from listings import Refusal
 
@@ -976,12 +977,53 @@ class Command(helpers.FolderTest):
         self.assertEqual(run_tool("pack.py", "unpack", packed, "-o", again), (b"", "", 0))
         self.assertEqual(run_tool("pack.py", "pack", again)[0], packed.read_bytes())
 
-    def test_entries_beyond_n_are_told(self):
-        data = bytearray(pack.parse(GOOD).data)
-        data[4 + 2 + 8] = 1  # the third entry of row 0
+    def test_an_entry_beyond_n_is_told_with_its_record_and_column(self):
+        data = pack.parse(GOOD).data
+        starts = [at for at in offsets(data) if entry_places(data[at])]
+        names = ("row 0 (the first)", "row 1 (the second)", "the centre of the initial set",
+                 "generator 0 (the first) of the initial set",
+                 "vertex 0 (the first) of the input set", "vertex 1 (the second) of the input set",
+                 "direction 0 (the first)", "direction 1 (the second)")
+        self.assertEqual(len(starts), len(names))
+        for number, (at, record) in enumerate(zip(starts, names), start=1):
+            for column, which in ((2, "third"), (5, "sixth")):
+                changed = bytearray(data)
+                changed[at + entry_places(data[at])[column]] = 7
+                out, said, status = run_tool("pack.py", "unpack", "-", stdin=bytes(changed))
+                self.assertEqual((out, status), (b"", 1))
+                self.assertEqual(said, (
+                    f"standard input: refused 16 at {at}: {record}, record {number} of the file"
+                    f" from 0: entry 7 in column {column} (the {which}); n is 2, so that columns 2"
+                    " to 5 must be zero: put zeros there, or save the model with all of its"
+                    " coordinates\n"
+                ))
+
+    def test_a_text_packs_zeros_beyond_its_coordinates(self):
+        """All bytes there are zero, those of a sign too; also of what is unpacked."""
+        texts = [GOOD, NO_INPUT, GOOD.replace(FIRST, "fitted hot 0x1p-3 -2e-1")]
+        texts += [path.read_text() for path in sorted(Path(TOOLS, "../examples").glob("*.model"))]
+        for data in models.stream(21, 150):
+            if not isinstance(exact.read_model(data), Refusal):
+                texts.append(pack.unpack(data))
+        seen = set()
+        for text in texts:
+            data = pack.parse(text).data
+            for at in offsets(data):
+                if places := entry_places(data[at])[data[1] :]:
+                    end = at + 1 + BODY_LENGTHS[data[at]]
+                    self.assertEqual(data[at + places[0] : end], bytes(end - at - places[0]), text)
+                    seen.add(data[at])
+        self.assertEqual(seen, set(ENTRY_KINDS))
+
+    def test_negative_zeros_beyond_n_become_zeros_with_a_note(self):
+        plain = pack.parse(GOOD.replace(FIRST, "fitted 0.5 0.3")).data
+        data = bytearray(plain)
+        data[4 + 2 + 5 * 8 + 7] = 0x80
         out, said, status = run_tool("pack.py", "unpack", "-", stdin=bytes(data))
-        self.assertEqual((status, pack.parse(out.decode()).data), (0, pack.parse(GOOD).data))
-        self.assertIn("standard input: note: entries beyond n", said)
+        self.assertEqual((said, status),
+                         ("standard input: note: negative zeros beyond n become zeros\n", 0))
+        self.assertEqual(pack.parse(out.decode()).data, plain)
+        self.assertEqual(exact.listing(bytes(data)), exact.listing(plain))
 
     def test_rounding_is_told_unless_quiet(self):
         for entry, how in (("row hot ~0.97", "~"), ("fitted hot 0.97", "fitted")):
@@ -1003,12 +1045,13 @@ class Command(helpers.FolderTest):
         self.assertEqual(made, (b"", "", 0))
         self.assertIn("\nfitted hot 0.125 -0.2\n", again.read_text())
         self.assertEqual(run_tool("pack.py", "pack", again)[0], packed.read_bytes())
-        # Entries beyond n, here a NaN, are left out with a note.
+        # An entry beyond n, here a NaN, is told.
         data = bytearray(packed.read_bytes())
         data[4 + 2 + 2 * 8 : 4 + 2 + 3 * 8] = b"\xff" * 8
         out, said, status = run_tool("pack.py", "unpack", "-", stdin=bytes(data))
-        self.assertEqual((status, pack.parse(out.decode()).data), (0, packed.read_bytes()))
-        self.assertIn("standard input: note: entries beyond n", said)
+        self.assertEqual((out, status), (b"", 1))
+        self.assertIn("refused 16 at 4: fitted row 0 (the first), record 1 of the file from 0:"
+                      " entry nan in column 2 (the third); n is 2,", said)
         # With a wrong first byte it is still told from a text.
         data[0] = 0
         said = run_tool("pack.py", "pack", "-", stdin=bytes(data))[1]
@@ -1060,10 +1103,9 @@ class Command(helpers.FolderTest):
                 self.assertEqual(given, (told.encode(), "", 0))
         out = b"entries changed by rounding: none of 4\n"
         self.assertEqual(run_tool("pack.py", "rounded", self.text), (out, "", 0))
-        # Entries beyond n are no entries of the matrix, here a NaN.
+        # Negative zeros beyond n are no entries of the matrix.
         data = bytearray(packed.read_bytes())
-        at = 4 + 26 + 2 + 2 * 8
-        data[at : at + 8] = b"\xff" * 8
+        data[4 + 26 + 2 + 2 * 8 + 7] = 0x80
         self.assertEqual(run_tool("pack.py", "rounded", "-", stdin=bytes(data)),
                          run_tool("pack.py", "rounded", packed))
 
@@ -1072,6 +1114,7 @@ class Command(helpers.FolderTest):
         wrong = GOOD.replace("steps 7", "steps 0").replace("0.5", "0.97").encode()
         beyond = bytearray(pack.parse(GOOD.replace(FIRST, "fitted 0.5 0.3")).data)
         beyond[4 + 2 + 7] = 0x7F
+        rubbish = bytes(beyond[: 4 + 2 + 47]) + b"\x01" + bytes(beyond[4 + 2 + 48 :])
         good = pack.parse(GOOD).data
         for data, other, message in (
             (wrong, "pack", "standard input:3: steps 0"),
@@ -1081,6 +1124,7 @@ class Command(helpers.FolderTest):
             (good[:-1], "unpack", "standard input: refused 1 at 226: "),
             (good + b"\0", "unpack", "standard input: refused 10 at "),
             (bytes(beyond), "unpack", "standard input: refused 15 at 4: "),
+            (rubbish, "unpack", "standard input: refused 16 at 4: "),
         ):
             with self.subTest(message):
                 out, said, status = run_tool("pack.py", "rounded", "-", stdin=data)

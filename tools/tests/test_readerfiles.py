@@ -8,7 +8,20 @@ from helpers import run_tool
 
 import exact
 import readerfiles
-from layout import LONGEST_FILE, offsets, point, states_input
+from layout import (
+    BODY_LENGTHS, ENTRY_KINDS, LONGEST_FILE, beyond, entry_places, offsets, point, states_input,
+)
+from listings import Refusal
+
+
+def without_rubbish(data, n):
+    """A file with zero bytes in all entries beyond n."""
+    kept = bytearray(data)
+    for at in offsets(data):
+        if places := entry_places(data[at])[n:]:
+            end = at + 1 + BODY_LENGTHS[data[at]]
+            kept[at + places[0] : end] = bytes(end - at - places[0])
+    return bytes(kept)
 
 
 class ReaderFiles(unittest.TestCase):
@@ -23,7 +36,7 @@ class ReaderFiles(unittest.TestCase):
             ("steps of 1 in the head", "model 1 1"),
             ("steps of 60 in the head", "model 1 60"),
             ("steps of 120 in the head", "model 1 120"),
-            ("any numbers beyond n", "model 1 3"),
+            ("any numbers beyond n", "refused 16 at 4"),
             ("at the start: no byte", "refused 1 at 0"),
             ("at the start: kind 01 alone", "refused 1 at 0"),
             ("at the start: kind 00 alone", "refused 2 at 0"),
@@ -42,13 +55,17 @@ class ReaderFiles(unittest.TestCase):
             ("head 7 3", "refused 4 at 0"),
             ("second row is number 0", "refused 5 at 30"),
             ("crossed corners at 21", "refused 6 at 80"),
-            ("direction [0, 1], n 1", "refused 7 at 105"),
+            ("direction [0], n 1", "refused 7 at 105"),
+            ("direction [0, 1], n 1", "refused 16 at 105"),
             ("guard on direction 1 of 1", "refused 8 at 130"),
             ("the sample, then many bytes", "refused 10 at 186"),
             ("the longest file with scaled rows, then a byte", "refused 10 at 1521"),
             ("a wrong row without its last byte", "refused 1 at 4"),
             ("its first 115 bytes", "refused 1 at 115"),
             ("all bits changed of byte 115", "refused 2 at 115"),
+            ("all bits changed of byte 9", "refused 5 at 4"),  # the last of the entry that counts
+            ("all bits changed of byte 10", "refused 16 at 4"),
+            ("all bits changed of byte 104", "refused 16 at 80"),
             ("after 11: kind 30 alone", "refused 1 at 80"),
             ("after 13: kind 30 alone", "refused 1 at 80"),
             ("after 14: kind 30 alone", "refused 1 at 55"),
@@ -77,7 +94,7 @@ class ReaderFiles(unittest.TestCase):
             ("no input set: longest with vertices", "model 6 256"),
             ("input set from zero to zero: longest with vertices", "model 6 256"),
             ("no input set: the head says 0 steps", "model 1 120"),
-            ("no input set: any numbers beyond n", "model 1 3"),
+            ("no input set: any numbers beyond n", "refused 16 at 4"),
             ("no input set: a 17th direction", "refused 9 at 481"),  # 81 + 16 * 25
             ("no input set: guard on direction 1 of 1", "refused 8 at 106"),
             # 1,521 - 400
@@ -93,7 +110,7 @@ class ReaderFiles(unittest.TestCase):
             ("after 03 of 2 rows: kind 02", "refused 1 at 54"),
             ("after 03 of 2 rows: kind 10", "refused 3 at 54"),
             ("rows 03 02 03", "model 3 1"),
-            ("fitted rows, any bits beyond n 1", "model 1 1"),
+            ("fitted rows, any bits beyond n 1", "refused 16 at 4"),
             ("fitted entry: the next above 2", "refused 15 at 4"),
             ("fitted entry: minus the first signalling NaN", "refused 15 at 4"),
             ("wrong fitted entry 5 of 6", "refused 15 at 254"),  # 4 + 5 * 50
@@ -103,8 +120,8 @@ class ReaderFiles(unittest.TestCase):
             ("second row is number 2, 02 then 03", "refused 5 at 30"),
             ("second row is number 0, wrong entry", "refused 5 at 54"),
             ("a wrong fitted row without its last byte", "refused 1 at 4"),
-            ("a scaled row with kind 03", "refused 2 at 54"),  # in zeros of the lower corner
-            ("a fitted row with kind 02", "refused 2 at 30"),
+            ("a scaled row with kind 03", "refused 16 at 4"),  # the kind 10 is in its entry 3
+            ("a fitted row with kind 02", "refused 16 at 4"),  # with the high half of 0.5 in 1
             ("a fitted row, all bits changed of byte 5", "refused 5 at 4"),
             ("a fitted row, all bits changed of byte 13", "refused 15 at 4"),  # sign, exponent
             ("longest with vertices and fitted rows", "model 6 256"),
@@ -129,7 +146,7 @@ class ReaderFiles(unittest.TestCase):
             ("drift entry 5 of 6 is 1048577", "refused 17 at 160"),  # 4 + 6 * 26
             ("no input set: drift at its limits, n 6", "model 6 1"),
             ("drift of -2147483648", "refused 17 at 30"),
-            ("drift, any numbers beyond n 1", "model 1 1"),
+            ("drift, any numbers beyond n 1", "refused 16 at 30"),
             ("a wrong drift without its last byte", "refused 1 at 30"),
             ("a wrong drift a second time", "refused 3 at 55"),
             # 4 + 6 * 26 + 25 + 25 is 210; accepted so far, where the end may not stand.
@@ -146,13 +163,59 @@ class ReaderFiles(unittest.TestCase):
             ("6 at the initial set", "refused 6 at 81"),
             ("longest with vertices, fitted rows and a drift", "model 6 256"),
             ("the longest file, then a byte", "refused 10 at 1690"),
+            ("02, n 1: column 1 is not zero", "refused 16 at 4"),
+            ("02, n 5: column 5 is not zero", "refused 16 at 108"),  # 4 + 4 * 26
+            ("03, n 3: column 4 is not zero", "refused 16 at 56"),  # behind scaled rows
+            ("05, n 2: column 5 is not zero", "refused 16 at 56"),
+            ("10, n 4: column 4 is not zero", "refused 16 at 108"),
+            ("11, n 1: column 2 is not zero", "refused 16 at 55"),
+            ("13, n 5: column 5 is not zero", "refused 16 at 159"),  # 4 + 5 * 26 + 25
+            ("20, n 2: column 3 is not zero", "refused 16 at 81"),
+            ("24, n 1: column 5 is not zero", "refused 16 at 55"),
+            ("30, n 3: column 3 is not zero", "refused 16 at 107"),
+            ("23, n 4: no column beyond is zero", "refused 16 at 158"),
+            ("02 with number 255, n 1: column 1 is not zero", "refused 16 at 4"),
+            ("03 with number 5, n 5: column 5 is not zero", "refused 16 at 108"),
+            ("02 with a wrong entry, n 3", "refused 5 at 56"),
+            ("02 with a wrong entry, n 3: column 5 is not zero", "refused 16 at 56"),
+            ("03 with a wrong entry, n 1", "refused 15 at 4"),
+            ("03 with a wrong entry, n 1: column 5 is not zero", "refused 16 at 4"),
+            ("05 with a wrong entry, n 5", "refused 17 at 134"),
+            ("05 with a wrong entry, n 5: column 5 is not zero", "refused 16 at 134"),
+            ("24 with a wrong entry, n 5", "refused 6 at 159"),
+            ("24 with a wrong entry, n 5: column 5 is not zero", "refused 16 at 159"),
+            ("30 with a wrong entry, n 2: column 5 is not zero", "refused 16 at 81"),
+            ("30 with zeros up to n, n 2: column 3 is not zero", "refused 16 at 81"),
+            ("crossed corners at 21, n 2: column 2 is not zero", "refused 16 at 106"),
+            ("sum beyond its limit at 24, n 2: column 4 is not zero", "refused 16 at 106"),
+            ("03 with rubbish, without its last byte, n 4", "refused 1 at 82"),
+            ("30 with rubbish, without its last byte, n 4", "refused 1 at 133"),
+            ("02 with rubbish behind a guard, n 1", "refused 3 at 90"),  # 4 + 26 + 25 + 25 + 10
+            ("02 with rubbish before the head, n 1", "refused 3 at 0"),
+            ("one 13 too many, with rubbish", "refused 9 at 333"),  # 4 + 4 * 26 + 9 * 25
+            ("the last 13 with rubbish", "refused 16 at 308"),
+            ("one 30 too many, with rubbish", "refused 9 at 533"),
+            ("fitted rows, zeros beyond n 1", "model 1 1"),
+            ("fitted rows, negative zeros beyond n 5", "model 5 1"),
+            ("fitted row, zeros of either sign beyond n 1", "model 1 3"),
+            ("fitted row, the smallest in column 5 beyond n 1", "refused 16 at 4"),
+            ("fitted row, minus the first quiet NaN in column 1 beyond n 1", "refused 16 at 4"),
+            ("the sample with a bit in the last column of 30", "refused 16 at 130"),
+            ("zeros in place of: any numbers beyond n", "model 1 3"),
+            ("zeros in place of: drift, any numbers beyond n 5", "model 5 1"),
+            ("three coordinates saved from four", "refused 16 at 4"),
+            ("three coordinates saved from four, and zeros beyond", "model 3 1"),
+            ("rubbish in both rows", "refused 16 at 4"),
+            ("rubbish in the second row", "refused 16 at 30"),
+            ("rubbish in the second row, and a wrong entry in the first", "refused 5 at 4"),
         ):
             self.assertEqual(self.replies.get(what), reply, what)
 
     def test_every_number(self):
         refused = [reply for reply in self.replies.values() if reply.startswith("refused")]
-        self.assertEqual({int(reply.split()[1]) for reply in refused}, {*range(1, 11), 15, 17})
-        self.assertLess(len(self.files), 1_100)
+        numbers = {int(reply.split()[1]) for reply in refused}
+        self.assertEqual(numbers, {*range(1, 11), *range(15, 18)})
+        self.assertLess(len(self.files), 1_500)
 
     def test_a_head_that_says_0_is_read_as_one_that_says_120(self):
         """File 4, of every file with a whole head, whatever it holds and wherever it is refused."""
@@ -164,7 +227,8 @@ class ReaderFiles(unittest.TestCase):
                 )
                 self.assertEqual(none, said, what)
                 replies.add(int(none.split()[1]) if none.startswith("refused") else none)
-        self.assertLessEqual({"model 1 120", "model 6 120", *range(1, 11), 15, 17}, replies)
+        numbers = {*range(1, 11), *range(15, 18)}
+        self.assertLessEqual({"model 1 120", "model 6 120", *numbers}, replies)
 
     def test_places(self):
         """The start and behind each of 16 kinds; 42 pairs of a place and a kind are allowed."""
@@ -193,7 +257,7 @@ class ReaderFiles(unittest.TestCase):
         self.assertEqual(len(dict(accepted)[longest[0]]), LONGEST_FILE)
 
     def test_drift(self):
-        """A drift of zeros is none; numbers beyond n are none; each sum at its limit is let in."""
+        """A drift of zeros is none; zeros beyond n are let in; and so is each sum at its limit."""
         files = dict(self.files)
         zero = [what for what in files if what.startswith("drift of zeros: ")]
         self.assertEqual(len(zero), 3)
@@ -202,11 +266,53 @@ class ReaderFiles(unittest.TestCase):
             self.assertEqual(readerfiles.with_zero_drift(without)[1], files[what])
             self.assertEqual(exact.read_model(files[what]), exact.read_model(without))
         for n in range(1, 6):
-            read = exact.read_model(files[f"drift, any numbers beyond n {n}"])
+            what = f"drift, any numbers beyond n {n}"
+            self.assertEqual(exact.read_model(files[what]), Refusal(16, 4 + 26 * n))
+            read = exact.read_model(files[f"zeros in place of: {what}"])
             self.assertEqual(read.drift, (7,) * n)
         for what in ("eight generators", "corners"):
             read = exact.read_model(files[f"sums at their limit with {what}"])
             self.assertEqual(exact.entering_reach(read.input, read.drift), (1_048_576,) * 2)
+
+    def test_each_column_beyond_n_of_each_kind(self):
+        """A file for each, and with zeros there another reply; nothing else is wrong in it."""
+        files = dict(self.files)
+        places = [(kind, n, column) for kind in ENTRY_KINDS for n in range(1, 6)
+                  for column in range(n, 6)]
+        self.assertEqual(len(places), 14 * 15)
+        for kind, n, column in places:
+            what = f"{kind:02X}, n {n}: column {column} is not zero"
+            data, at = files[what], len(files[what]) - 1 - BODY_LENGTHS[kind]
+            self.assertEqual(self.replies[what], f"refused 16 at {at}")
+            self.assertEqual((data[at], list(beyond(data[at:], n))), (kind, [column]))
+            cleaned = without_rubbish(data, n)
+            self.assertEqual(readerfiles.reply(cleaned), f"refused 1 at {len(data)}")
+
+    def test_zeros_beyond_n(self):
+        """Either zero in fitted rows gives the same listing; so do zeros in place of rubbish."""
+        files = dict(self.files)
+        for n in range(1, 6):
+            plain, negative, rubbish = (
+                files[f"fitted rows, {what} beyond n {n}"]
+                for what in ("zeros", "negative zeros", "any bits")
+            )
+            self.assertEqual(exact.listing(plain), exact.listing(negative))
+            self.assertNotEqual(plain, negative)
+            self.assertEqual(self.replies[f"fitted rows, zeros beyond n {n}"], f"model {n} 1")
+            self.assertEqual(without_rubbish(rubbish, n), plain)
+            self.assertEqual(without_rubbish(negative, n), plain)
+        sample, mixed = (files[what] for what in (
+            "the sample of the specification", "fitted row, zeros of either sign beyond n 1"
+        ))
+        self.assertEqual(exact.listing(mixed), exact.listing(sample))
+        places = [what for what in files if what.startswith("zeros in place of: ")]
+        self.assertEqual(len(places), 8)
+        for what in places:
+            data = files[what.removeprefix("zeros in place of: ")]
+            self.assertEqual(without_rubbish(data, data[1]), files[what])
+        saved = files["three coordinates saved from four"]
+        self.assertEqual(without_rubbish(saved, 3), files["three coordinates saved from four, and"
+                                                          " zeros beyond"])
 
     def test_with_zero_drift(self):
         rows, rest = readerfiles.ROWS, point(0x14, [1, 2])

@@ -127,8 +127,8 @@ class Words(unittest.TestCase):
     def test_7_directions(self):
         self.told(SETS + direction([1_001]), "refused 7 at 80: direction 0 (the first): entry 1,001"
                                              " in column 0 (the first) must be -1,000 to 1,000")
-        self.told(ASKED + direction([0, 1]), "refused 7 at 105: direction 1 (the second): its entry"
-                                             " is zero; one must not be (those beyond n, 1, don't")
+        self.told(ASKED + direction([0]), "refused 7 at 105: direction 1 (the second): its entry"
+                                          " is zero; one must not be")
         self.told(TWO + point(0x14, []) + point(0x24, []) + direction([]), "all of its 2 entries")
 
     def test_8_guards(self):
@@ -158,13 +158,40 @@ class Words(unittest.TestCase):
             self.told(head(2, 3) + row(0, []) + fitted(1, [0, bits]),
                       f"refused 15 at 30: fitted row 1 (the second): entry {shown} in column 1 (the"
                       " second) must be a number from -2 to 2")
-        wrong = fitted(0, [pattern(2.5), pattern(-3.0), pattern(9.0)])
+        wrong = fitted(0, [pattern(2.5), pattern(-3.0), 0])
         said = refusal.message("rail", head(2, 3) + wrong)
         self.assertEqual(said.count("must be a number"), 2)
         self.assertNotIn("says number", said)
 
+    def test_16_beyond_n(self):
+        """Record, columns and entries of each kind, and what to do; a wrong value is not told."""
+        for start, record, name, number in (
+            (head(2, 3) + row(0, [5, 5]), row(1, [5, 5, 7]), "row 1 (the second)", 2),
+            (head(2, 3), row(9, [131_073, 5, 7]), "row 0 (the first)", 1),
+            (TWO, drift([5, 5, 7]), "the drift", 3),
+            (TWO, point(0x10, [5, 5, 7]), "the lower corner of the initial set", 3),
+            (TWO + point(0x12, [1]), point(0x13, [5, 5, 7]),
+             "generator 0 (the first) of the initial set", 4),
+            (TWO + point(0x14, [1]), point(0x14, [5, 5, 7]),
+             "vertex 1 (the second) of the initial set", 4),
+            (TWO + point(0x14, [1]) + point(0x20, [1]), point(0x21, [5, 5, 7]),
+             "the upper corner of the input set", 5),
+            (TWO + point(0x14, [1]), direction([0, 0, 7]), "direction 0 (the first)", 4),
+        ):
+            self.assertEqual(refusal.message("rail", start + record), (
+                f"rail: refused 16 at {len(start)}: {name}, record {number} of the file from 0:"
+                " entry 7 in column 2 (the third); n is 2, so that columns 2 to 5 must be zero: put"
+                " zeros there, or save the model with all of its coordinates"
+            ))
+        last = head(5, 3) + row(0, [5, 5, 5, 5, 5, -1_000])
+        self.told(last, "entry -1,000 in column 5 (the sixth); n is 5, so that column 5 must be")
+        nan, least = 0x7FF8 << 48, 1 << 63 | 1
+        self.told(head(1, 3) + fitted(0, [0, nan, 0, 1 << 63, least]),
+                  "refused 16 at 4: fitted row 0 (the first), record 1 of the file from 0: entry"
+                  " nan in column 1 (the second); entry -5e-324 in column 4 (the fifth); n is 1,")
+
     def test_17_the_drift(self):
-        self.told(TWO + drift([1_048_577, -(2**31), 9]),
+        self.told(TWO + drift([1_048_577, -(2**31)]),
                   "refused 17 at 56: the drift: entry 1,048,577 in coordinate 0 (the first) must be"
                   " -1,048,576 to 1,048,576; entry -2,147,483,648 in coordinate 1 (the second)")
         start = TWO + drift([9, -1_048_570]) + point(0x14, [])
@@ -193,7 +220,7 @@ class Words(unittest.TestCase):
         """Number and offset are those of the replies, and no sentence serves two numbers."""
         numbers = {}
         replies = (ROOT / "crates" / "readings" / "stdout").read_text().splitlines()
-        self.assertEqual(len(replies), 1_052)
+        self.assertEqual(len(replies), 1_416)
         for name, reply in (line.split(": ") for line in replies):
             data = (ROOT / "crates" / "readings" / "data" / name).read_bytes()
             said = refusal.message("f", data)
@@ -203,7 +230,8 @@ class Words(unittest.TestCase):
             self.assertTrue(said.startswith(f"f: {reply}: "), said)
             numbers.setdefault(said.split(": ", 2)[2], set()).add(reply.split()[1])
         self.assertEqual({len(of_one) for of_one in numbers.values()}, {1})
-        self.assertEqual(set().union(*numbers.values()), {str(i) for i in (*range(1, 11), 15, 17)})
+        expected = {str(i) for i in (*range(1, 11), *range(15, 18))}
+        self.assertEqual(set().union(*numbers.values()), expected)
 
 
 class Command(FolderTest):
