@@ -56,9 +56,9 @@ pub enum Verdict {
 /// Why a call was refused. What it was lent is as it was.
 #[derive(Clone, Copy, PartialEq, Eq, Hash, Debug)]
 pub enum Refusal {
-    /// The bytes are no model: the number that says why (Refusals 1 to 10, 15, 17), and the offset that goes with it (Reading 2).
+    /// The bytes are no model: the number that says why (Refusals 1 to 10, 15 to 17), and the offset that goes with it (Reading 2).
     File {
-        /// The number, 1 to 10, 15 or 17.
+        /// The number, 1 to 10 or 15 to 17.
         number: u8,
         /// Where the record at fault begins; for 10, where the bytes behind the end begin; the length where no byte is left.
         offset: usize,
@@ -74,7 +74,7 @@ pub enum Refusal {
 }
 
 impl Refusal {
-    /// The number of the refusal, 1 to 15 or 17, by the clauses "Refusals" of the specification.
+    /// The number of the refusal, 1 to 17, by the clauses "Refusals" of the specification.
     pub fn number(self) -> u8 {
         match self {
             Refusal::File { number, .. } => number,
@@ -100,6 +100,7 @@ fn reason(number: u8) -> &'static str {
         9 => "there is one generator, vertex, direction or guard too many",
         10 => "bytes follow the end",
         15 => "an entry of a fitted row is not finite, or beyond 2 in magnitude",
+        16 => "an entry beyond n is not zero",
         17 => "the drift is too large, or the input set reaches too far together with it",
         _ => "the file is no model",
     }
@@ -155,7 +156,7 @@ fn unpack(answer: u64) -> Result<(u8, u64), Refusal> {
     let figure = answer >> 16;
     match number {
         0 => Ok((verdict, figure)),
-        1..=10 | 15 | 17 => Err(Refusal::File { number, offset: figure as usize }),
+        1..=10 | 15..=17 => Err(Refusal::File { number, offset: figure as usize }),
         11 => Err(Refusal::Invalid),
         12 => Err(Refusal::NoSuchNumber),
         13 => Err(Refusal::WrongLength),
@@ -183,7 +184,7 @@ pub fn step(n: usize, matrix: &[i32; 36], r: &mut [i64; 6], e: &mut [i64; 6]) ->
 ///
 /// Both lists have to be K + 1 long. A file is refused by [`Refusal::File`]; then [`Refusal::NoSuchNumber`],
 /// [`Refusal::WrongLength`] and [`Refusal::Growth`] are tested, in this order, and the lists keep every element. (Before version
-/// 0.5.0 there was no 15, and before 0.6.0 no 17.)
+/// 0.5.0 there was no 15, before 0.6.0 no 17, and before 0.7.0 no 16: entries beyond n were ignored.)
 pub fn sweep(file: &[u8], direction: usize, bounds: &mut [i64], slacks: &mut [i64]) -> Result<u32, Refusal> {
     // SAFETY: the routine reads the file's bytes, writes within the two lists alone, which do not overlap, and keeps no pointer.
     let answer = unsafe {

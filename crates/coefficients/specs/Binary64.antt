@@ -1,6 +1,6 @@
 -- File 11: the value of a fitted entry, a binary64 number of IEEE 754, from its 64 bits and over whole numbers. Definitions only.
 -- Assumes nothing.
-use mathlib.Core.Bool.{Bool, cond}
+use mathlib.Core.Bool.{Bool, cond, _&&_}
 use Prim.Native.Nat.{ℕ, _+_, _*_, _-_, _/_, _%_, _^_}
 use lib.Dec.{eqb, leb, ltb}
 use lib.IntN.{ℤ, pos, negℤ}
@@ -40,3 +40,7 @@ signed negative n = cond negative (negℤ (pos n)) (pos n)
 -- File 11: the exact value of a finite number, counted in 1 / 2^1074.
 abbrev pub exactValue : ℕ → ℤ
 exactValue bits = signed (isNegative bits) (magnitudeOf bits)
+
+-- File 11: zero, which has two patterns.
+unfoldable pub isZero : ℕ → Bool
+isZero bits = isFinite bits && eqb (magnitudeOf bits) 0

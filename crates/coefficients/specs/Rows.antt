@@ -1,9 +1,7 @@
--- File 7, Refusals 5 and 15: what the six entries of a row come to. A row is told as the answers to its entries. Definitions only.
--- Assumes nothing.
-use mathlib.Core.Bool.{cond}
+-- Refusals 5 and 15: what the six entries of a row come to. A row is told as the answers to its entries. Definitions only. Not here:
+-- that those beyond n are zero (Refusals 16, `columns`). Assumes nothing.
 use mathlib.Core.List.{List}
 use Prim.Native.Nat.{ℕ, zero, suc}
-use lib.Dec.{ltb}
 use lib.ListN.{getD}
 use lib.IntN.{ℤ, pos}
 use lib.Ieee.{Float, nan}
@@ -12,7 +10,6 @@ use Rattle.arrays.specs.Tests.{firstOf}
 use Rattle.coefficients.specs.declared.Coefficient.{Coefficient}
 use Rattle.coefficients.specs.declared.Coefficient.the-variants.{Scaled, Fitted}
 use Rattle.coefficients.specs.declared.EntryAnswer.{EntryAnswer}
-use Rattle.coefficients.specs.declared.EntryAnswer.the-variants.{Entry}
 use Rattle.coefficients.specs.declared.rows.RowEntries.{RowEntries}
 use Rattle.coefficients.specs.Entries.{entryNumber, entryValue, entryOf}
 
@@ -21,20 +18,16 @@ unfoldable pub firstNumber : ℕ → (ℕ → EntryAnswer) → ℕ
 firstNumber zero row = 0
 firstNumber (suc k) row = firstOf (firstNumber k row) (entryNumber (row k))
 
--- File 7: an entry beyond n is not looked at, and zero is stored for it.
-abbrev pub answerAt : ℕ → (ℕ → EntryAnswer) → ℕ → EntryAnswer
-answerAt n row i = cond (ltb i n) (row i) (Entry (pos 0))
+-- Refusals 5 and 15 of the six. A zero passes, so one beyond n refuses nothing.
+abbrev pub entriesNumber : (ℕ → EntryAnswer) → ℕ
+entriesNumber row = firstNumber 6 row
 
--- Refusals 5 and 15 of the first n entries.
-abbrev pub entriesNumber : ℕ → (ℕ → EntryAnswer) → ℕ
-entriesNumber n row = firstNumber 6 (answerAt n row)
+-- File 12: the stored row.
+abbrev pub storedSix : (ℕ → EntryAnswer) → List ℤ
+storedSix row = tabulate 6 (λ i. entryValue (row i))
 
--- File 7, File 12: the stored row.
-abbrev pub storedSix : ℕ → (ℕ → EntryAnswer) → List ℤ
-storedSix n row = tabulate 6 (λ i. entryValue (answerAt n row i))
-
-unfoldable pub entriesOf : ℕ → (ℕ → EntryAnswer) → RowEntries
-entriesOf n row = record { number = entriesNumber n row; six = storedSix n row }
+unfoldable pub entriesOf : (ℕ → EntryAnswer) → RowEntries
+entriesOf row = record { number = entriesNumber row; six = storedSix row }
 
 -- The answers to six entries of either kind, to six scaled ones, and to six fitted ones.
 abbrev pub mixedRow : List Coefficient → ℕ → EntryAnswer

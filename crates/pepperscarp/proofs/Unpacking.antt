@@ -42,11 +42,10 @@ packed-unpacks number verdict figure h k = record { number-is = omega arith; ver
 
 -- ---- the answers
 
--- a file's number is 1 to 10, 15 or 17
+-- a file's number is 1 to 10 or 15 to 17
 small : {number : ℕ} → FileNumber number → number < 256
 small (inl h) = omega (arith, h)
-small (inr (inl e)) = omega (arith, e)
-small (inr (inr e)) = omega (arith, e)
+small (inr h) = omega (arith, h .1)
 
 pub refused-unpacks : (file : List ℕ) (number offset : ℕ) → readModel file .status ≡ Refused number offset → Unpacks (packed number 0 offset) number 0 offset
 refused-unpacks file number offset e = packed-unpacks number 0 offset (small (readModel-told file number offset e .known)) (omega arith)

@@ -1,6 +1,6 @@
 -- What every state that the reader reaches satisfies, and that each record that is not refused keeps it. In order: the start; each
 -- kind of record; any record. Assumes nothing.
-use mathlib.Core.Path.{_≡_, refl, sym, ap₂, subst, _∙_}
+use mathlib.Core.Path.{_≡_, refl, sym, ap, ap₂, subst, _∙_}
 use mathlib.Core.Bool.{Bool, true, false, cond, _&&_, _||_}
 use mathlib.Core.List.{List}
 use Prim.Native.Nat.{ℕ, _+_, _*_, _≤_, _<_}
@@ -8,7 +8,7 @@ use native.Mathlib.Omega.{arith}
 use borrow.Author.Tests.{le-leb, leb-true, ltb-true, eqb-true, eqb-false, leb-false}
 use lib.Dec.{leb, ltb, eqb}
 use lib.ListN.{length-set, replicate}
-use lib.IntN.{natAbs}
+use lib.IntN.{ℤ, pos, natAbs}
 use lib.Signed.{leZ}
 use Rattle.integers.specs.Sums.{allBelow}
 use Rattle.integers.proofs.Booleans.{and-true}
@@ -18,8 +18,10 @@ use Rattle.arrays.proofs.Tests.{zeroOutside-of}
 use Rattle.arrays.proofs.FirstOf.{firstOf-zero}
 use Rattle.stepping.specs.Limits.{entryLimit}
 use Rattle.stepping.specs.Refusals.{dimensionOk}
-use Rattle.coefficients.specs.Entries.{entryValue}
+use Rattle.coefficients.specs.Binary64.{isZero}
+use Rattle.coefficients.specs.Entries.{entryOfBits, scaledEntry, entryValue}
 use Rattle.coefficients.specs.Rows.{storedSix}
+use Rattle.coefficients.proofs.ZeroBits.{entry-zero}
 use Rattle.coefficients.proofs.RowLaws.{storedSix-within, storedSix-beyond, scaledEntry-ind, entryOfBits-ind}
 use Rattle.records.specs.Numbers.{littleEndian, signedAt}
 use Rattle.limits.specs.Limits.{directionLimit, stepsOk}
@@ -29,15 +31,18 @@ use Rattle.records.specs.declared.order.Part.{Part}
 use Rattle.records.specs.declared.order.Part.the-variants.{Head, Row, Drift, Initial, Input, Direction, Guard, End}
 use Rattle.reader.specs.declared.state.State.{State}
 use Rattle.records.specs.Order.{partOf}
+use Rattle.columns.specs.Columns.{scaledAt, bitsAt, entryZero, rowZero, partZero}
+use Rattle.columns.proofs.ColumnLaws.{unusedZero-at, entryZero-is}
 use Rattle.reader.specs.Order.{mostOf}
 use Rattle.reader.specs.Models.{zeros, blankSet, blankModel, start, firstByte, usualSteps, defaultSteps, rowAnswer, rowPlace, withHead, withRow, withDrift, withPoint, withSetPoint, inputAt, withDirection, withGuard}
-use Rattle.reader.specs.Values.{headOk, driftOk, pointOk, enteringPointOk, directionOk, guardOk, valueNumber}
+use Rattle.reader.specs.Values.{headOk, driftOk, pointOk, enteringPointOk, directionOk, guardOk, valueNumber, bodyNumber}
 use Rattle.reader.specs.Refusals.{countOf, kindNumber, storedIn, stored}
+use Rattle.reader.proofs.BodyNumbers.{passed, bodyNumber-zero}
 use Rattle.reader.proofs.order.KindNumbers.{kindNumber-zero, lt-of-mostOf}
 use Rattle.reader.proofs.RowAnswers.{rowAnswer-ind}
 use Rattle.reader.proofs.RowsOfSix.{vector-zeros, zeros-blank, small-blank, nonzero-none, guarded-more, guarded-set}
 use Rattle.reader.proofs.OrderFacts.{isDone, pointMay, point-low, point-high, fact, order-fact, isDone-late, isDone-early}
-use Rattle.reader.proofs.PartsSoFar.{passed, FrameAt, n-least, frame-on, frame-row, SetAt, set-early, set-late, set-point, DriftAt, drift-early, drift-blank, drift-new, drift-point, drift-late, drift-zero-box, DirectionsAt, directions-early, directions-late, directions-more, GuardsAt}
+use Rattle.reader.proofs.PartsSoFar.{Beyond, sixAt-beyond, FrameAt, n-least, frame-on, frame-row, SetAt, set-early, set-late, set-point, DriftAt, drift-early, drift-blank, drift-new, drift-point, drift-late, drift-zero-box, DirectionsAt, directions-early, directions-late, directions-more, GuardsAt}
 
 -- ---- the whole state
 
@@ -168,15 +173,27 @@ answer-within =
     (λ bits. entryOfBits-ind (λ a. natAbs (entryValue a) ≤ entryLimit) bits (λ h. h) (omega arith))
     (λ entry. scaledEntry-ind (λ a. natAbs (entryValue a) ≤ entryLimit) entry (λ h. h) (omega arith))
 
+-- Limits 9: for a zero, of either sign in a fitted row, a row stores zero
+scaled-zero : entryValue (scaledEntry (pos 0)) ≡ pos 0
+unfolding scaledEntry
+scaled-zero = refl
+
+answer-zero : (kind : ℕ) (body : List ℕ) (i : ℕ) → rowZero kind body i ≡ true → entryValue (rowAnswer kind body i) ≡ pos 0
+answer-zero kind body i z = split (eqb kind 0x03) z
+  where
+    split : (b : Bool) → cond b (isZero (bitsAt body i)) (entryZero body 1 i) ≡ true → entryValue (cond b (entryOfBits (bitsAt body i)) (scaledEntry (scaledAt body i))) ≡ pos 0
+    split true t = ap entryValue (entry-zero (bitsAt body i) t)
+    split false t = ap (λ (z : ℤ). entryValue (scaledEntry z)) (entryZero-is body 1 i t) ∙ scaled-zero
+
 module _ (s : State) (kind : ℕ) (body : List ℕ) (g : AcceptedSoFar s) where
-  so-far-row : s .last ≡ 1 → AcceptedSoFar (withRow s kind body)
+  so-far-row : s .last ≡ 1 → ((i : ℕ) → s .model .n ≤ i → i < 6 → rowZero kind body i ≡ true) → AcceptedSoFar (withRow s kind body)
   unfolding withRow
-  so-far-row e =
+  so-far-row e beyond =
       let r = row-place-range (s .rows + 1) (s .model .n) in
       let p = rowPlace (s .rows + 1) (s .model .n) in
       record {
         first = λ z. absurd (omega (arith, r .0));
-        frame = frame-row (g .frame) (storedSix (s .model .n) (rowAnswer kind body)) e (storedSix-within (s .model .n) (rowAnswer kind body) (answer-within kind body)) (storedSix-beyond (s .model .n) (rowAnswer kind body));
+        frame = frame-row (g .frame) (storedSix (rowAnswer kind body)) e (storedSix-within (rowAnswer kind body) (answer-within kind body)) (storedSix-beyond (s .model .n) (rowAnswer kind body) (λ i h l. answer-zero kind body i (beyond i h l)));
         initial = set-early (g .initial) p (omega arith) (omega (arith, r .1));
         input = set-early (g .input) p (omega arith) (omega (arith, r .1));
         drift = drift-early p (omega (arith, r .1)) (λ l. g .drift .none (omega arith)) (g .drift .beyond) (g .drift .small);
@@ -184,25 +201,25 @@ module _ (s : State) (kind : ℕ) (body : List ℕ) (g : AcceptedSoFar s) where
         guards = g .guards;
       }
 
-  so-far-drift : kind ≡ 0x05 → s .last ≡ 0x02 → driftOk (s .model .n) body ≡ true → AcceptedSoFar (withDrift s kind body)
+  so-far-drift : kind ≡ 0x05 → s .last ≡ 0x02 → Beyond (s .model .n) body → driftOk body ≡ true → AcceptedSoFar (withDrift s kind body)
   unfolding withDrift
-  so-far-drift k place ok =
+  so-far-drift k place beyond ok =
       record {
         first = λ z. absurd (omega arith);
         frame = frame-on (g .frame) kind (omega arith) (omega arith);
         initial = set-early (g .initial) kind (omega arith) (omega arith);
         input = set-early (g .input) kind (omega arith) (omega arith);
-        drift = drift-new kind body (omega arith) (omega arith) ok;
+        drift = drift-new kind body (omega arith) (omega arith) beyond ok;
         directions = directions-early (g .directions) kind (omega arith);
         guards = g .guards;
       }
 
-  so-far-initial : pointMay 0x10 (s .last) kind ≡ true → leb 0x02 (s .last) ≡ true → ltb (s .last) 0x20 ≡ true → s .model .initial .count < mostOf kind → pointOk (s .model .n) kind (withPoint (s .model .n) (s .model .initial) kind body) ≡ true → AcceptedSoFar (withSetPoint false s kind body)
+  so-far-initial : pointMay 0x10 (s .last) kind ≡ true → leb 0x02 (s .last) ≡ true → ltb (s .last) 0x20 ≡ true → s .model .initial .count < mostOf kind → Beyond (s .model .n) body → pointOk (s .model .n) kind (withPoint (s .model .initial) kind body) ≡ true → AcceptedSoFar (withSetPoint false s kind body)
   unfolding withSetPoint
-  so-far-initial may late early few ok =
+  so-far-initial may late early few beyond ok =
       let l = leb-true 0x02 (s .last) late in
       let h = ltb-true (s .last) 0x20 early in
-      let p = set-point 0x10 (s .last) (s .model .n) (s .model .initial) kind body (g .initial) refl may few ok in
+      let p = set-point 0x10 (s .last) (s .model .n) (s .model .initial) kind body (g .initial) refl may few beyond ok in
       let a = point-low 0x10 (s .last) kind may in
       let b = point-high 0x10 (s .last) kind may in
       record {
@@ -215,11 +232,11 @@ module _ (s : State) (kind : ℕ) (body : List ℕ) (g : AcceptedSoFar s) where
         guards = g .guards;
       }
 
-  so-far-input : pointMay 0x20 (s .last) kind ≡ true → isDone 0x10 (s .last) ≡ true → leb 0x02 (s .last) ≡ true → s .model .input .count < mostOf kind → pointOk (s .model .n) kind (withPoint (s .model .n) (s .model .input) kind body) ≡ true → enteringPointOk true (withPoint (s .model .n) (s .model .input) kind body) (s .model .drift) ≡ true → AcceptedSoFar (withSetPoint true s kind body)
+  so-far-input : pointMay 0x20 (s .last) kind ≡ true → isDone 0x10 (s .last) ≡ true → leb 0x02 (s .last) ≡ true → s .model .input .count < mostOf kind → Beyond (s .model .n) body → pointOk (s .model .n) kind (withPoint (s .model .input) kind body) ≡ true → enteringPointOk true (withPoint (s .model .input) kind body) (s .model .drift) ≡ true → AcceptedSoFar (withSetPoint true s kind body)
   unfolding withSetPoint
-  so-far-input may done late few ok enters =
+  so-far-input may done late few beyond ok enters =
       let l = leb-true 0x02 (s .last) late in
-      let p = set-point 0x20 (s .last) (s .model .n) (s .model .input) kind body (g .input) refl may few ok in
+      let p = set-point 0x20 (s .last) (s .model .n) (s .model .input) kind body (g .input) refl may few beyond ok in
       let a = point-low 0x20 (s .last) kind may in
       let b = point-high 0x20 (s .last) kind may in
       record {
@@ -247,16 +264,16 @@ module _ (s : State) (kind : ℕ) (body : List ℕ) (g : AcceptedSoFar s) where
       split true t = drift-zero-box (g .drift) kind (omega arith)
       split false t = drift-late (g .drift) kind (omega arith) t
 
-  so-far-direction : kind ≡ 0x30 → isDone 0x10 (s .last) ≡ true → 0x02 ≤ s .last → ltb (s .last) 0x20 || isDone 0x20 (s .last) ≡ true → s .model .directions < 16 → directionOk (s .model .n) body ≡ true → AcceptedSoFar (withDirection s kind body)
+  so-far-direction : kind ≡ 0x30 → isDone 0x10 (s .last) ≡ true → 0x02 ≤ s .last → ltb (s .last) 0x20 || isDone 0x20 (s .last) ≡ true → s .model .directions < 16 → Beyond (s .model .n) body → directionOk body ≡ true → AcceptedSoFar (withDirection s kind body)
   unfolding withDirection
-  so-far-direction k done late input few ok =
+  so-far-direction k done late input few beyond ok =
       record {
         first = λ z. absurd (omega arith);
         frame = frame-on (g .frame) kind (omega arith) (omega arith);
         initial = set-late (g .initial) kind (omega arith) done;
         input = so-far-input-at (omega arith) input;
         drift = so-far-drift-at (omega arith) input;
-        directions = directions-more (g .directions) kind body few ok;
+        directions = directions-more (g .directions) kind body few beyond ok;
         guards = record { watched-length = g .guards .watched-length; few = g .guards .few; guarded = guarded-more _ _ _ _ (g .guards .guarded) };
       }
 
@@ -282,38 +299,41 @@ module _ (s : State) (kind : ℕ) (body : List ℕ) (g : AcceptedSoFar s) where
             };
       }
 
-  so-far-part : (p : Part) → fact p (s .last) kind ≡ true → countOf p s < mostOf kind → valueNumber p s kind body ≡ 0 → AcceptedSoFar (storedIn p s kind body)
+  so-far-part : (p : Part) → fact p (s .last) kind ≡ true → countOf p s < mostOf kind → ((i : ℕ) → s .model .n ≤ i → i < 6 → partZero p kind body i ≡ true) → valueNumber p s kind body ≡ 0 → AcceptedSoFar (storedIn p s kind body)
   unfolding fact
-  so-far-part Head f few z =
+  so-far-part Head f few beyond z =
       subst (λ (x : State). AcceptedSoFar (withHead x body)) (sym (g .first (eqb-true (s .last) 0x00 f))) (so-far-head body (passed (headOk body) 4 (omega arith) z))
-  so-far-part Row f few z = so-far-row (eqb-true (s .last) 0x01 f)
-  so-far-part Drift f few z =
+  so-far-part Row f few beyond z = so-far-row (eqb-true (s .last) 0x01 f) beyond
+  so-far-part Drift f few beyond z =
       let both = and-true (eqb kind 0x05) (eqb (s .last) 0x02) f in
-      so-far-drift (eqb-true kind 0x05 (both .0)) (eqb-true (s .last) 0x02 (both .1)) (passed _ 17 (omega arith) z)
-  so-far-part Initial f few z =
+      so-far-drift (eqb-true kind 0x05 (both .0)) (eqb-true (s .last) 0x02 (both .1)) (sixAt-beyond (s .model .n) body beyond) (passed _ 17 (omega arith) z)
+  so-far-part Initial f few beyond z =
       let a = and-true (pointMay 0x10 (s .last) kind) (leb 0x02 (s .last) && ltb (s .last) 0x20) f in
       let b = and-true (leb 0x02 (s .last)) (ltb (s .last) 0x20) (a .1) in
-      so-far-initial (a .0) (b .0) (b .1) few (passed _ 6 (omega arith) (firstOf-zero _ _ z .0))
-  so-far-part Input f few z =
+      so-far-initial (a .0) (b .0) (b .1) few (sixAt-beyond (s .model .n) body beyond) (passed _ 6 (omega arith) (firstOf-zero _ _ z .0))
+  so-far-part Input f few beyond z =
       let a = and-true (pointMay 0x20 (s .last) kind) (isDone 0x10 (s .last) && leb 0x02 (s .last)) f in
       let b = and-true (isDone 0x10 (s .last)) (leb 0x02 (s .last)) (a .1) in
       let numbers = firstOf-zero _ _ z in
-      so-far-input (a .0) (b .0) (b .1) few (passed _ 6 (omega arith) (numbers .0)) (passed _ 17 (omega arith) (numbers .1))
-  so-far-part Direction f few z =
+      so-far-input (a .0) (b .0) (b .1) few (sixAt-beyond (s .model .n) body beyond) (passed _ 6 (omega arith) (numbers .0)) (passed _ 17 (omega arith) (numbers .1))
+  so-far-part Direction f few beyond z =
       let a = and-true (eqb kind 0x30) ((isDone 0x10 (s .last) && leb 0x02 (s .last)) && (ltb (s .last) 0x20 || isDone 0x20 (s .last))) f in
       let b = and-true (isDone 0x10 (s .last) && leb 0x02 (s .last)) (ltb (s .last) 0x20 || isDone 0x20 (s .last)) (a .1) in
       let d = and-true (isDone 0x10 (s .last)) (leb 0x02 (s .last)) (b .0) in
-      so-far-direction (eqb-true kind 0x30 (a .0)) (d .0) (leb-true 0x02 (s .last) (d .1)) (b .1) (lt-of-mostOf kind few) (passed _ 7 (omega arith) z)
-  so-far-part Guard f few z =
+      so-far-direction (eqb-true kind 0x30 (a .0)) (d .0) (leb-true 0x02 (s .last) (d .1)) (b .1) (lt-of-mostOf kind few) (sixAt-beyond (s .model .n) body beyond) (passed _ 7 (omega arith) z)
+  so-far-part Guard f few beyond z =
       let a = and-true (eqb kind 0x40) (leb 0x30 (s .last)) f in
       so-far-guard (eqb-true kind 0x40 (a .0)) (leb-true 0x30 (s .last) (a .1)) (lt-of-mostOf kind few) (passed _ 8 (omega arith) z)
-  so-far-part End f few z = g
+  so-far-part End f few beyond z = g
 
-  pub acceptedSoFar-stored : kindNumber s kind ≡ 0 → valueNumber (partOf kind) s kind body ≡ 0 → AcceptedSoFar (stored s kind body)
+  pub acceptedSoFar-stored : kindNumber s kind ≡ 0 → bodyNumber s kind body ≡ 0 → AcceptedSoFar (stored s kind body)
   unfolding stored
   acceptedSoFar-stored k z =
       let both = kindNumber-zero s kind k in
-      so-far-part (partOf kind) (order-fact (s .last) kind (both .0)) (fewer (countOf (partOf kind) s) (mostOf kind) (both .1)) z
+      let numbers = bodyNumber-zero s kind body z in
+      so-far-part (partOf kind) (order-fact (s .last) kind (both .0)) (fewer (countOf (partOf kind) s) (mostOf kind) (both .1))
+      (unusedZero-at (s .model .n) kind body (numbers .0) (partOf kind) refl)
+      (numbers .1)
     where
       fewer : (a b : ℕ) → leb b a ≡ false → a < b
       fewer a b e = omega (arith, leb-false b a e)

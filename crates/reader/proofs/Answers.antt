@@ -1,4 +1,4 @@
--- What a refused file is told: a number from 1 to 10, 15 or 17, with an offset no farther than the file's length. In order: the
+-- What a refused file is told: a number from 1 to 10 or 15 to 17, with an offset no farther than the file's length. In order: the
 -- numbers of one record; the number and the offset where reading stops. Assumes nothing.
 use mathlib.Core.Path.{_≡_, refl, ap, subst, _∙_}
 use mathlib.Core.Bool.{Bool, true, false, cond}
@@ -17,11 +17,12 @@ use Rattle.records.proofs.RecordAt.{whole-of}
 use Rattle.records.specs.declared.order.Part.{Part}
 use Rattle.records.specs.declared.order.Part.the-variants.{Head, Row, Drift, Initial, Input, Direction, Guard, End}
 use Rattle.reachability.specs.declared.sets.Set.{Set}
+use Rattle.columns.specs.Columns.{unusedZero}
 use Rattle.reader.specs.declared.Status.the-variants.{Refused}
 use Rattle.reader.specs.declared.state.State.{State}
 use Rattle.records.specs.Order.{partOf}
 use Rattle.reader.specs.Models.{start, firstByte, rowAnswer, withPoint}
-use Rattle.reader.specs.Values.{headOk, driftOk, pointOk, enteringPointOk, directionOk, guardOk, unless, rowNumber, pointNumberOf, valueNumber}
+use Rattle.reader.specs.Values.{headOk, driftOk, pointOk, enteringPointOk, directionOk, guardOk, unless, rowNumber, pointNumberOf, valueNumber, bodyNumber}
 use Rattle.reader.specs.Refusals.{kindNumber, refusal}
 use Rattle.reader.specs.Reading.{Stop, stopFrom, numberAt, offsetAt, refused, readAs, readingAt, readFrom, readModel}
 use Rattle.reader.proofs.RowAnswers.{rowAnswer-ind}
@@ -33,7 +34,7 @@ use Rattle.reader.proofs.ReadingOn.{stopFor-ind}
 
 -- The numbers that the reader has for a file, 0 for none.
 abbrev pub FileNumber : ℕ → Type 0
-FileNumber number = (number ≤ 10) ⊎ ((number ≡ 15) ⊎ (number ≡ 17))
+FileNumber number = (number ≤ 10) ⊎ ((15 ≤ number) × (number ≤ 17))
 
 unless-known : (ok : Bool) (number : ℕ) → FileNumber number → FileNumber (unless ok number)
 unless-known true number h = inl (omega arith)
@@ -42,7 +43,7 @@ unless-known false number h = h
 answer-known : (kind : ℕ) (body : List ℕ) (i : ℕ) → FileNumber (entryNumber (rowAnswer kind body i))
 answer-known =
     rowAnswer-ind (λ a. FileNumber (entryNumber a))
-    (λ bits. entryOfBits-ind (λ a. FileNumber (entryNumber a)) bits (λ h. inl (omega arith)) (inr (inl refl)))
+    (λ bits. entryOfBits-ind (λ a. FileNumber (entryNumber a)) bits (λ h. inl (omega arith)) (inr (omega arith, omega arith)))
     (λ entry. scaledEntry-ind (λ a. FileNumber (entryNumber a)) entry (λ h. inl (omega arith)) (inl (omega arith)))
 
 rowNumber-known : (s : State) (kind : ℕ) (body : List ℕ) → FileNumber (rowNumber s kind body)
@@ -50,28 +51,33 @@ unfolding rowNumber
 rowNumber-known s kind body =
     firstOf-ind FileNumber
     (unless-known (eqb (firstByte body) (s .rows)) 5 (inl (omega arith)))
-    (entriesNumber-ind FileNumber (s .model .n) (rowAnswer kind body) (inl (omega arith)) (answer-known kind body))
+    (entriesNumber-ind FileNumber (rowAnswer kind body) (inl (omega arith)) (answer-known kind body))
 
 pointNumber-known : (input : Bool) (n kind : ℕ) (set : Set) (drift : List ℤ) → FileNumber (pointNumberOf input n kind set drift)
 pointNumber-known input n kind set drift =
-    firstOf-ind FileNumber (unless-known (pointOk n kind set) 6 (inl (omega arith))) (unless-known (enteringPointOk input set drift) 17 (inr (inr refl)))
+    firstOf-ind FileNumber (unless-known (pointOk n kind set) 6 (inl (omega arith))) (unless-known (enteringPointOk input set drift) 17 (inr (omega arith, omega arith)))
 
 valueNumber-known : (p : Part) (s : State) (kind : ℕ) (body : List ℕ) → FileNumber (valueNumber p s kind body)
 valueNumber-known Head s kind body = unless-known (headOk body) 4 (inl (omega arith))
 valueNumber-known Row s kind body = rowNumber-known s kind body
-valueNumber-known Drift s kind body = unless-known (driftOk (s .model .n) body) 17 (inr (inr refl))
-valueNumber-known Initial s kind body = pointNumber-known false (s .model .n) kind (withPoint (s .model .n) (s .model .initial) kind body) (s .model .drift)
-valueNumber-known Input s kind body = pointNumber-known true (s .model .n) kind (withPoint (s .model .n) (s .model .input) kind body) (s .model .drift)
-valueNumber-known Direction s kind body = unless-known (directionOk (s .model .n) body) 7 (inl (omega arith))
+valueNumber-known Drift s kind body = unless-known (driftOk body) 17 (inr (omega arith, omega arith))
+valueNumber-known Initial s kind body = pointNumber-known false (s .model .n) kind (withPoint (s .model .initial) kind body) (s .model .drift)
+valueNumber-known Input s kind body = pointNumber-known true (s .model .n) kind (withPoint (s .model .input) kind body) (s .model .drift)
+valueNumber-known Direction s kind body = unless-known (directionOk body) 7 (inl (omega arith))
 valueNumber-known Guard s kind body = unless-known (guardOk s body) 8 (inl (omega arith))
 valueNumber-known End s kind body = inl (omega arith)
+
+bodyNumber-known : (s : State) (kind : ℕ) (body : List ℕ) → FileNumber (bodyNumber s kind body)
+unfolding bodyNumber
+bodyNumber-known s kind body =
+    firstOf-ind FileNumber (unless-known (unusedZero (s .model .n) kind body) 16 (inr (omega arith, omega arith))) (valueNumber-known (partOf kind) s kind body)
 
 refusal-known : (s : State) (r : Record) → FileNumber (refusal s r)
 unfolding refusal
 refusal-known s nothing = inl (omega arith)
 refusal-known s (unknown kind) = inl (omega arith)
 refusal-known s (short kind) = firstOf-ind FileNumber {a = kindNumber s kind} {b = 1} (inl (omega (arith, kindNumber-le s kind))) (inl (omega arith))
-refusal-known s (whole kind body) = firstOf-ind FileNumber {a = kindNumber s kind} (inl (omega (arith, kindNumber-le s kind))) (valueNumber-known (partOf kind) s kind body)
+refusal-known s (whole kind body) = firstOf-ind FileNumber {a = kindNumber s kind} (inl (omega (arith, kindNumber-le s kind))) (bodyNumber-known s kind body)
 
 -- ---- the number and the offset where reading stops
 

@@ -9,10 +9,12 @@ use Rattle.records.specs.Numbers.{littleEndian}
 use Rattle.records.specs.Order.{mayFollow, partOf}
 use Rattle.records.proofs.RecordAt.{recordAt-stands}
 use Rattle.stepping.specs.Refusals.{dimensionOk}
+use Rattle.columns.proofs.ColumnLaws.{unusedZero-of}
 use Rattle.reader.specs.Models.{start, usualSteps, withHead}
-use Rattle.reader.specs.Values.{headOk, unless}
+use Rattle.reader.specs.Values.{headOk, unless, bodyNumber}
 use Rattle.reader.specs.Refusals.{kindNumber, refusal, stored}
 use Rattle.reader.specs.Reading.{refused, readFrom, readModel}
+use Rattle.reader.proofs.BodyNumbers.{bodyNumber-value}
 use Rattle.reader.proofs.ReadingOn.{refusal-whole, readFrom-refused}
 use Rattle.reader.proofs.RecordInPlace.{readFrom-stands}
 use Rattle.reader.proofs.ReadingRest.{readFrom-rest}
@@ -29,15 +31,20 @@ module _ (n : ℕ) (rest : List ℕ) where
   unfolding kindNumber mayFollow partOf start
   fits = refl
 
+  -- a head has no entries
+  values : (steps : ℕ) → bodyNumber start 0x01 (body steps) ≡ unless (headOk (body steps)) 4
+  unfolding partOf
+  values steps = bodyNumber-value start 0x01 (body steps) (unusedZero-of (start .model .n) 0x01 (body steps) (λ i l. refl))
+
   taken : (steps : ℕ) → headOk (body steps) ≡ true → readModel (headed steps) ≡ readFrom (headed steps) 4 (withHead start (body steps))
   unfolding readModel bodyLength partOf stored
-  taken steps ok = readFrom-stands [] 0x01 (body steps) rest start refl fits (ap (λ (b : Bool). unless b 4) ok) (λ e. omega arith)
+  taken steps ok = readFrom-stands [] 0x01 (body steps) rest start refl fits (values steps ∙ ap (λ (b : Bool). unless b 4) ok) (λ e. omega arith)
 
   told : (steps : ℕ) → headOk (body steps) ≡ false → readModel (headed steps) ≡ refused 4 0
   unfolding readModel bodyLength partOf
   told steps ok =
       readFrom-refused (headed steps) 0 start
-      (ap (refusal start) (recordAt-stands [] 0x01 (body steps) rest refl) ∙ refusal-whole start 0x01 (body steps) fits ∙ ap (λ (b : Bool). unless b 4) ok)
+      (ap (refusal start) (recordAt-stands [] 0x01 (body steps) rest refl) ∙ refusal-whole start 0x01 (body steps) fits ∙ values steps ∙ ap (λ (b : Bool). unless b 4) ok)
       (λ e. omega arith) (omega arith)
 
   -- The same model, or the same number and offset, whatever n is and whatever stands behind the head.

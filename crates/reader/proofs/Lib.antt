@@ -1,3 +1,4 @@
+pub mod BodyNumbers
 pub mod ReadingOn
 pub mod RecordInPlace
 pub mod ReadingRest
@@ -14,6 +15,7 @@ pub mod Places
 pub mod ZeroBody
 pub mod NoInput
 pub mod NoDrift
+pub mod Unused
 pub mod Answers
 pub mod Sample
 pub mod Longest

@@ -14,7 +14,8 @@ use Rattle.records.specs.Numbers.{littleEndian}
 use Rattle.records.specs.Order.{mayFollow, partOf}
 use Rattle.reader.specs.declared.Status.the-variants.{Read}
 use Rattle.reader.specs.Models.{zeros, blankSet, blankModel, start, sixAt, putRow, withHead, withRow, withDrift, withPoint, withSetPoint, withDirection, withGuard}
-use Rattle.reader.specs.Values.{rowNumber, driftOk, pointOk, directionOk}
+use Rattle.columns.specs.Columns.{unusedZero}
+use Rattle.reader.specs.Values.{bodyNumber, rowNumber, driftOk, pointOk, directionOk}
 use Rattle.reader.specs.Refusals.{kindNumber, refusal, stored}
 use Rattle.reader.specs.Reading.{stopFor, numberAt, readingAt, readFrom, readModel}
 
@@ -44,5 +45,5 @@ unfolding longest
 longest-length = refl
 
 pub longest-read : readModel longest .status ≡ Read
-unfolding allBelow sumℕ maxℕ binary64Unit magnitudeOf nearestEven fittedOk fittedEntry entryOfBits scaledEntry firstNumber bodyLength recordAt littleEndian mayFollow partOf zeros blankSet blankModel start sixAt putRow withHead withRow withDrift withPoint withSetPoint withDirection withGuard rowNumber driftOk pointOk directionOk kindNumber refusal stored stopFor numberAt readingAt readFrom readModel longest
+unfolding allBelow unusedZero sumℕ maxℕ binary64Unit magnitudeOf nearestEven fittedOk fittedEntry entryOfBits scaledEntry firstNumber bodyLength recordAt littleEndian mayFollow partOf zeros blankSet blankModel start sixAt putRow withHead withRow withDrift withPoint withSetPoint withDirection withGuard rowNumber driftOk pointOk directionOk bodyNumber kindNumber refusal stored stopFor numberAt readingAt readFrom readModel longest
 longest-read = refl

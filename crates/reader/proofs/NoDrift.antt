@@ -19,20 +19,23 @@ use Rattle.records.specs.declared.order.Part.{Part}
 use Rattle.records.specs.declared.order.Part.the-variants.{Head, Row, Drift, Initial, Input, Direction, Guard, End}
 use Rattle.reachability.specs.declared.model.Model.{Model}
 use Rattle.integers.specs.Sums.{allBelow}
+use Rattle.columns.specs.Columns.{unusedZero}
+use Rattle.columns.proofs.ColumnLaws.{unusedZero-of}
 use Rattle.reader.specs.declared.Status.the-variants.{Read}
 use Rattle.reader.specs.declared.state.State.{State}
 use Rattle.reader.specs.Models.{zeros, start, setDrift, stateOf, withDrift, withSetPoint, withDirection, withGuard}
-use Rattle.reader.specs.Values.{rowNumber, driftOk, unless, within, valueNumber}
+use Rattle.reader.specs.Values.{rowNumber, driftOk, unless, within, valueNumber, bodyNumber}
 use Rattle.reader.specs.Order.{mostOf}
 use Rattle.reader.specs.Refusals.{countOf, kindNumber, refusal, storedIn, stored}
 use Rattle.reader.specs.Reading.{behind, storedRecord, stopFor, readFrom, readModel}
 use Rattle.reader.specs.NoInput.{zeroBody, putIn, moved}
 use Rattle.reader.specs.NoDrift.{NoDriftAt, zeroDrift}
+use Rattle.reader.proofs.BodyNumbers.{bodyNumber-value}
 use Rattle.reader.proofs.OrderFacts.{order-at}
 use Rattle.reader.proofs.order.KindNumbers.{kindNumber-zero}
 use Rattle.reader.proofs.ReadingOn.{refusal-zero, whole-of-refusal, goesOn-true, readFrom-next, readFrom-refused, readFrom-nothing}
 use Rattle.reader.proofs.RecordInPlace.{readFrom-behind}
-use Rattle.reader.proofs.ZeroBody.{sixAt-zeros}
+use Rattle.reader.proofs.ZeroBody.{sixAt-zeros, entryZero-zeros}
 use Rattle.reader.proofs.AcceptedSoFar.{AcceptedSoFar}
 use Rattle.reader.proofs.ReadModels.{reachable-stop}
 use Rattle.reader.proofs.Places.{readModel-put-in, readModel-behind}
@@ -48,16 +51,18 @@ module _ (s : State) (g : AcceptedSoFar s) (rows-in : s .last ≡ 0x02) where
   unfolding kindNumber mayFollow partOf
   drift-allowed = ap (λ (p : ℕ). cond (mayFollow p 0x05) 0 3) rows-in
 
-  drift-ok : valueNumber Drift s 0x05 zeroBody ≡ 0
-  unfolding driftOk zeros allBelow
-  drift-ok = ap (λ (six : List ℤ). unless (within 1048576 six) 17) (sixAt-zeros (s .model .n))
+  drift-ok : bodyNumber s 0x05 zeroBody ≡ 0
+  unfolding driftOk zeros allBelow partOf
+  drift-ok =
+      bodyNumber-value s 0x05 zeroBody (unusedZero-of (s .model .n) 0x05 zeroBody (λ i l. entryZero-zeros i))
+      ∙ ap (λ (six : List ℤ). unless (within 1048576 six) 17) sixAt-zeros
 
   no-drift-yet : s .model .drift ≡ zeros 6
   no-drift-yet = g .drift .none (omega arith)
 
   drift-stored : stored s 0x05 zeroBody ≡ driftRead s
   unfolding stored partOf withDrift
-  drift-stored = ap (λ (six : List ℤ). stateOf 0x05 (s .rows) (setDrift (s .model) six)) (sixAt-zeros (s .model .n) ∙ sym no-drift-yet)
+  drift-stored = ap (λ (six : List ℤ). stateOf 0x05 (s .rows) (setDrift (s .model) six)) (sixAt-zeros ∙ sym no-drift-yet)
 
   -- It is read wherever it stands.
   read-drift : (before rest : List ℕ) → readFrom (before ++ (zeroDrift ++ rest)) (length before) s ≡ readFrom ((before ++ zeroDrift) ++ rest) (length (before ++ zeroDrift)) (driftRead s)
@@ -96,12 +101,16 @@ module _ (s : State) (g : AcceptedSoFar s) (rows-in : s .last ≡ 0x02) where
   value-same Guard kind body = refl
   value-same End kind body = refl
 
+  body-same : (kind : ℕ) (body : List ℕ) → bodyNumber s kind body ≡ bodyNumber (driftRead s) kind body
+  unfolding bodyNumber
+  body-same kind body = ap (firstOf (unless (unusedZero (s .model .n) kind body) 16)) (value-same (partOf kind) kind body)
+
   number-same : (r : Record) → (recordKind r ≡ 0x05 → ⊥) → refusal s r ≡ refusal (driftRead s) r
   unfolding refusal
   number-same nothing ne = refl
   number-same (unknown kind) ne = refl
   number-same (short kind) ne = ap (λ (k : ℕ). firstOf k 1) (kind-same kind ne)
-  number-same (whole kind body) ne = ap₂ firstOf (kind-same kind ne) (value-same (partOf kind) kind body)
+  number-same (whole kind body) ne = ap₂ firstOf (kind-same kind ne) (body-same kind body)
 
   -- Where it is let in, it is a point of the initial set.
   let-in : (kind : ℕ) → kindNumber s kind ≡ 0 → (kind ≡ 0x05 → ⊥) → (partOf kind ≡ Initial) × (0x10 ≤ kind) × (kind ≤ 0x14)

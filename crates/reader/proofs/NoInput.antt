@@ -30,9 +30,11 @@ use Rattle.reachability.proofs.ZeroInput.{inputs-zero}
 use Rattle.reader.specs.declared.state.State.{State}
 use Rattle.reader.specs.Order.{shapeOf}
 use Rattle.reader.specs.Models.{zeros, blankSet, start, sixAt, putRow, setSet, setDirections, stateOf, withPoint, withSetPoint, inputAt, withDirection, withGuard}
-use Rattle.reader.specs.Values.{pointOk, enteringPointOk, unless, pointNumberOf, valueNumber}
+use Rattle.reader.specs.Values.{pointOk, enteringPointOk, unless, pointNumberOf, bodyNumber}
 use Rattle.reader.specs.Refusals.{oneTooMany, kindNumber, refusal, storedIn, stored}
 use Rattle.reader.specs.NoInput.{completesInitial, NoInputAt, zeroBody, zeroCorners, putIn, moved}
+use Rattle.columns.proofs.ColumnLaws.{unusedZero-of}
+use Rattle.reader.proofs.BodyNumbers.{bodyNumber-value}
 use Rattle.reader.proofs.OrderFacts.{order-at}
 use Rattle.reader.proofs.order.KindNumbers.{kindNumber-zero}
 use Rattle.reader.specs.declared.Status.the-variants.{Read}
@@ -40,7 +42,7 @@ use Rattle.reader.specs.Reading.{storedRecord, stopFor, readFrom, readMo
 use Rattle.reader.proofs.ReadingOn.{readFrom-alike}
 use Rattle.reader.proofs.RecordInPlace.{readFrom-behind}
 use Rattle.reader.proofs.ReadingRest.{readFrom-refused-before}
-use Rattle.reader.proofs.ZeroBody.{sixAt-zeros}
+use Rattle.reader.proofs.ZeroBody.{sixAt-zeros, entryZero-zeros}
 use Rattle.reader.proofs.PartsSoFar.{n-most, entering-zeros}
 use Rattle.reader.proofs.AcceptedSoFar.{AcceptedSoFar, ordered-zeros}
 use Rattle.reader.proofs.ReadModels.{reachable-stop}
@@ -82,17 +84,17 @@ module _ (s : State) (g : AcceptedSoFar s) (complete : completesInitial (s .last
   unfolding blankSet
   blank = g .input .none early
 
-  with-corner : (kind count : ℕ) → shapeOf kind ≡ Box → putRow (zeros 96) count (zeros 6) ≡ zeros 96 → withPoint (s .model .n) (zeroSet count) kind zeroBody ≡ zeroSet (count + 1)
+  with-corner : (kind count : ℕ) → shapeOf kind ≡ Box → putRow (zeros 96) count (zeros 6) ≡ zeros 96 → withPoint (zeroSet count) kind zeroBody ≡ zeroSet (count + 1)
   unfolding withPoint
   with-corner kind count box still =
       ap₂ (λ (shape : Shape) (xs : List ℤ). record { shape = shape; count = count + 1; points = xs }) box
-      (ap (putRow (zeros 96) count) (sixAt-zeros (s .model .n)) ∙ still)
+      (ap (putRow (zeros 96) count) sixAt-zeros ∙ still)
 
-  with-lower : withPoint (s .model .n) (s .model .input) 0x20 zeroBody ≡ zeroSet 1
+  with-lower : withPoint (s .model .input) 0x20 zeroBody ≡ zeroSet 1
   unfolding putRow zeros
-  with-lower = ap (λ (x : Set). withPoint (s .model .n) x 0x20 zeroBody) blank ∙ with-corner 0x20 0 refl refl
+  with-lower = ap (λ (x : Set). withPoint x 0x20 zeroBody) blank ∙ with-corner 0x20 0 refl refl
 
-  with-upper : withPoint (s .model .n) (zeroSet 1) 0x21 zeroBody ≡ zeroSet 2
+  with-upper : withPoint (zeroSet 1) 0x21 zeroBody ≡ zeroSet 2
   unfolding putRow zeros
   with-upper = with-corner 0x21 1 refl refl
 
@@ -110,17 +112,21 @@ module _ (s : State) (g : AcceptedSoFar s) (complete : completesInitial (s .last
       ap (λ (x : Set). pointNumberOf true (s .model .n) kind x (s .model .drift)) e
       ∙ ap₂ (λ (p q : Bool). firstOf (unless p 6) (unless q 17)) ok (enters-ok count a b)
 
-  lower-ok : valueNumber Input s 0x20 zeroBody ≡ 0
-  unfolding pointOk zeros allBelow
-  lower-ok = corner-number 0x20 1 (omega arith) (omega arith) with-lower refl
+  lower-ok : bodyNumber s 0x20 zeroBody ≡ 0
+  unfolding pointOk zeros allBelow partOf
+  lower-ok =
+      bodyNumber-value s 0x20 zeroBody (unusedZero-of (s .model .n) 0x20 zeroBody (λ i l. entryZero-zeros i))
+      ∙ corner-number 0x20 1 (omega arith) (omega arith) with-lower refl
 
   upper-allowed : kindNumber (withCorners s 0x20 1) 0x21 ≡ 0
   unfolding kindNumber mayFollow partOf
   upper-allowed = refl
 
-  upper-ok : valueNumber Input (withCorners s 0x20 1) 0x21 zeroBody ≡ 0
-  unfolding pointOk zeros allBelow
-  upper-ok = corner-number 0x21 2 (omega arith) (omega arith) with-upper (ap₂ _&&_ (le-leb (s .model .n) 6 dimension) (ordered-zeros (s .model .n)))
+  upper-ok : bodyNumber (withCorners s 0x20 1) 0x21 zeroBody ≡ 0
+  unfolding pointOk zeros allBelow partOf
+  upper-ok =
+      bodyNumber-value (withCorners s 0x20 1) 0x21 zeroBody (unusedZero-of (s .model .n) 0x21 zeroBody (λ i l. entryZero-zeros i))
+      ∙ corner-number 0x21 2 (omega arith) (omega arith) with-upper (ap₂ _&&_ (le-leb (s .model .n) 6 dimension) (ordered-zeros (s .model .n)))
 
   lower-stored : stored s 0x20 zeroBody ≡ withCorners s 0x20 1
   unfolding stored partOf withSetPoint
@@ -145,13 +151,13 @@ module _ (s : State) (g : AcceptedSoFar s) (complete : completesInitial (s .last
   direction-allowed = ap (λ (a : Bool). cond a (cond (oneTooMany s 0x30) 9 0) 3) (at-place (λ k. mayFollow k 0x30) refl refl refl)
 
   direction-number : (r : Record) → recordKind r ≡ 0x30 → refusal s r ≡ refusal (withCorners s 0x21 2) r
-  unfolding refusal partOf
+  unfolding refusal bodyNumber partOf
   direction-number nothing e = refl
   direction-number (unknown kind) e = refl
   direction-number (short kind) e = subst (λ (k : ℕ). firstOf (kindNumber s k) 1 ≡ firstOf (kindNumber (withCorners s 0x21 2) k) 1) (sym e) (ap (λ (k : ℕ). firstOf k 1) direction-allowed)
   direction-number (whole kind body) e =
-      subst (λ (k : ℕ). firstOf (kindNumber s k) (valueNumber (partOf k) s k body) ≡ firstOf (kindNumber (withCorners s 0x21 2) k) (valueNumber (partOf k) (withCorners s 0x21 2) k body)) (sym e)
-      (ap (λ (k : ℕ). firstOf k (valueNumber Direction s 0x30 body)) direction-allowed)
+      subst (λ (k : ℕ). firstOf (kindNumber s k) (bodyNumber s k body) ≡ firstOf (kindNumber (withCorners s 0x21 2) k) (bodyNumber (withCorners s 0x21 2) k body)) (sym e)
+      (ap (λ (k : ℕ). firstOf k (bodyNumber s 0x30 body)) direction-allowed)
 
   zero-input : inputAt (s .last) (s .model) ≡ zeroSet 2
   unfolding zeroBox zeros
@@ -160,7 +166,7 @@ module _ (s : State) (g : AcceptedSoFar s) (complete : completesInitial (s .last
   direction-stored : (body : List ℕ) → stored s 0x30 body ≡ stored (withCorners s 0x21 2) 0x30 body
   unfolding stored partOf withDirection
   direction-stored body =
-      ap (λ (x : Set). stateOf 0x30 (s .rows) (setDirections (setSet true (s .model) x) (s .model .directions + 1) (putRow (s .model .entries) (s .model .directions) (sixAt (s .model .n) body 0)))) zero-input
+      ap (λ (x : Set). stateOf 0x30 (s .rows) (setDirections (setSet true (s .model) x) (s .model .directions + 1) (putRow (s .model .entries) (s .model .directions) (sixAt body 0)))) zero-input
 
   -- So the file is read on from there as behind them.
   read-direction : (file : List ℕ) (at : ℕ) → recordKind (recordAt file at) ≡ 0x30 → readFrom file at (withCorners s 0x21 2) ≡ readFrom file at s

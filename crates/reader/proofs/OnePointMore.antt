@@ -20,7 +20,8 @@ use Rattle.reachability.specs.declared.sets.Set.{Set}
 use Rattle.reachability.specs.OneMore.{OneMore, newPoint}
 use Rattle.reader.specs.declared.state.State.{State}
 use Rattle.reader.specs.Order.{shapeOf}
-use Rattle.reader.specs.Models.{entryAt, sixAt, withPoint}
+use Rattle.columns.specs.Columns.{entryAt}
+use Rattle.reader.specs.Models.{sixAt, withPoint}
 use Rattle.reader.specs.Refusals.{countOf, kindNumber}
 use Rattle.reader.specs.Points.{stateAfter, setBefore, setWith, PointAt}
 use Rattle.reader.proofs.order.KindNumbers.{kindNumber-zero, count-lt}
@@ -33,10 +34,10 @@ use Rattle.reader.proofs.ReadModels.{reachable-stop}
 -- ---- any set so far
 
 -- the new point is the record's
-new-point-at : (n : ℕ) (set : Set) (kind : ℕ) (body : List ℕ) → length (set .points) ≡ 96 → set .count < 16 → (i : ℕ) → i < 6 → newPoint set (withPoint n set kind body) i ≡ entryAt n body 0 i
+new-point-at : (set : Set) (kind : ℕ) (body : List ℕ) → length (set .points) ≡ 96 → set .count < 16 → (i : ℕ) → i < 6 → newPoint set (withPoint set kind body) i ≡ entryAt body 0 i
 unfolding withPoint sixAt
-new-point-at n set kind body l few i h =
-    matrix-putRow-same (set .points) (set .count) (sixAt n body 0) (omega arith) i h ∙ getD-tabulate 6 (entryAt n body 0) i (pos 0) h
+new-point-at set kind body l few i h =
+    matrix-putRow-same (set .points) (set .count) (sixAt body 0) (omega arith) i h ∙ getD-tabulate 6 (entryAt body 0) i (pos 0) h
 
 module _ (base place n : ℕ) (set : Set) (kind : ℕ) (body : List ℕ) (s : SetAt base place n set) (even : base % 16 ≡ 0) (may : pointMay base place kind ≡ true) (some : 1 ≤ set .count) where
   -- before its first point a set has none
@@ -72,13 +73,13 @@ module _ (base place n : ℕ) (set : Set) (kind : ℕ) (body : List ℕ) (s : Se
           let p = vertex-place base place kind may u g begun in
           (ap shapeOf (p .0 ∙ sym (p .1)), omega (arith, p .1))
 
-  one-more-at : OneMore set (withPoint n set kind body)
+  one-more-at : OneMore set (withPoint set kind body)
   unfolding withPoint
   one-more-at =
       record {
         shape-is = alike .0 ∙ sym (s .shaped begun (alike .1));
         count-is = refl;
-        points-are = λ k i h l. matrix-putRow-other (set .points) (set .count) (sixAt n body 0) k i l (λ e. omega arith);
+        points-are = λ k i h l. matrix-putRow-other (set .points) (set .count) (sixAt body 0) k i l (λ e. omega arith);
       }
 
 -- ---- the sets at a place that reading comes to
@@ -104,6 +105,6 @@ module _ (file : List ℕ) (turns kind : ℕ) (body : List ℕ) where
       one-more-at 0x20 (s .last) (s .model .n) (s .model .input) kind body (so-far .input) refl (and-true (pointMay 0x20 (s .last) kind) _ (fact-of Input (p .part) (p .allowed) .0) .0) (p .some)
 
   -- File 3: the new point is the one in the body.
-  pub new-point : (input : Bool) → PointAt file turns input kind → (i : ℕ) → i < 6 → newPoint (setBefore file turns input) (setWith file turns input kind body) i ≡ entryAt (s .model .n) body 0 i
-  new-point false p i h = new-point-at (s .model .n) (s .model .initial) kind body (so-far .initial .held .length-is) (fact-of Initial (p .part) (p .allowed) .1) i h
-  new-point true p i h = new-point-at (s .model .n) (s .model .input) kind body (so-far .input .held .length-is) (fact-of Input (p .part) (p .allowed) .1) i h
+  pub new-point : (input : Bool) → PointAt file turns input kind → (i : ℕ) → i < 6 → newPoint (setBefore file turns input) (setWith file turns input kind body) i ≡ entryAt body 0 i
+  new-point false p i h = new-point-at (s .model .initial) kind body (so-far .initial .held .length-is) (fact-of Initial (p .part) (p .allowed) .1) i h
+  new-point true p i h = new-point-at (s .model .input) kind body (so-far .input .held .length-is) (fact-of Input (p .part) (p .allowed) .1) i h

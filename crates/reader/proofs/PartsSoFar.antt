@@ -1,5 +1,5 @@
 -- What each part of a state that the reader reaches satisfies, and that one record more of the part keeps it. In order: the six
--- numbers of a body; n, the steps and the matrix; a set; the drift; directions; guards. The place is the one in the order of records. Not
+-- entries of a body; n, the steps and the matrix; a set; the drift; directions; guards. The place is the one in the order of records. Not
 -- here: the whole state (`AcceptedSoFar`). Assumes nothing.
 use mathlib.Core.Path.{_≡_, refl, sym, ap, ap₂, subst, _∙_}
 use mathlib.Core.Bool.{Bool, true, false, not, cond, _&&_, _||_}
@@ -7,7 +7,7 @@ use mathlib.Core.List.{List}
 use Prim.Native.Nat.{ℕ, _+_, _*_, _%_, _≤_, _<_, max}
 use native.Mathlib.Decide.{decLt}
 use native.Mathlib.Omega.{arith}
-use borrow.Author.Tests.{le-ltb, le-leb, lt-leb, eq-eqb, ne-eqb, leb-true, ltb-true, ltb-false}
+use borrow.Author.Tests.{le-leb, lt-leb, eq-eqb, ne-eqb, leb-true, ltb-true, ltb-false}
 use lib.Dec.{leb, ltb, eqb}
 use lib.ListN.{length, set, List·getD-eq-default}
 use lib.IntN.{ℤ, pos, natAbs}
@@ -18,7 +18,6 @@ use Rattle.integers.proofs.Booleans.{and-true}
 use Rattle.arrays.proofs.Tests.{allBetween-at, Zeros, Small, zeroOutside-of}
 use Rattle.stepping.specs.Limits.{entryLimit}
 use Rattle.stepping.specs.Refusals.{dimensionOk}
-use Rattle.records.specs.Numbers.{signedAt}
 use Rattle.reachability.specs.declared.sets.Shape.{Shape}
 use Rattle.reachability.specs.declared.sets.Shape.the-variants.{Box, Zonotope, Vertices}
 use Rattle.reachability.specs.declared.sets.Set.{Set}
@@ -27,22 +26,24 @@ use Rattle.reachability.specs.Entering.{enteringReach, enteringOk}
 use Rattle.limits.specs.Limits.{directionLimit, stepsOk, allZero}
 use Rattle.reachability.specs.Limits.{setAccepted}
 use Rattle.reader.specs.Order.{shapeOf, isUpper, mostOf}
-use Rattle.reader.specs.Models.{zeros, blankSet, entryAt, sixAt, putRow, rowPlace, withPoint}
-use Rattle.reader.specs.Values.{within, driftOk, pointOk, enteringPointOk, directionOk, unless}
+use Rattle.columns.specs.Columns.{entryAt, entryZero}
+use Rattle.columns.proofs.ColumnLaws.{entryZero-is}
+use Rattle.reader.specs.Models.{zeros, blankSet, sixAt, putRow, rowPlace, withPoint}
+use Rattle.reader.specs.Values.{within, driftOk, pointOk, enteringPointOk, directionOk}
 use Rattle.reader.proofs.store.PutRow.{length-putRow}
 use Rattle.reader.proofs.order.KindNumbers.{lt-of-mostOf}
 use Rattle.reader.proofs.RowsOfSix.{vector-zeros, zeros-putRow, small-putRow, Nonzero, nonzero-putRow, Guarded}
 use Rattle.reader.proofs.OrderFacts.{isDone, pointMay, point-low, point-high, first-place, upper-place, generator-place, isDone-early}
 
--- ---- the six numbers of a body are zero beyond n
+-- ---- the six entries of a body
 
-pub sixAt-beyond : (n : ℕ) (body : List ℕ) (at i : ℕ) → n ≤ i → vector (sixAt n body at) i ≡ pos 0
+-- Those beyond n are zero: what the test of number 16 says of a drift, a point or a direction.
+abbrev pub Beyond : ℕ → List ℕ → Type 0
+Beyond n body = (i : ℕ) → n ≤ i → vector (sixAt body 0) i ≡ pos 0
+
+pub sixAt-beyond : (n : ℕ) (body : List ℕ) → ((i : ℕ) → n ≤ i → i < 6 → entryZero body 0 i ≡ true) → Beyond n body
 unfolding sixAt
-sixAt-beyond n body at i h = elim (decLt i 6) [ yes l ↦ getD-tabulate 6 (entryAt n body at) i (pos 0) l ∙ ap (λ (b : Bool). cond b (signedAt 4 body (at + 4 * i)) (pos 0)) (le-ltb i n h) | no g ↦ List·getD-eq-default (tabulate 6 (entryAt n body at)) (pos 0) {n = i} (omega (arith, g)) ]
-
-pub passed : (ok : Bool) (number : ℕ) → 0 < number → unless ok number ≡ 0 → ok ≡ true
-passed true number h e = refl
-passed false number h e = absurd (omega arith)
+sixAt-beyond n body z i h = elim (decLt i 6) [ yes l ↦ getD-tabulate 6 (entryAt body 0) i (pos 0) l ∙ entryZero-is body 0 i (z i h l) | no g ↦ List·getD-eq-default (tabulate 6 (entryAt body 0)) (pos 0) {n = i} (omega (arith, g)) ]
 
 -- ---- n, the steps and the matrix
 
@@ -142,12 +143,12 @@ module _ {base place n : ℕ} {set : Set} (s : SetAt base place n set) where
       }
 
 -- one point more
-module _ (base place n : ℕ) (set : Set) (kind : ℕ) (body : List ℕ) (s : SetAt base place n set) (even : base % 16 ≡ 0) (may : pointMay base place kind ≡ true) (few : set .count < mostOf kind) (ok : pointOk n kind (withPoint n set kind body) ≡ true) where
+module _ (base place n : ℕ) (set : Set) (kind : ℕ) (body : List ℕ) (s : SetAt base place n set) (even : base % 16 ≡ 0) (may : pointMay base place kind ≡ true) (few : set .count < mostOf kind) (beyond : Beyond n body) (ok : pointOk n kind (withPoint set kind body) ≡ true) where
   abbrev count : ℕ
   count = set .count + 1
 
   abbrev block : List ℤ
-  block = putRow (set .points) (set .count) (sixAt n body 0)
+  block = putRow (set .points) (set .count) (sixAt body 0)
 
   count-few : set .count < 16
   count-few = lt-of-mostOf kind few
@@ -156,7 +157,7 @@ module _ (base place n : ℕ) (set : Set) (kind : ℕ) (body : List ℕ) (s : Se
   room = omega (arith, count-few, s .held .length-is)
 
   block-zeros : Zeros count n block
-  block-zeros = zeros-putRow n (set .points) (set .count) (sixAt n body 0) room (λ i h. sixAt-beyond n body 0 i h) (s .held .outside)
+  block-zeros = zeros-putRow n (set .points) (set .count) (sixAt body 0) room beyond (s .held .outside)
 
   -- what the test of number 6 says
   reach-ok : reachOk (shapeOf kind) count (points block) ≡ true
@@ -207,11 +208,11 @@ module _ (base place n : ℕ) (set : Set) (kind : ℕ) (body : List ℕ) (s : Se
           second : (a b : Bool) → a ≡ false → a || b ≡ true → b ≡ true
           second a b f t = sym (ap (λ (x : Bool). x || b) f) ∙ t
 
-  pub set-point : SetAt base kind n (withPoint n set kind body)
+  pub set-point : SetAt base kind n (withPoint set kind body)
   unfolding withPoint
   set-point =
       record {
-        held = record { length-is = length-putRow (set .count) (sixAt n body 0) (set .points) ∙ s .held .length-is; outside = block-zeros; most = omega (arith, count-few) };
+        held = record { length-is = length-putRow (set .count) (sixAt body 0) (set .points) ∙ s .held .length-is; outside = block-zeros; most = omega (arith, count-few) };
         none = λ l. absurd (omega (arith, point-low base place kind may));
         shaped = λ l m. refl;
         one = λ e. ap (λ (k : ℕ). k + 1) (none-count s (first-place base place kind may e));
@@ -236,15 +237,15 @@ drift-blank kind h =
     drift-early kind h (λ l. refl) (λ i l. vector-zeros 6 i) (λ i. subst (λ (z : ℤ). natAbs z ≤ reachLimit) (sym (vector-zeros 6 i)) (omega arith))
 
 -- the record
-pub drift-new : {n : ℕ} {set : Set} (kind : ℕ) (body : List ℕ) → 0x05 ≤ kind → kind < 0x20 → driftOk n body ≡ true → DriftAt kind n set (sixAt n body 0)
+pub drift-new : {n : ℕ} {set : Set} (kind : ℕ) (body : List ℕ) → 0x05 ≤ kind → kind < 0x20 → Beyond n body → driftOk body ≡ true → DriftAt kind n set (sixAt body 0)
 unfolding driftOk
-drift-new {n} kind body k h ok = drift-early kind h (λ l. absurd (omega arith)) (λ i l. sixAt-beyond n body 0 i l) (allBetween-at reachLimit (sixAt n body 0) ok)
+drift-new kind body k h beyond ok = drift-early kind h (λ l. absurd (omega arith)) beyond (allBetween-at reachLimit (sixAt body 0) ok)
 
 module _ {place n : ℕ} {set : Set} {drift : List ℤ} (d : DriftAt place n set drift) where
   -- with one point more
-  pub drift-point : (kind : ℕ) (body : List ℕ) → 0x05 ≤ kind → enteringPointOk true (withPoint n set kind body) drift ≡ true → DriftAt kind n (withPoint n set kind body) drift
+  pub drift-point : (kind : ℕ) (body : List ℕ) → 0x05 ≤ kind → enteringPointOk true (withPoint set kind body) drift ≡ true → DriftAt kind n (withPoint set kind body) drift
   drift-point kind body k ok =
-      let points = withPoint n set kind body in
+      let points = withPoint set kind body in
       record { none = λ l. absurd (omega arith); beyond = d .beyond; small = d .small; entering = λ t. and-true (leb 1 (points .count) && leb (points .count) 16) _ ok .1 }
 
   -- behind the points of the input set
@@ -283,16 +284,16 @@ module _ {place n count : ℕ} {entries : List ℤ} (d : DirectionsAt place n co
   directions-late kind k = record { entries-length = d .entries-length; entries-zeros = d .entries-zeros; entries-small = d .entries-small; nonzero = d .nonzero; few = d .few; some = λ l. d .some k }
 
   -- one direction more
-  pub directions-more : (kind : ℕ) (body : List ℕ) → count < 16 → directionOk n body ≡ true → DirectionsAt kind n (count + 1) (putRow entries count (sixAt n body 0))
+  pub directions-more : (kind : ℕ) (body : List ℕ) → count < 16 → Beyond n body → directionOk body ≡ true → DirectionsAt kind n (count + 1) (putRow entries count (sixAt body 0))
   unfolding directionOk
-  directions-more kind body h ok =
-      let both = and-true (within directionLimit (sixAt n body 0)) _ ok in
+  directions-more kind body h beyond ok =
+      let both = and-true (within directionLimit (sixAt body 0)) _ ok in
       let room : 6 * count + 6 ≤ length entries = omega (arith, d .entries-length) in
       record {
-        entries-length = length-putRow count (sixAt n body 0) entries ∙ d .entries-length;
-        entries-zeros = zeros-putRow n entries count (sixAt n body 0) room (λ i l. sixAt-beyond n body 0 i l) (d .entries-zeros);
-        entries-small = small-putRow directionLimit entries count (sixAt n body 0) room (λ i l. allBetween-at directionLimit (sixAt n body 0) (both .0) i) (d .entries-small);
-        nonzero = nonzero-putRow entries count (sixAt n body 0) room (turned (allZero (sixAt n body 0) 0) (both .1)) (d .nonzero);
+        entries-length = length-putRow count (sixAt body 0) entries ∙ d .entries-length;
+        entries-zeros = zeros-putRow n entries count (sixAt body 0) room beyond (d .entries-zeros);
+        entries-small = small-putRow directionLimit entries count (sixAt body 0) room (λ i l. allBetween-at directionLimit (sixAt body 0) (both .0) i) (d .entries-small);
+        nonzero = nonzero-putRow entries count (sixAt body 0) room (turned (allZero (sixAt body 0) 0) (both .1)) (d .nonzero);
         few = omega arith;
         some = λ l. omega arith;
       }

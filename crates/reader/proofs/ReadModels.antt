@@ -94,7 +94,7 @@ module _ (file : List ℕ) (p : Stop) where
       let u : _≡_ {A = ℕ} 0 1 = cc (sym stops ∙ ap₂ (λ (a b : Bool). a && not b) (eq-eqb (refusal (p .state) here) 0 z) t) in
       absurd (omega arith)
 
-  no-more : (b : Bool) → ltb (p .at + 1) (length file) ≡ b → _≡_ {A = ℕ} (cond b 10 0) 0 → length file ≤ p .at + 1
+  pub no-more : (b : Bool) → ltb (p .at + 1) (length file) ≡ b → _≡_ {A = ℕ} (cond b 10 0) 0 → length file ≤ p .at + 1
   no-more true t z = absurd (omega arith)
   no-more false t z = omega (arith, ltb-false (p .at + 1) (length file) t)
 
@@ -102,10 +102,13 @@ module _ (file : List ℕ) (p : Stop) where
   unfolding readingAt
   readingAt-model n = ap (λ (b : Bool). cond b (readAs (p .state .model)) (refused (numberAt file p) (offsetAt file p)) .model) (eq-eqb (numberAt file p) 0 n)
 
+  readingAt-number : readingAt file p .status ≡ Read → numberAt file p ≡ 0
+  readingAt-number e = sym (readingAt-tells file p .number-is) ∙ ap statusNumber e
+
   readingAt-reached : Reachable p → goesOn (p .state) here ≡ false → readingAt file p .status ≡ Read → Reached file (readingAt file p)
   unfolding numberAt
   readingAt-reached r stops e =
-      let n : numberAt file p ≡ 0 = sym (readingAt-tells file p .number-is) ∙ ap statusNumber e in
+      let n = readingAt-number e in
       let both = firstOf-zero (refusal (p .state) here) _ n in
       let w = whole-of-refusal (p .state) here (both .0) in
       let allowed = refusal-zero (p .state) (recordKind here) (recordBody here) (sym (ap (refusal (p .state)) w) ∙ both .0) .0 in
@@ -117,10 +120,14 @@ module _ (file : List ℕ) (p : Stop) where
         model-is = readingAt-model n;
       }
 
--- Where a file is read, its model is that of the state before the end record.
+-- Where a file is read, nothing is refused at the end record, and its model is that of the state before it.
+pub readFrom-number : (file : List ℕ) (at : ℕ) (s : State) → readFrom file at s .status ≡ Read → numberAt file (stopFrom file at s) ≡ 0
+unfolding readFrom
+readFrom-number file at s e = readingAt-number file (stopFrom file at s) e
+
 pub readFrom-model : (file : List ℕ) (at : ℕ) (s : State) → readFrom file at s .status ≡ Read → readFrom file at s .model ≡ stopFrom file at s .state .model
 unfolding readFrom
-readFrom-model file at s e = readingAt-model file (stopFrom file at s) (sym (readingAt-tells file (stopFrom file at s) .number-is) ∙ ap statusNumber e)
+readFrom-model file at s e = readingAt-model file (stopFrom file at s) (readingAt-number file (stopFrom file at s) e)
 
 pub reachable-stop : (file : List ℕ) (turns : ℕ) → Reachable (stopFor turns file 0 start)
 reachable-stop file turns = stopFor-ind file Reachable (reachable-next file) turns 0 start reachable-start

@@ -13,8 +13,7 @@ use Rattle.arrays.proofs.FirstOf.{firstOf-none, firstOf-some, firstOf-zero}
 use Rattle.records.specs.Records.{Record, whole, short, unknown, nothing, recordAt, recordKind, recordBody}
 use Rattle.records.proofs.RecordAt.{whole-of}
 use Rattle.reader.specs.declared.state.State.{State}
-use Rattle.records.specs.Order.{partOf}
-use Rattle.reader.specs.Values.{valueNumber}
+use Rattle.reader.specs.Values.{bodyNumber}
 use Rattle.reader.specs.Refusals.{kindNumber, refusal, stored}
 use Rattle.reader.specs.Reading.{Stop, stopHere, goesOn, behind, storedRecord, stopFor, numberAt, offsetAt, refused, readAs, readingAt, readFrom}
 
@@ -30,18 +29,18 @@ module _ (s : State) (kind : ℕ) where
   refusal-short z = firstOf-none 1 z
 
   module _ (body : List ℕ) where
-    pub refusal-whole : kindNumber s kind ≡ 0 → refusal s (whole kind body) ≡ valueNumber (partOf kind) s kind body
+    pub refusal-whole : kindNumber s kind ≡ 0 → refusal s (whole kind body) ≡ bodyNumber s kind body
     unfolding refusal
-    refusal-whole z = firstOf-none (valueNumber (partOf kind) s kind body) z
+    refusal-whole z = firstOf-none (bodyNumber s kind body) z
 
     pub refusal-whole-kind : (kindNumber s kind ≡ 0 → ⊥) → refusal s (whole kind body) ≡ kindNumber s kind
     unfolding refusal
-    refusal-whole-kind ne = firstOf-some (kindNumber s kind) (valueNumber (partOf kind) s kind body) ne
+    refusal-whole-kind ne = firstOf-some (kindNumber s kind) (bodyNumber s kind body) ne
 
     -- back: a whole record that is not refused
-    pub refusal-zero : refusal s (whole kind body) ≡ 0 → (kindNumber s kind ≡ 0) × (valueNumber (partOf kind) s kind body ≡ 0)
+    pub refusal-zero : refusal s (whole kind body) ≡ 0 → (kindNumber s kind ≡ 0) × (bodyNumber s kind body ≡ 0)
     unfolding refusal
-    refusal-zero z = firstOf-zero (kindNumber s kind) (valueNumber (partOf kind) s kind body) z
+    refusal-zero z = firstOf-zero (kindNumber s kind) (bodyNumber s kind body) z
 
 -- a record that is not refused is whole
 pub whole-of-refusal : (s : State) (r : Record) → refusal s r ≡ 0 → r ≡ whole (recordKind r) (recordBody r)
@@ -57,7 +56,7 @@ whole-of-refusal s (whole kind body) z = refl
 pub record GoesOn (file : List ℕ) (at : ℕ) (s : State) (kind : ℕ) (body : List ℕ) : Type 0 where
   pub stands : recordAt file at ≡ whole kind body
   pub allowed : kindNumber s kind ≡ 0
-  pub passes : valueNumber (partOf kind) s kind body ≡ 0
+  pub passes : bodyNumber s kind body ≡ 0
   pub other : kind ≡ 0xFF → ⊥
 
 module _ (file : List ℕ) (at : ℕ) (s : State) where

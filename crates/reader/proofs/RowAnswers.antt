@@ -6,7 +6,8 @@ use lib.Dec.{eqb}
 use lib.IntN.{ℤ}
 use Rattle.coefficients.specs.declared.EntryAnswer.{EntryAnswer}
 use Rattle.coefficients.specs.Entries.{entryOfBits, scaledEntry}
-use Rattle.reader.specs.Models.{scaledAt, bitsAt, rowAnswer}
+use Rattle.columns.specs.Columns.{scaledAt, bitsAt}
+use Rattle.reader.specs.Models.{rowAnswer}
 
 pub rowAnswer-ind : (P : EntryAnswer → Type 0) → ((bits : ℕ) → P (entryOfBits bits)) → ((entry : ℤ) → P (scaledEntry entry)) → (kind : ℕ) (body : List ℕ) (i : ℕ) → P (rowAnswer kind body i)
 rowAnswer-ind P fitted scaled kind body i = split (eqb kind 0x03)

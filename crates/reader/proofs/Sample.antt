@@ -15,7 +15,8 @@ use Rattle.reachability.specs.declared.model.Model.{Model}
 use Rattle.reader.specs.declared.Status.the-variants.{Read}
 use Rattle.records.specs.Order.{mayFollow, partOf}
 use Rattle.reader.specs.Models.{zeros, blankSet, blankModel, start, sixAt, putRow, withHead, withRow, withPoint, withSetPoint, withDirection, withGuard}
-use Rattle.reader.specs.Values.{rowNumber, pointOk, directionOk}
+use Rattle.columns.specs.Columns.{unusedZero}
+use Rattle.reader.specs.Values.{bodyNumber, rowNumber, pointOk, directionOk}
 use Rattle.reader.specs.Refusals.{kindNumber, refusal, stored}
 use Rattle.reader.specs.Reading.{stopFor, numberAt, offsetAt, readingAt, readFrom, readModel, refused}
 
@@ -61,7 +62,7 @@ unfolding sample
 sample-length = refl
 
 pub sample-read : readModel sample ≡ record { status = Read; model = sampleModel }
-unfolding allBelow sumℕ maxℕ bodyLength recordAt littleEndian mayFollow partOf zeros blankSet blankModel start sixAt putRow withHead withRow withPoint withSetPoint withDirection withGuard scaledEntry firstNumber rowNumber pointOk directionOk kindNumber refusal stored stopFor numberAt offsetAt readingAt readFrom readModel sample sampleModel
+unfolding allBelow unusedZero sumℕ maxℕ bodyLength recordAt littleEndian mayFollow partOf zeros blankSet blankModel start sixAt putRow withHead withRow withPoint withSetPoint withDirection withGuard scaledEntry firstNumber rowNumber pointOk directionOk bodyNumber kindNumber refusal stored stopFor numberAt offsetAt readingAt readFrom readModel sample sampleModel
 sample-read = refl
 
 -- Figures 14.

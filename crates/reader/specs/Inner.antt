@@ -11,7 +11,8 @@ use Rattle.reader.specs.declared.take.Taken.{Taken}
 use Rattle.reader.specs.declared.advance.Outcome.{Outcome}
 use Rattle.reader.specs.declared.advance.Outcome.the-variants.{Next, Ended, Stopped}
 use Rattle.reader.specs.declared.advance.Advanced.{Advanced}
-use Rattle.reader.specs.Models.{firstByte, bitsAt}
+use Rattle.columns.specs.Columns.{bitsAt}
+use Rattle.reader.specs.Models.{firstByte}
 use Rattle.reader.specs.Reading.{refused, readAs, readFrom}
 
 -- Forms 11: the number of a fitted row and its six values.

@@ -6,4 +6,5 @@ pub mod Reading
 pub mod NoInput
 pub mod NoDrift
 pub mod Points
+pub mod Unused
 pub mod Inner

@@ -1,5 +1,6 @@
--- File 3, 4, 5, 7, 8, 10 and 15: how far a file has been read, and what each record adds to the model. Definitions only. A record
--- that a block has no room for changes nothing in it; none such is ever let in. Assumes nothing.
+-- File 3, 4, 5, 8, 10 and 15: how far a file has been read, and what each record adds to the model. Definitions only. Entries are
+-- stored as they stand in the body; those beyond n are zero there (File 7). A record that a block has no room for changes nothing in it;
+-- none such is ever let in. Assumes nothing.
 use mathlib.Core.Bool.{Bool, true, cond}
 use mathlib.Core.List.{List}
 use Prim.Native.Nat.{ℕ, zero, suc, _+_, _*_}
@@ -11,6 +12,7 @@ use Rattle.coefficients.specs.declared.EntryAnswer.{EntryAnswer}
 use Rattle.coefficients.specs.Entries.{entryOfBits, scaledEntry}
 use Rattle.coefficients.specs.Rows.{storedSix}
 use Rattle.records.specs.Numbers.{littleEndian, signedAt}
+use Rattle.columns.specs.Columns.{entryAt, scaledAt, bitsAt}
 use Rattle.reachability.specs.declared.sets.Shape.the-variants.{Box}
 use Rattle.reachability.specs.declared.sets.Set.{Set}
 use Rattle.reachability.specs.declared.model.Model.{Model}
@@ -53,19 +55,9 @@ start = record { last = 0x00; rows = 0; model = blankModel }
 abbrev pub firstByte : List ℕ → ℕ
 firstByte body = getD body 0 0
 
--- File 3: number i of six, of 4 bytes each. File 7: zero beyond n.
-abbrev pub entryAt : ℕ → List ℕ → ℕ → ℕ → ℤ
-entryAt n body at i = cond (ltb i n) (signedAt 4 body (at + 4 * i)) (pos 0)
-
-unfoldable pub sixAt : ℕ → List ℕ → ℕ → List ℤ
-sixAt n body at = tabulate 6 (entryAt n body at)
-
--- File 3: entry i of a scaled row, of 4 bytes, and the 64 bits of entry i of a fitted row. The row's number stands before them.
-abbrev pub scaledAt : List ℕ → ℕ → ℤ
-scaledAt body i = signedAt 4 body (1 + 4 * i)
-
-abbrev pub bitsAt : List ℕ → ℕ → ℕ
-bitsAt body i = littleEndian 8 body (1 + 8 * i)
+-- File 3: the six entries of a body, of 4 bytes each.
+unfoldable pub sixAt : List ℕ → ℕ → List ℤ
+sixAt body at = tabulate 6 (entryAt body at)
 
 -- File 5: a row is scaled or, of kind 03, fitted. The answer to its entry i is what is stored, or the number it is refused by.
 abbrev pub rowAnswer : ℕ → List ℕ → ℕ → EntryAnswer
@@ -149,25 +141,25 @@ rowStored s six =
 
 -- File 3, kinds 02 and 03.
 unfoldable pub withRow : State → ℕ → List ℕ → State
-withRow s kind body = rowStored s (storedSix (s .model .n) (rowAnswer kind body))
+withRow s kind body = rowStored s (storedSix (rowAnswer kind body))
 
 -- File 3, kind 05. File 15: without it the drift stays that of the blank model, zero.
 unfoldable pub withDrift : State → ℕ → List ℕ → State
-withDrift s kind body = stateOf kind (s .rows) (setDrift (s .model) (sixAt (s .model .n) body 0))
+withDrift s kind body = stateOf kind (s .rows) (setDrift (s .model) (sixAt body 0))
 
 -- File 3, kinds 10 to 14, and File 8: one point more, behind those before it.
-unfoldable pub withPoint : ℕ → Set → ℕ → List ℕ → Set
-withPoint n set kind body =
+unfoldable pub withPoint : Set → ℕ → List ℕ → Set
+withPoint set kind body =
     record {
       shape = shapeOf kind;
       count = set .count + 1;
-      points = putRow (set .points) (set .count) (sixAt n body 0);
+      points = putRow (set .points) (set .count) (sixAt body 0);
     }
 
 -- File 3, kinds 20 to 24: the same of the input set.
 unfoldable pub withSetPoint : Bool → State → ℕ → List ℕ → State
 withSetPoint input s kind body =
-    stateOf kind (s .rows) (setSet input (s .model) (withPoint (s .model .n) (setOf input (s .model)) kind body))
+    stateOf kind (s .rows) (setSet input (s .model) (withPoint (setOf input (s .model)) kind body))
 
 -- File 10: the input set once a direction stands at a place. Below 20 no input record was read, and it is the box from zero to zero.
 abbrev pub inputAt : ℕ → Model → Set
@@ -178,7 +170,7 @@ unfoldable pub withDirection : State → ℕ → List ℕ → State
 withDirection s kind body =
     stateOf kind (s .rows)
     (setDirections (setSet true (s .model) (inputAt (s .last) (s .model))) (s .model .directions + 1)
-    (putRow (s .model .entries) (s .model .directions) (sixAt (s .model .n) body 0)))
+    (putRow (s .model .entries) (s .model .directions) (sixAt body 0)))
 
 -- File 3, kind 40.
 unfoldable pub withGuard : State → ℕ → List ℕ → State

@@ -26,7 +26,7 @@ abbrev pub setBefore : List ℕ → ℕ → Bool → Set
 setBefore file turns input = setOf input (stateAfter file turns .model)
 
 abbrev pub setWith : List ℕ → ℕ → Bool → ℕ → List ℕ → Set
-setWith file turns input kind body = withPoint (stateAfter file turns .model .n) (setBefore file turns input) kind body
+setWith file turns input kind body = withPoint (setBefore file turns input) kind body
 
 -- A kind of that set may stand there and is not one too many, and the set has a point already.
 pub record PointAt (file : List ℕ) (turns : ℕ) (input : Bool) (kind : ℕ) : Type 0 where

@@ -11,7 +11,7 @@ use Rattle.reader.specs.declared.state.State.{State}
 use Rattle.records.specs.Order.{mayFollow, partOf}
 use Rattle.reader.specs.Order.{mostOf}
 use Rattle.reader.specs.Models.{withHead, withRow, withDrift, withSetPoint, withDirection, withGuard}
-use Rattle.reader.specs.Values.{valueNumber}
+use Rattle.reader.specs.Values.{bodyNumber}
 
 -- Refusals 9: how many a part has that are counted. A head, rows, a drift and the end are not counted, so there is never one too many.
 abbrev pub countOf : Part → State → ℕ
@@ -33,12 +33,12 @@ unfoldable pub kindNumber : State → ℕ → ℕ
 kindNumber s kind = cond (mayFollow (s .last) kind) (cond (oneTooMany s kind) 9 0) 3
 
 -- Reading 1: the number of the record that stands at an offset, 0 where it is read. No byte (1); unknown (2); 3 and 9; a body that
--- is cut (1); 4 to 8, 15 and 17.
+-- is cut (1); 16; 4 to 8, 15 and 17.
 unfoldable pub refusal : State → Record → ℕ
 refusal s nothing = 1
 refusal s (unknown kind) = 2
 refusal s (short kind) = firstOf (kindNumber s kind) 1
-refusal s (whole kind body) = firstOf (kindNumber s kind) (valueNumber (partOf kind) s kind body)
+refusal s (whole kind body) = firstOf (kindNumber s kind) (bodyNumber s kind body)
 
 -- File 3: what a record adds. The end adds nothing.
 abbrev pub storedIn : Part → State → ℕ → List ℕ → State

@@ -1,4 +1,4 @@
--- Refusals 4 to 8, 15 and 17: what a body may hold. Definitions only. Assumes nothing.
+-- Refusals 4 to 8 and 15 to 17: what a body may hold. Definitions only. Assumes nothing.
 use mathlib.Core.Bool.{Bool, true, false, cond, not, _&&_, _||_}
 use mathlib.Core.List.{List}
 use Prim.Native.Nat.{ℕ}
@@ -8,6 +8,8 @@ use Rattle.arrays.specs.Tests.{allBetween, firstOf}
 use Rattle.stepping.specs.Refusals.{dimensionOk}
 use Rattle.coefficients.specs.Rows.{entriesNumber}
 use Rattle.records.specs.Numbers.{littleEndian}
+use Rattle.records.specs.Order.{partOf}
+use Rattle.columns.specs.Columns.{unusedZero}
 use Rattle.reachability.specs.Sets.{reachLimit, reachWithin}
 use Rattle.reachability.specs.Entering.{enteringWithin}
 use Rattle.limits.specs.Limits.{directionLimit, allZero, cornersOrdered}
@@ -25,13 +27,13 @@ headValuesOk n steps = dimensionOk n && leb steps 256
 abbrev pub headOk : List ℕ → Bool
 headOk body = headValuesOk (firstByte body) (littleEndian 2 body 1)
 
--- Limits 5 and Limits 11: numbers from minus the limit to the limit. Those beyond n are zero, so only the first n can fail.
+-- Limits 5 and Limits 11: numbers from minus the limit to the limit. Those beyond n are zero by then, so only the first n can fail.
 abbrev pub within : ℕ → List ℤ → Bool
 within limit six = allBetween (negℤ (pos limit)) (pos limit) six
 
 -- Refusals 17 does not apply to the drift.
-unfoldable pub driftOk : ℕ → List ℕ → Bool
-driftOk n body = within reachLimit (sixAt n body 0)
+unfoldable pub driftOk : List ℕ → Bool
+driftOk body = within reachLimit (sixAt body 0)
 
 -- Limits 8: the corners are compared at the upper one.
 abbrev pub cornersOk : ℕ → ℕ → List ℤ → Bool
@@ -46,8 +48,8 @@ abbrev pub enteringPointOk : Bool → Set → List ℤ → Bool
 enteringPointOk input set drift = not input || enteringWithin (set .shape) (set .count) (set .points) drift
 
 -- Refusals 7 does not apply.
-unfoldable pub directionOk : ℕ → List ℕ → Bool
-directionOk n body = within directionLimit (sixAt n body 0) && not (allZero (sixAt n body 0) 0)
+unfoldable pub directionOk : List ℕ → Bool
+directionOk body = within directionLimit (sixAt body 0) && not (allZero (sixAt body 0) 0)
 
 -- Refusals 8 does not apply.
 abbrev pub guardOk : State → List ℕ → Bool
@@ -58,7 +60,7 @@ unless ok number = cond ok 0 number
 
 -- Refusals 5, of the row number and then of the entries, or Refusals 15 of the entries.
 unfoldable pub rowNumber : State → ℕ → List ℕ → ℕ
-rowNumber s kind body = firstOf (unless (eqb (firstByte body) (s .rows)) 5) (entriesNumber (s .model .n) (rowAnswer kind body))
+rowNumber s kind body = firstOf (unless (eqb (firstByte body) (s .rows)) 5) (entriesNumber (rowAnswer kind body))
 
 -- The number of a point more of the initial set or, with `input`, of the input set: Refusals 6, then Refusals 17.
 abbrev pub pointNumberOf : Bool → ℕ → ℕ → Set → List ℤ → ℕ
@@ -66,15 +68,19 @@ pointNumberOf input n kind set drift = firstOf (unless (pointOk n kind set) 6) (
 
 abbrev pub pointNumber : Bool → State → ℕ → List ℕ → ℕ
 pointNumber input s kind body =
-    pointNumberOf input (s .model .n) kind (withPoint (s .model .n) (setOf input (s .model)) kind body) (s .model .drift)
+    pointNumberOf input (s .model .n) kind (withPoint (setOf input (s .model)) kind body) (s .model .drift)
 
--- The number of the value test of a record's part, 0 where the body passes. The end has no body.
+-- The number of the test of a record's other values, by its part, 0 where the body passes. The end has no body.
 abbrev pub valueNumber : Part → State → ℕ → List ℕ → ℕ
 valueNumber Head s kind body = unless (headOk body) 4
 valueNumber Row s kind body = rowNumber s kind body
-valueNumber Drift s kind body = unless (driftOk (s .model .n) body) 17
+valueNumber Drift s kind body = unless (driftOk body) 17
 valueNumber Initial s kind body = pointNumber false s kind body
 valueNumber Input s kind body = pointNumber true s kind body
-valueNumber Direction s kind body = unless (directionOk (s .model .n) body) 7
+valueNumber Direction s kind body = unless (directionOk body) 7
 valueNumber Guard s kind body = unless (guardOk s body) 8
 valueNumber End s kind body = 0
+
+-- Refusals 16, then the other values: the number of a whole body, 0 where it passes.
+unfoldable pub bodyNumber : State → ℕ → List ℕ → ℕ
+bodyNumber s kind body = firstOf (unless (unusedZero (s .model .n) kind body) 16) (valueNumber (partOf kind) s kind body)

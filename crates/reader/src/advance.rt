@@ -2,8 +2,11 @@
 use crate::order::kind_number;
 use crate::state::State;
 use crate::take::take;
+use columns::unused_zero;
 ghost use mathlib.Core.Path.{_≡_};
 ghost use Rattle.records.specs.Records.{recordAt, whole};
+ghost use Rattle.columns.specs.Columns.{unusedZero};
+ghost use Rattle.reader.specs.Values.{unless};
 ghost use Rattle.reader.specs.Refusals.{kindNumber};
 ghost use Rattle.reader.specs.Inner.{Advances};
 
@@ -20,15 +23,27 @@ pub struct Advanced {
     pub state: State,
 }
 
-// A whole record whose kind has passed 3 and 9.
+// 16 where an entry beyond n is not zero, else 0.
+fn unused_number(n: usize, kind: u8, body: &[u8]) -> u8
+    ensures { λ r. ⌜ r ≡ unless (unusedZero n kind (now (body .entry))) 16 ⌝ }
+{
+    if unused_zero(n, kind, body) {
+        return 0;
+    }
+    16
+}
+
+// A whole record whose kind has passed 3 and 9. What stands beyond n comes before its other values.
 fn advance_whole(file: &[u8], at: usize, state: State, kind: u8, body: &[u8]) -> Advanced
     requires { ⌜ recordAt (now file) at ≡ whole kind (now body) ⌝ }
     requires { ⌜ kindNumber state kind ≡ 0 ⌝ }
     ensures { λ r. ⌜ Advances (now (file .entry)) at state r ⌝ }
 {
     let start = at + 1;
+    let model = state.model;
+    let unused = unused_number(model.n, kind, body);
     let taken = take(state, kind, body);
-    let failed = taken.number;
+    let failed = arrays::first_of(unused, taken.number);
     if failed != 0 {
         return Advanced {
             outcome: Outcome::Stopped(failed, at),

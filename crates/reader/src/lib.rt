@@ -1,5 +1,5 @@
-// The reader of model files, "File" and "Reading" of the specification: any bytes at all are a model, or a number, 1 to 10, 15
-// or 17, with its offset.
+// The reader of model files, "File" and "Reading" of the specification: any bytes at all are a model, or a number, 1 to 10 or
+// 15 to 17, with its offset.
 //
 // No public function has a `requires`.
 mod advance;

@@ -7,7 +7,8 @@ use reachability::sets::Shape;
 ghost use mathlib.Core.Path.{_≡_};
 ghost use Prim.Native.Nat.{_≤_, _<_};
 ghost use Rattle.reader.specs.Inner.{fittedAt, heldRow};
-ghost use Rattle.reader.specs.Models.{firstByte, entryAt, sixAt, putRow, setOf, setSet, withPoint, inputAt};
+ghost use Rattle.columns.specs.Columns.{entryAt};
+ghost use Rattle.reader.specs.Models.{firstByte, sixAt, putRow, setOf, setSet, withPoint, inputAt};
 
 // The byte that a body starts with.
 pub(crate) fn first_byte(body: &[u8]) -> usize
@@ -19,29 +20,26 @@ pub(crate) fn first_byte(body: &[u8]) -> usize
     body[0] as usize
 }
 
-// Number i of six at the offset `at` of a body, zero beyond n.
-fn entry_at(n: usize, body: &[u8], at: usize, i: usize) -> i32
+// Entry i of six at the offset `at` of a body.
+fn entry_at(body: &[u8], at: usize, i: usize) -> i32
     requires { ⌜ at ≤ 1 ⌝ }
     requires { ⌜ i < 6 ⌝ }
-    ensures { λ r. ⌜ r ≡ entryAt n (now (body .entry)) at i ⌝ }
+    ensures { λ r. ⌜ r ≡ entryAt (now (body .entry)) at i ⌝ }
 {
-    if i < n {
-        return records::i32_at(body, at + 4 * i);
-    }
-    0
+    records::i32_at(body, at + 4 * i)
 }
 
-// The six numbers at the offset `at` of a body, zero beyond n.
-pub(crate) fn six_at(n: usize, body: &[u8], at: usize) -> [i32; 6]
+// The six entries at the offset `at` of a body.
+pub(crate) fn six_at(body: &[u8], at: usize) -> [i32; 6]
     requires { ⌜ at ≤ 1 ⌝ }
-    ensures { λ r. ⌜ r ≡ sixAt n (now (body .entry)) at ⌝ }
+    ensures { λ r. ⌜ r ≡ sixAt (now (body .entry)) at ⌝ }
 {
-    let a = entry_at(n, body, at, 0);
-    let b = entry_at(n, body, at, 1);
-    let c = entry_at(n, body, at, 2);
-    let d = entry_at(n, body, at, 3);
-    let e = entry_at(n, body, at, 4);
-    let f = entry_at(n, body, at, 5);
+    let a = entry_at(body, at, 0);
+    let b = entry_at(body, at, 1);
+    let c = entry_at(body, at, 2);
+    let d = entry_at(body, at, 3);
+    let e = entry_at(body, at, 4);
+    let f = entry_at(body, at, 5);
     [a, b, c, d, e, f]
 }
 
@@ -84,12 +82,12 @@ pub(crate) fn put_row(xs: &mut [i32], row: usize, six: &[i32; 6])
 }
 
 // A set with one point more.
-pub(crate) fn with_point(n: usize, set: Set, kind: u8, body: &[u8]) -> Set
+pub(crate) fn with_point(set: Set, kind: u8, body: &[u8]) -> Set
     requires { ⌜ set .count < 16 ⌝ }
-    ensures { λ r. ⌜ r ≡ withPoint n set kind (now (body .entry)) ⌝ }
+    ensures { λ r. ⌜ r ≡ withPoint set kind (now (body .entry)) ⌝ }
 {
     let count = set.count;
-    let six = six_at(n, body, 0);
+    let six = six_at(body, 0);
     let mut points = set.points;
     put_row(&mut points, count, &six);
     let shape = shape_of(kind);

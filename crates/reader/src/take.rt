@@ -1,4 +1,5 @@
-// Taking a whole record: its value test, Refusals 4 to 8, 15 and 17, and the state behind it.
+// Taking a whole record: the test of its values, Refusals 4 to 8, 15 and 17, and the state behind it. Its entries beyond n are tested
+// apart, by `columns`.
 use crate::state::State;
 use crate::store::first_byte;
 use crate::store::fitted_row;
@@ -95,24 +96,22 @@ fn store_row(state: State, row: usize, entries: RowEntries) -> Taken
 fn take_row(state: State, kind: u8, body: &[u8]) -> Taken
     ensures { λ r. ⌜ Takes (rowNumber state kind (now (body .entry))) (withRow state kind (now (body .entry))) r ⌝ }
 {
-    let model = state.model;
-    let n = model.n;
     if kind == 0x03 {
         let held = fitted_row(body);
-        let entries = fitted_entries(n, held);
+        let entries = fitted_entries(held);
         return store_row(state, held.number, entries);
     }
-    let six = six_at(6, body, 1);
-    let entries = scaled_entries(n, six);
+    let six = six_at(body, 1);
+    let entries = scaled_entries(six);
     store_row(state, first_byte(body), entries)
 }
 
-// The drift. What lies beyond n is zero.
+// The drift.
 fn take_drift(state: State, kind: u8, body: &[u8]) -> Taken
-    ensures { λ r. ⌜ Takes (unless (driftOk (state .model .n) (now (body .entry))) 17) (withDrift state kind (now (body .entry))) r ⌝ }
+    ensures { λ r. ⌜ Takes (unless (driftOk (now (body .entry))) 17) (withDrift state kind (now (body .entry))) r ⌝ }
 {
     let mut model = state.model;
-    let drift = six_at(model.n, body, 0);
+    let drift = six_at(body, 0);
     if !arrays::all_between(-1048576, 1048576, &drift) {
         return Taken { number: 17, state };
     }
@@ -172,7 +171,7 @@ fn take_point(state: State, input: bool, kind: u8, body: &[u8]) -> Taken
     let model = state.model;
     let n = model.n;
     let before = set_of(input, model);
-    let set = with_point(n, before, kind, body);
+    let set = with_point(before, kind, body);
     let drift = model.drift;
     let number = point_number(input, n, kind, set, &drift);
     if number != 0 {
@@ -191,10 +190,10 @@ fn take_point(state: State, input: bool, kind: u8, body: &[u8]) -> Taken
 
 fn take_direction(state: State, kind: u8, body: &[u8]) -> Taken
     requires { ⌜ state .model .directions < 16 ⌝ }
-    ensures { λ r. ⌜ Takes (unless (directionOk (state .model .n) (now (body .entry))) 7) (withDirection state kind (now (body .entry))) r ⌝ }
+    ensures { λ r. ⌜ Takes (unless (directionOk (now (body .entry))) 7) (withDirection state kind (now (body .entry))) r ⌝ }
 {
     let mut model = state.model;
-    let six = six_at(model.n, body, 0);
+    let six = six_at(body, 0);
     if !arrays::all_between(-1000, 1000, &six) {
         return Taken { number: 7, state };
     }

@@ -7,14 +7,17 @@ use Prim.Native.Nat.{ℕ, zero, suc, _+_, _-_, _≤_, _<_}
 use native.Mathlib.Decide.{decLt}
 use native.Mathlib.Omega.{arith}
 use borrow.Author.Tests.{lt-ltb, le-ltb, le-leb, lt-leb}
-use lib.ListN.{length, getD, take, drop, length-append, length-take, length-drop}
-use lib.Seq.{length-take-le, take-append-seam, take-take, getD-take, getD-append-seam, drop-append-add}
+use lib.ListN.{length, getD, take, drop, length-append, length-take, length-drop, List·getD-eq-default}
+use lib.Seq.{length-take-le, take-append-seam, take-take, getD-take, getD-drop, getD-append-seam, drop-append-add}
+use mir.Syntax.{w8}
+use mir.Val.{Fits}
 use denote.Ref.{RefT, now}
 use Rattle.records.specs.declared.kinds.BodyLength.{BodyLength}
 use Rattle.records.specs.declared.kinds.BodyLength.the-variants.{Bytes, Unknown}
 use Rattle.records.specs.Kinds.{bodyLength}
 use Rattle.records.specs.Records.{Record, whole, short, unknown, nothing, recordOf, recordAt, recordNumber, recordKind, recordBody, RecordStep}
 use Rattle.records.proofs.KnownKinds.{kind-above-zero, bodyLength-le}
+use Rattle.records.proofs.LittleEndian.{AllBytes}
 
 -- ---- the four cases
 
@@ -102,6 +105,18 @@ whole-of file at kind body = by-case (recordAt file at) (recordAt-is file at)
 -- The body of a whole record has exactly as many bytes as its kind says.
 pub whole-length : (file : List ℕ) (at kind : ℕ) (body : List ℕ) → recordAt file at ≡ whole kind body → bodyLength kind ≡ Bytes (length body)
 whole-length file at kind body e = whole-of file at kind body e .length-is
+
+-- The body of a file of bytes is bytes.
+pub whole-bytes : (file : List ℕ) (at kind : ℕ) (body : List ℕ) → recordAt file at ≡ whole kind body → AllBytes file → AllBytes body
+whole-bytes file at kind body e bytes i =
+    let part = whole-of file at kind body e .body-is in
+    elim (decLt i (length body)) [
+      | yes l ↦
+          subst (Fits w8)
+          (sym (ap (λ (b : List ℕ). getD b i 0) part ∙ getD-take (length body) (drop (at + 1) file) i 0 l ∙ getD-drop (at + 1) file i 0))
+          (bytes (at + 1 + i))
+      | no g ↦ subst (Fits w8) (sym (List·getD-eq-default body 0 {n = i} (omega (arith, g)))) (record { fits = omega arith })
+    ]
 
 -- ---- a record that stands in a file
 

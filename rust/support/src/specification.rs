@@ -121,13 +121,33 @@ fn one_too_many(model: &Model, kind: u8) -> bool {
     }
 }
 
-/// The first n of the six numbers of four bytes; those behind them are not looked at, and are zero here (File 7).
-fn six(n: usize, bytes: &[u8]) -> Six {
+/// Six numbers of four bytes.
+fn six(bytes: &[u8]) -> Six {
     let mut all = [0; 6];
-    for (number, four) in all.iter_mut().zip(bytes.chunks_exact(4)).take(n) {
+    for (number, four) in all.iter_mut().zip(bytes.chunks_exact(4)) {
         *number = i32::from_le_bytes(four.try_into().expect("four bytes"));
     }
     all
+}
+
+/// Six numbers of binary64.
+fn six_fitted(bytes: &[u8]) -> [f64; 6] {
+    let mut all = [0.0; 6];
+    for (value, eight) in all.iter_mut().zip(bytes.chunks_exact(8)) {
+        *value = f64::from_le_bytes(eight.try_into().expect("eight bytes"));
+    }
+    all
+}
+
+/// Whether an entry beyond n is other than zero (Refusals 16). A head and a guard have no such entries.
+fn rubbish_beyond(n: usize, kind: u8, body: &[u8]) -> bool {
+    match kind {
+        0x01 | 0x40 => false,
+        0x02 => six(&body[1..])[n..].iter().any(|entry| *entry != 0),
+        // Either zero is equal to zero, and a NaN to nothing.
+        0x03 => six_fitted(&body[1..])[n..].iter().any(|value| *value != 0.0),
+        _ => six(body)[n..].iter().any(|entry| *entry != 0),
+    }
 }
 
 /// What a number of binary64 becomes in the matrix (File 12); `None` where it is not finite or beyond 2 (Refusals 15).
@@ -138,11 +158,11 @@ pub fn fitted_entry(value: f64) -> Option<i32> {
     (value.abs() <= FITTED_LIMIT).then(|| (value * 65_536.0).round_ties_even() as i32)
 }
 
-/// The entries that the first n of six numbers of binary64 become; those behind them are not looked at, and are zero here.
-fn fitted_six(n: usize, bytes: &[u8]) -> Option<Six> {
+/// The entries that six numbers of binary64 become.
+fn fitted_entries(values: [f64; 6]) -> Option<Six> {
     let mut all = [0; 6];
-    for (entry, eight) in all.iter_mut().zip(bytes.chunks_exact(8)).take(n) {
-        *entry = fitted_entry(f64::from_le_bytes(eight.try_into().expect("eight bytes")))?;
+    for (entry, value) in all.iter_mut().zip(values) {
+        *entry = fitted_entry(value)?;
     }
     Some(all)
 }
@@ -152,11 +172,11 @@ fn within(numbers: &Six, limit: i32) -> bool {
 }
 
 /// The entries of a scaled (02) or fitted (03) row, or the number that they are refused by (Refusals 5, Refusals 15).
-fn row_entries(kind: u8, n: usize, bytes: &[u8]) -> Result<Six, u8> {
+fn row_entries(kind: u8, bytes: &[u8]) -> Result<Six, u8> {
     if kind == 0x03 {
-        return fitted_six(n, bytes).ok_or(15);
+        return fitted_entries(six_fitted(bytes)).ok_or(15);
     }
-    Some(six(n, bytes)).filter(|row| within(row, ENTRY_LIMIT)).ok_or(5)
+    Some(six(bytes)).filter(|row| within(row, ENTRY_LIMIT)).ok_or(5)
 }
 
 fn take_point(set: &mut Set, n: usize, kind: u8, body: &[u8]) -> bool {
@@ -165,13 +185,13 @@ fn take_point(set: &mut Set, n: usize, kind: u8, body: &[u8]) -> bool {
         2 | 3 => Form::Zonotope,
         _ => Form::Vertices,
     };
-    set.points.push(six(n, body));
+    set.points.push(six(body));
     let in_reach = (0..n).all(|i| reach::<i64>(set, i) <= i64::from(REACH_LIMIT));
     let in_order = kind & 0x0F != 1 || (0..n).all(|i| set.points[0][i] <= set.points[1][i]);
     in_reach && in_order
 }
 
-/// Stores a record; the number of the value test that it fails (Refusals 4 to 8, 15 and 17), or 0.
+/// Stores a record, in which all beyond n is zero; the number of the value test that it fails (Refusals 4 to 8, 15 and 17), or 0.
 fn take(SoFar { model, rows, drift }: &mut SoFar, kind: u8, body: &[u8]) -> u8 {
     match kind {
         0x01 => {
@@ -187,7 +207,7 @@ fn take(SoFar { model, rows, drift }: &mut SoFar, kind: u8, body: &[u8]) -> u8 {
             if usize::from(body[0]) != *rows {
                 return 5;
             }
-            match row_entries(kind, model.n, &body[1..]) {
+            match row_entries(kind, &body[1..]) {
                 Ok(row) => model.matrix[*rows] = row,
                 Err(number) => return number,
             }
@@ -195,7 +215,7 @@ fn take(SoFar { model, rows, drift }: &mut SoFar, kind: u8, body: &[u8]) -> u8 {
         }
         0x05 => {
             *drift = true;
-            model.drift = six(model.n, body);
+            model.drift = six(body);
             if !within(&model.drift, REACH_LIMIT) {
                 return 17;
             }
@@ -214,7 +234,7 @@ fn take(SoFar { model, rows, drift }: &mut SoFar, kind: u8, body: &[u8]) -> u8 {
             }
         }
         0x30 => {
-            let direction = six(model.n, body);
+            let direction = six(body);
             if !within(&direction, DIRECTION_LIMIT) || direction == [0; 6] {
                 return 7;
             }
@@ -260,6 +280,9 @@ pub fn read(file: &[u8]) -> Result<Model, Refusal> {
                 return Err(Refusal::File { number: 10, offset: offset + 1 });
             }
             return Ok(so_far.model);
+        }
+        if rubbish_beyond(so_far.model.n, kind, body) {
+            return refuse(16);
         }
         let number = take(&mut so_far, kind, body);
         if number != 0 {

@@ -136,14 +136,15 @@ fn it_stands_once_and_straight_after_the_last_row() {
 }
 
 #[test]
-fn the_first_n_entries_are_tested_and_no_others() {
+fn the_first_n_entries_are_tested_by_17_and_the_others_by_16() {
     for i in 0..6 {
         for entry in [LIMIT, -LIMIT, LIMIT + 1, -LIMIT - 1, i32::MIN, i32::MAX] {
             let mut entries = [0; 6];
             entries[i] = entry;
             let bytes = behind_rows(&[numbers(0x05, &entries), numbers(0x14, &[0, 0])]);
-            let beyond = i < 2 && !(-LIMIT..=LIMIT).contains(&entry);
-            assert_eq!(refusal(&bytes), beyond.then_some((17, 56)), "{entries:?}");
+            let too_large = !(-LIMIT..=LIMIT).contains(&entry);
+            let expected = if i >= 2 { Some((16, 56)) } else { too_large.then_some((17, 56)) };
+            assert_eq!(refusal(&bytes), expected, "{entries:?}");
         }
     }
 }

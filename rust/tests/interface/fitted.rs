@@ -25,12 +25,12 @@ fn vertex_at(i: usize) -> usize {
     4 + 50 * 6 + 1 + 4 * i
 }
 
-/// A model with these rows, 65,536 times the weights as its vertex, beyond n too, and a direction for each coordinate.
+/// A model with these rows, 65,536 times the weights as its vertex, and a direction for each coordinate.
 fn model(rows: &[Record]) -> Vec<u8> {
     let n = rows.len();
     let mut records = vec![head(n as u8, 1)];
     records.extend_from_slice(rows);
-    records.push(numbers(0x14, &WEIGHTS.map(|weight| 65_536 * weight)));
+    records.push(numbers(0x14, &WEIGHTS.map(|weight| 65_536 * weight)[..n]));
     for p in 0..n {
         let mut unit = [0; 6];
         unit[p] = 1;
@@ -155,7 +155,11 @@ fn the_body_is_tested_before_the_number_and_the_number_before_the_entries() {
         }
         let refused = sweep(&row_and(fitted(1, &[HALF, wrong])), 0, &mut [0; 2], &mut [0; 2]);
         assert_eq!(refused, Err(Refusal::File { number: 15, offset: 30 }));
-        assert_eq!(reply(&row_and(fitted(1, &[HALF, TWO, wrong]))), Ok(10));
+        // Beyond n they are refused by 16, before the number and the entries.
+        for number in [0, 1, 2, 255] {
+            assert_eq!(reply(&row_and(fitted(number, &[HALF, TWO, wrong]))), Err(16));
+            assert_eq!(reply(&row_and(fitted(number, &[HALF, wrong, 0, 0, 0, wrong]))), Err(16));
+        }
     }
     // A scaled row behind a fitted one is held to its number too.
     assert_eq!(reply(&model(&[fitted(0, &[HALF]), row(0, &[1, 2])])), Err(5));
@@ -165,13 +169,12 @@ fn the_body_is_tested_before_the_number_and_the_number_before_the_entries() {
 }
 
 #[test]
-fn bits_beyond_n_are_not_looked_at() {
+fn either_zero_beyond_n_is_listed_as_the_other_and_all_else_is_refused_by_16() {
     let mut random = Random::new(27);
     let mut out = vec![0; LISTING_ROOM];
     for n in 1..=5 {
         for _ in 0..200 {
-            let mut rows = Vec::new();
-            let mut plain = Vec::new();
+            let (mut plain, mut signed) = (Vec::new(), Vec::new());
             for number in 0..n {
                 let mut patterns = [0; 6];
                 for bits in &mut patterns[..n] {
@@ -180,13 +183,22 @@ fn bits_beyond_n_are_not_looked_at() {
                 }
                 plain.push(fitted(number as u8, &patterns));
                 for bits in &mut patterns[n..] {
-                    *bits = if random.one_in(2) { random.pick(&NO_ENTRIES) } else { random.bits() };
+                    *bits = random.pick(&[0, SIGN, SIGN]);
                 }
-                rows.push(fitted(number as u8, &patterns));
+                signed.push(fitted(number as u8, &patterns));
             }
             let expected = text(of_file::<i128>(&model(&plain)));
             assert!(expected.starts_with("model "), "none is refused");
-            assert_eq!(listing(&model(&rows), &mut out), Some(expected.as_bytes()));
+            assert_eq!(listing(&model(&plain), &mut out), Some(expected.as_bytes()));
+            assert_eq!(listing(&model(&signed), &mut out), Some(expected.as_bytes()));
+            // One bit in one column, beside a sign or none, or what is no number.
+            let (number, column) = (random.below(n), n + random.below(6 - n));
+            for bits in [1 << random.below(63), random.pick(&NO_ENTRIES), 1, (random.bits() >> 1).max(1)] {
+                let mut bytes = model(&signed);
+                bytes[4 + 50 * number + 2 + 8 * column..][..8].copy_from_slice(&(bits | random.pick(&[0, SIGN])).to_le_bytes());
+                let expected = format!("refused 16 at {}\n", 4 + 50 * number);
+                assert_eq!(listing(&bytes, &mut out), Some(expected.as_bytes()));
+            }
         }
     }
 }

@@ -3,6 +3,7 @@
 //! Optimised by the profile `test`, with overflow checks. Whatever is lent stands between sentinels (`lent.rs`). Tests that draw at random use
 //! fixed seeds and assert that each kind of reply came often enough.
 
+mod beyond;
 mod drift;
 mod figures;
 mod fitted;

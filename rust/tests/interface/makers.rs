@@ -37,16 +37,6 @@ impl Random {
     }
 }
 
-/// The last six numbers of a body with n of them kept; the others, which a reader ignores, are sometimes filled.
-fn filled(random: &mut Random, n: usize, mut entries: [i32; 6]) -> [i32; 6] {
-    if random.one_in(2) {
-        for entry in &mut entries[n..] {
-            *entry = random.pick(&[i32::MIN, i32::MAX, -1, 1, 77_777]);
-        }
-    }
-    entries
-}
-
 /// The sign of 64 bits.
 pub const SIGN: u64 = 1 << 63;
 
@@ -81,16 +71,15 @@ pub fn near(random: &mut Random, entry: i32) -> u64 {
     bits - u64::from(bits & !SIGN > 0 && random.one_in(4))
 }
 
-/// A fitted row near these entries. Those beyond n, which a reader ignores, are sometimes filled.
+/// A fitted row near these entries. Beyond n there are zeros, of one sign or of both.
 fn fitted_row(random: &mut Random, n: usize, number: u8, entries: &[i32; 6]) -> Record {
     let mut patterns = [0; 6];
     for (bits, entry) in patterns.iter_mut().zip(&entries[..n]) {
         *bits = near(random, *entry);
     }
-    if random.one_in(2) {
-        for bits in &mut patterns[n..] {
-            *bits = if random.one_in(2) { no_entry(random) } else { random.bits() };
-        }
+    let zeros = random.pick(&[[0, 0], [SIGN, SIGN], [0, SIGN]]);
+    for bits in &mut patterns[n..] {
+        *bits = random.pick(&zeros);
     }
     fitted(number, &patterns)
 }
@@ -127,7 +116,6 @@ fn matrix_rows(random: &mut Random, n: usize) -> Vec<Record> {
             if fitted > 0 && random.below(2) < fitted {
                 return fitted_row(random, n, number as u8, &entries);
             }
-            let entries = filled(random, n, entries);
             row(number as u8, &entries)
         })
         .collect()
@@ -166,8 +154,7 @@ fn set_points(random: &mut Random, n: usize, family: u8) -> Vec<Record> {
             (vec![4; count], (0..count).map(|_| point(random, most)).collect())
         }
     };
-    let filled = |random: &mut Random, (kind, entries): (u8, [i32; 6])| numbers(family + kind, &filled(random, n, entries));
-    kinds.into_iter().zip(points).map(|pair| filled(random, pair)).collect()
+    kinds.into_iter().zip(points).map(|(kind, entries)| numbers(family + kind, &entries)).collect()
 }
 
 fn direction(random: &mut Random, n: usize) -> Record {
@@ -179,7 +166,6 @@ fn direction(random: &mut Random, n: usize) -> Record {
     if random.one_in(4) || entries == [0; 6] {
         entries[random.below(n)] = random.pick(&[-1_000, -1, 1, 1_000]);
     }
-    let entries = filled(random, n, entries);
     numbers(0x30, &entries)
 }
 
@@ -200,7 +186,6 @@ fn drift(random: &mut Random, n: usize, input: &[Record]) -> Record {
         let somewhere = random.between(-room, room);
         *entry = random.pick(&[-room, room, somewhere]) as i32;
     }
-    let entries = filled(random, n, entries);
     numbers(0x05, &entries)
 }
 
@@ -266,12 +251,73 @@ fn put_drift(records: &mut Vec<Record>, i: usize, entry: i32) {
     records.insert(behind, numbers(0x05, &entries));
 }
 
+/// Where the six entries of a body of this kind begin, and how many bytes each has; `None` for a kind that has none.
+pub fn entries_in(kind: u8) -> Option<(usize, usize)> {
+    match kind {
+        0x02 => Some((1, 4)),
+        0x03 => Some((1, 8)),
+        0x05 | 0x10..=0x14 | 0x20..=0x24 | 0x30 => Some((0, 4)),
+        _ => None,
+    }
+}
+
+/// Puts an entry, or its 64 bits in a fitted row, into a column.
+pub fn put_entry(record: &mut Record, column: usize, bits: u64) {
+    let (first, size) = entries_in(record.kind).expect("a kind with entries");
+    put(record, first + size * column, &bits.to_le_bytes()[..size]);
+}
+
+/// What no entry beyond n may be, as 64 bits, of which a number of four bytes takes the lower half.
+fn rubbish(random: &mut Random, kind: u8) -> u64 {
+    if kind == 0x03 {
+        let one_bit = 1 << random.below(63);
+        let any = (random.bits() >> 1).max(1);
+        return random.pick(&[1, one_bit, 1f64.to_bits(), no_entry(random), any]) | random.pick(&[0, SIGN]);
+    }
+    let one_bit = 1i32 << random.below(32);
+    let any = (random.bits() as i32) | 1;
+    random.pick(&[1, -1, one_bit, i32::MIN, i32::MAX, any]) as u64
+}
+
+/// Puts rubbish beyond n, which is below 6: next to n, in the last column, in any one or in all.
+pub fn put_rubbish(random: &mut Random, record: &mut Record, n: usize) {
+    let one = n + random.below(6 - n);
+    for column in random.pick(&[n..n + 1, 5..6, one..one + 1, n..6]) {
+        let bits = rubbish(random, record.kind);
+        put_entry(record, column, bits);
+    }
+}
+
+/// Makes a value of a record wrong that comes up to n: the number of a row, or an entry.
+fn spoil_value(random: &mut Random, record: &mut Record, n: usize) {
+    if is_row(record.kind) && random.one_in(2) {
+        let number = record.body[0];
+        return put(record, 0, &[random.pick(&[number.wrapping_add(1), number.wrapping_sub(1), 255])]);
+    }
+    let wrong = match record.kind {
+        0x02 => 131_073,
+        0x03 => no_entry(random),
+        0x30 => 1_001,
+        _ => 1_048_577,
+    };
+    put_entry(record, random.below(n), wrong);
+}
+
+/// The place of a record that has entries; each kind comes equally often.
+pub fn place_with_entries(random: &mut Random, records: &[Record]) -> usize {
+    let mut kinds: Vec<u8> = records.iter().map(|record| record.kind).filter(|kind| entries_in(*kind).is_some()).collect();
+    kinds.sort_unstable();
+    kinds.dedup();
+    let kind = random.pick(&kinds);
+    random.pick(&places(records, |other| other == kind))
+}
+
 /// One damage to whole records or to a value, that a reader has to see (or, now and then, may accept).
 pub fn damage_records(random: &mut Random, records: &mut Vec<Record>) {
     let n = usize::from(records[0].body[0]);
     let place = random.below(records.len());
     let other = random.below(records.len());
-    match random.below(17) {
+    match random.below(20) {
         0 => records.swap(place, other),
         1 => {
             records.remove(place);
@@ -341,6 +387,22 @@ pub fn damage_records(random: &mut Random, records: &mut Vec<Record>) {
             put_drift(records, i, random.pick(&[entry, -entry]) as i32);
         }
         15 => records.insert(other, numbers(0x05, &[1])),
+        16 | 17 if n < 6 => {
+            let place = place_with_entries(random, records);
+            if random.one_in(2) {
+                spoil_value(random, &mut records[place], n);
+            }
+            put_rubbish(random, &mut records[place], n);
+        }
+        18 => {
+            // Saved with fewer coordinates: the rows beyond them are left out, and no column.
+            let fewer = 1 + random.below(n);
+            let rows = places(records, is_row);
+            if rows.len() == n {
+                records.drain(rows[fewer - 1] + 1..=rows[n - 1]);
+            }
+            records[0].body[0] = fewer as u8;
+        }
         _ => {
             let before_end = records.len() - 1;
             records.insert(before_end, guard(random.pick(&[0, 1, 2, 15, 16, 255]), 0));

@@ -74,7 +74,7 @@ fn files_with_damaged_records_and_values_get_the_reply_of_the_specification() {
         *seen.entry(compare_file(&mut random, &file(&records))).or_insert(0) += 1;
     }
     println!("accepted (0), and refused by each number: {seen:?}");
-    assert!(seen.keys().copied().eq((0..=10).chain([15, 17])), "every number comes: {seen:?}");
+    assert!(seen.keys().copied().eq((0..=10).chain(15..=17)), "every number comes: {seen:?}");
     assert!(seen.values().all(|count| *count > 20), "often: {seen:?}");
 }
 
@@ -94,7 +94,7 @@ fn files_with_damaged_bytes_get_the_reply_of_the_specification() {
     }
     println!("accepted (0), and refused by each number: {seen:?}");
     seen.remove(&9);
-    assert!(seen.keys().copied().eq((0..=8).chain([10, 15, 17])), "every number but 9 comes: {seen:?}");
+    assert!(seen.keys().copied().eq((0..=8).chain([10, 15, 16, 17])), "every number but 9 comes: {seen:?}");
     assert!(seen.values().all(|count| *count > 20), "often: {seen:?}");
 }
 

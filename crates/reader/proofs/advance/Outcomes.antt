@@ -14,8 +14,7 @@ use Rattle.reader.specs.declared.state.State.{State}
 use Rattle.reader.specs.declared.advance.Outcome.{Outcome}
 use Rattle.reader.specs.declared.advance.Outcome.the-variants.{Next, Ended, Stopped}
 use Rattle.reader.specs.declared.advance.Advanced.{Advanced}
-use Rattle.records.specs.Order.{partOf}
-use Rattle.reader.specs.Values.{valueNumber}
+use Rattle.reader.specs.Values.{bodyNumber}
 use Rattle.reader.specs.Refusals.{kindNumber, refusal, stored}
 use Rattle.reader.specs.Reading.{refused, readAs, readFrom}
 use Rattle.reader.specs.Inner.{followed, Advances}
@@ -51,10 +50,10 @@ module _ {file : List ℕ} {at : ℕ} {s : State} {r : Advanced} where
     advances-short is stops = refusing is (λ e. let z : _≡_ {A = ℕ} 0 1 = cc in omega arith) (refusal-short s kind passes) (λ z. omega arith) stops
 
     module _ {body : List ℕ} (is : recordAt file at ≡ whole kind body) where
-      pub advances-value : {number : ℕ} → number ≡ valueNumber (partOf kind) s kind body → (number ≡ 0 → ⊥) → r .outcome ≡ Stopped number at → Advances file at s r
+      pub advances-value : {number : ℕ} → number ≡ bodyNumber s kind body → (number ≡ 0 → ⊥) → r .outcome ≡ Stopped number at → Advances file at s r
       advances-value e ne stops = refusing is (λ f. let z : _≡_ {A = ℕ} 0 1 = cc in omega arith) (refusal-whole s kind body passes ∙ sym e) ne stops
 
-      module _ (z : valueNumber (partOf kind) s kind body ≡ 0) where
+      module _ (z : bodyNumber s kind body ≡ 0) where
         pub advances-more : kind ≡ 0xFF → at + 1 < length file → r .outcome ≡ Stopped 10 (at + 1) → Advances file at s r
         advances-more e h stops = stopped stops (sym (readFrom-more file at s is (refusal-whole s kind body passes ∙ z) e h))
 

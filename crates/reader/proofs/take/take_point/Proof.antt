@@ -28,7 +28,7 @@ module _ (c : tie.After-point-number) where
   kind = start .args .kind
 
   abbrev set : Set
-  set = withPoint (s .model .n) (setOf which (s .model)) kind (start .args .body .now)
+  set = withPoint (setOf which (s .model)) kind (start .args .body .now)
 
   more : c .before .before .before .with-point .result ≡ set
   more = rw (← c .before .before .before .before .set-of .ensures) (c .before .before .before .with-point .ensures)

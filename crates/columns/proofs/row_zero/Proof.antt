@@ -1,0 +1,33 @@
+-- `columns::row_zero` meets its contract. Assumes nothing.
+use Rattle.integers.proofs.Basics.{sym, ap, _∙_, Bool, needs}
+use mathlib.Core.Bool.{cond}
+use borrow.Author.Tests.{eq-eqb, ne-eqb}
+use Rattle.coefficients.specs.Binary64.{isZero}
+use Rattle.columns.specs.Columns.{bitsAt, entryZero}
+use Rattle.columns.proofs.row_zero.Statement.{statement}
+use Rattle.columns.proofs.row_zero.Tie as tie
+
+returns : tie.Need-returns
+returns c =
+    let a = c .before .before .before .before .args in
+    c .is-zero .ensures
+    ∙ ap isZero (c .before .u64-at .ensures)
+    ∙ sym (ap (λ (b : Bool). cond b (isZero (bitsAt (a .body .now) (a .i))) (entryZero (a .body .now) 1 (a .i))) (eq-eqb _ _ (c .before .before .if1 .taken)))
+
+returns-2 : tie.Need-returns-2
+returns-2 c =
+    let a = c .before .before .before .args in
+    c .entry-zero .ensures
+    ∙ sym (ap (λ (b : Bool). cond b (isZero (bitsAt (a .body .now) (a .i))) (entryZero (a .body .now) 1 (a .i))) (ne-eqb _ _ (c .before .if1 .left)))
+
+pub row-zero-spec : {M : Type 1} → statement M
+row-zero-spec =
+    tie.close
+    (tie.spec
+    (λ c. search needs)
+    (λ c. search needs)
+    (λ c κs. search needs)
+    (λ c κs. search needs)
+    returns
+    (λ c κs. search needs)
+    returns-2)
