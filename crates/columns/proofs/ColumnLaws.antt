@@ -1,38 +1,93 @@
--- Laws of `unusedZero`. In order: one entry; the entries beyond n of a body that passes, as numbers; a body whose entries are all zero.
--- Assumes nothing.
-use mathlib.Core.Path.{_≡_, sym, ap, _∙_}
-use mathlib.Core.Bool.{Bool, true, _||_}
+-- Laws of `unusedZero`. In order: one entry; what a body that passes has beyond n, by its part; bodies that pass. Assumes nothing.
+use mathlib.Core.Path.{_≡_, refl, sym, ap, _∙_}
+use mathlib.Core.Bool.{Bool, true, false, cond, not, _||_}
 use mathlib.Core.List.{List}
 use Prim.Native.Nat.{ℕ, _≤_, _<_}
-use borrow.Author.Tests.{le-ltb, eqb-true}
+use native.Mathlib.Omega.{arith}
+use borrow.Author.Tests.{le-ltb, eqb-true, ne-eqb}
 use lib.Dec.{ltb}
 use lib.IntN.{pos, natAbs}
+use Rattle.integers.specs.Sums.{allBelow}
 use Rattle.integers.proofs.Booleans.{or-true}
 use Rattle.integers.proofs.Machine.{zero-of-natAbs}
 use Rattle.integers.proofs.Sums.{allBelow-at, allBelow-intro}
+use Rattle.coefficients.specs.Binary64.{isZero}
 use Rattle.records.specs.declared.order.Part.{Part}
+use Rattle.records.specs.declared.order.Part.the-variants.{Head, Row, Drift, Initial, Input, Direction, Guard, End}
 use Rattle.records.specs.Order.{partOf}
-use Rattle.columns.specs.Columns.{entryAt, entryZero, partZero, columnZero, unusedZero}
+use Rattle.columns.specs.Columns.{entryAt, bitsAt, hasEntries, firstEntry, entryZero, columnZero, unusedZero}
 
 -- Entry i is one of the first n, or zero.
-abbrev pub passes : ℕ → ℕ → List ℕ → ℕ → Bool
-passes n kind body i = ltb i n || columnZero kind body i
+abbrev pub passes : ℕ → ℕ → ℕ → List ℕ → ℕ → Bool
+passes at n kind body i = ltb i n || columnZero at kind body i
 
-pub passes-beyond : (n kind : ℕ) (body : List ℕ) (i : ℕ) → n ≤ i → passes n kind body i ≡ columnZero kind body i
-passes-beyond n kind body i h = ap (λ (b : Bool). b || columnZero kind body i) (le-ltb i n h)
-
--- ---- a body that passes
-
-pub unusedZero-at : (n kind : ℕ) (body : List ℕ) → unusedZero n kind body ≡ true → (p : Part) → partOf kind ≡ p → (i : ℕ) → n ≤ i → i < 6 → partZero p kind body i ≡ true
-unfolding unusedZero
-unusedZero-at n kind body z p e i h l =
-    sym (ap (λ (q : Part). partZero q kind body i) e) ∙ sym (passes-beyond n kind body i h) ∙ allBelow-at 6 (passes n kind body) z i l
+pub passes-beyond : (at n kind : ℕ) (body : List ℕ) (i : ℕ) → n ≤ i → passes at n kind body i ≡ columnZero at kind body i
+passes-beyond at n kind body i h = ap (λ (b : Bool). b || columnZero at kind body i) (le-ltb i n h)
 
 pub entryZero-is : (body : List ℕ) (at i : ℕ) → entryZero body at i ≡ true → entryAt body at i ≡ pos 0
 entryZero-is body at i z = zero-of-natAbs (entryAt body at i) (eqb-true (natAbs (entryAt body at i)) 0 z)
 
--- ---- a body of zeros
+pub firstEntry-le : (p : Part) → firstEntry p ≤ 1
+firstEntry-le Head = omega arith
+firstEntry-le Row = omega arith
+firstEntry-le Drift = omega arith
+firstEntry-le Initial = omega arith
+firstEntry-le Input = omega arith
+firstEntry-le Direction = omega arith
+firstEntry-le Guard = omega arith
+firstEntry-le End = omega arith
 
-pub unusedZero-of : (n kind : ℕ) (body : List ℕ) → ((i : ℕ) → i < 6 → columnZero kind body i ≡ true) → unusedZero n kind body ≡ true
-unfolding unusedZero
-unusedZero-of n kind body each = allBelow-intro 6 (passes n kind body) (λ i l. ap (λ (b : Bool). ltb i n || b) (each i l) ∙ or-true (ltb i n))
+-- ---- a body that passes
+
+-- The test of entry i, by the part: of a row by its kind, of others without it, and none where there are no entries.
+abbrev pub partZero : Part → ℕ → List ℕ → ℕ → Bool
+partZero Head kind body i = true
+partZero Row kind body i = columnZero 1 kind body i
+partZero Drift kind body i = entryZero body 0 i
+partZero Initial kind body i = entryZero body 0 i
+partZero Input kind body i = entryZero body 0 i
+partZero Direction kind body i = entryZero body 0 i
+partZero Guard kind body i = true
+partZero End kind body i = true
+
+module _ (n kind : ℕ) (body : List ℕ) where
+  -- only a row is fitted
+  not-fitted : {p : Part} → partOf kind ≡ p → (Row ≡ p → ⊥) → (i : ℕ) → columnZero 0 kind body i ≡ entryZero body 0 i
+  unfolding partOf
+  not-fitted e ne i =
+      ap (λ (b : Bool). cond b (isZero (bitsAt body i)) (entryZero body 0 i)) (ne-eqb kind 0x03 (λ k. ne (sym (ap partOf k) ∙ e)))
+
+  by-part : (p : Part) → partOf kind ≡ p → (i : ℕ) → not (hasEntries p) || columnZero (firstEntry p) kind body i ≡ true → partZero p kind body i ≡ true
+  by-part Head e i z = refl
+  by-part Row e i z = z
+  by-part Drift e i z = sym (not-fitted e (λ t. let u : _≡_ {A = ℕ} 0 1 = cc in omega arith) i) ∙ z
+  by-part Initial e i z = sym (not-fitted e (λ t. let u : _≡_ {A = ℕ} 0 1 = cc in omega arith) i) ∙ z
+  by-part Input e i z = sym (not-fitted e (λ t. let u : _≡_ {A = ℕ} 0 1 = cc in omega arith) i) ∙ z
+  by-part Direction e i z = sym (not-fitted e (λ t. let u : _≡_ {A = ℕ} 0 1 = cc in omega arith) i) ∙ z
+  by-part Guard e i z = refl
+  by-part End e i z = refl
+
+  pub unusedZero-at : unusedZero n kind body ≡ true → (p : Part) → partOf kind ≡ p → (i : ℕ) → n ≤ i → i < 6 → partZero p kind body i ≡ true
+  unfolding unusedZero
+  unusedZero-at z p e i h l =
+      by-part p e i
+      (each (not (hasEntries p)) (firstEntry p) (sym (ap (λ (q : Part). not (hasEntries q) || allBelow 6 (passes (firstEntry q) n kind body)) e) ∙ z))
+    where
+      each : (b : Bool) (at : ℕ) → b || allBelow 6 (passes at n kind body) ≡ true → b || columnZero at kind body i ≡ true
+      each true at t = refl
+      each false at t = sym (passes-beyond at n kind body i h) ∙ allBelow-at 6 (passes at n kind body) t i l
+
+  -- ---- bodies that pass
+
+  -- without entries
+  pub unusedZero-none : hasEntries (partOf kind) ≡ false → unusedZero n kind body ≡ true
+  unfolding unusedZero
+  unusedZero-none e = ap (λ (b : Bool). not b || allBelow 6 (passes (firstEntry (partOf kind)) n kind body)) e
+
+  -- with zeros alone
+  pub unusedZero-of : ((i : ℕ) → i < 6 → columnZero (firstEntry (partOf kind)) kind body i ≡ true) → unusedZero n kind body ≡ true
+  unfolding unusedZero
+  unusedZero-of each =
+      ap (λ (b : Bool). not (hasEntries (partOf kind)) || b)
+      (allBelow-intro 6 (passes (firstEntry (partOf kind)) n kind body) (λ i l. ap (λ (b : Bool). ltb i n || b) (each i l) ∙ or-true (ltb i n)))
+      ∙ or-true (not (hasEntries (partOf kind)))

@@ -1,5 +1,5 @@
 -- File 3, File 7 and Refusals 16: the six entries of a body, and that those beyond n are zero. Definitions only. Assumes nothing.
-use mathlib.Core.Bool.{Bool, true, cond, _||_}
+use mathlib.Core.Bool.{Bool, true, false, cond, not, _||_}
 use mathlib.Core.List.{List}
 use Prim.Native.Nat.{ℕ, _+_, _*_}
 use lib.Dec.{eqb, ltb}
@@ -24,29 +24,39 @@ scaledAt body i = entryAt body 1 i
 abbrev pub bitsAt : List ℕ → ℕ → ℕ
 bitsAt body i = littleEndian 8 body (1 + 8 * i)
 
+-- ---- which records have them
+
+-- File 3: a row, the drift, a point and a direction have six entries; a head, a guard and the end have none.
+abbrev pub hasEntries : Part → Bool
+hasEntries Head = false
+hasEntries Row = true
+hasEntries Drift = true
+hasEntries Initial = true
+hasEntries Input = true
+hasEntries Direction = true
+hasEntries Guard = false
+hasEntries End = false
+
+-- File 3: the offset of the first entry in a body. Before those of a row stands its number.
+abbrev pub firstEntry : Part → ℕ
+firstEntry Head = 0
+firstEntry Row = 1
+firstEntry Drift = 0
+firstEntry Initial = 0
+firstEntry Input = 0
+firstEntry Direction = 0
+firstEntry Guard = 0
+firstEntry End = 0
+
 -- ---- those beyond n
 
 abbrev pub entryZero : List ℕ → ℕ → ℕ → Bool
 entryZero body at i = eqb (natAbs (entryAt body at i)) 0
 
--- Of a row, scaled or, of kind 03, fitted: either zero passes there.
-abbrev pub rowZero : ℕ → List ℕ → ℕ → Bool
-rowZero kind body i = cond (eqb kind 0x03) (isZero (bitsAt body i)) (entryZero body 1 i)
+-- Entry i is zero. Of a fitted row, kind 03, either zero is.
+abbrev pub columnZero : ℕ → ℕ → List ℕ → ℕ → Bool
+columnZero at kind body i = cond (eqb kind 0x03) (isZero (bitsAt body i)) (entryZero body at i)
 
--- Entry i of a record of this part is zero. A head, a guard and the end have no entries, so none that is not.
-abbrev pub partZero : Part → ℕ → List ℕ → ℕ → Bool
-partZero Head kind body i = true
-partZero Row kind body i = rowZero kind body i
-partZero Drift kind body i = entryZero body 0 i
-partZero Initial kind body i = entryZero body 0 i
-partZero Input kind body i = entryZero body 0 i
-partZero Direction kind body i = entryZero body 0 i
-partZero Guard kind body i = true
-partZero End kind body i = true
-
-abbrev pub columnZero : ℕ → List ℕ → ℕ → Bool
-columnZero kind body i = partZero (partOf kind) kind body i
-
--- Refusals 16 does not apply: each of the six entries is one of the first n, or zero.
+-- Refusals 16 does not apply: each of the six entries, if there are any, is one of the first n, or zero.
 unfoldable pub unusedZero : ℕ → ℕ → List ℕ → Bool
-unusedZero n kind body = allBelow 6 (λ i. ltb i n || columnZero kind body i)
+unusedZero n kind body = not (hasEntries (partOf kind)) || allBelow 6 (λ i. ltb i n || columnZero (firstEntry (partOf kind)) kind body i)

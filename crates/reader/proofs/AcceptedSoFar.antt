@@ -31,8 +31,8 @@ use Rattle.records.specs.declared.order.Part.{Part}
 use Rattle.records.specs.declared.order.Part.the-variants.{Head, Row, Drift, Initial, Input, Direction, Guard, End}
 use Rattle.reader.specs.declared.state.State.{State}
 use Rattle.records.specs.Order.{partOf}
-use Rattle.columns.specs.Columns.{scaledAt, bitsAt, entryZero, rowZero, partZero}
-use Rattle.columns.proofs.ColumnLaws.{unusedZero-at, entryZero-is}
+use Rattle.columns.specs.Columns.{scaledAt, bitsAt, entryZero, columnZero}
+use Rattle.columns.proofs.ColumnLaws.{entryZero-is, partZero, unusedZero-at}
 use Rattle.reader.specs.Order.{mostOf}
 use Rattle.reader.specs.Models.{zeros, blankSet, blankModel, start, firstByte, usualSteps, defaultSteps, rowAnswer, rowPlace, withHead, withRow, withDrift, withPoint, withSetPoint, inputAt, withDirection, withGuard}
 use Rattle.reader.specs.Values.{headOk, driftOk, pointOk, enteringPointOk, directionOk, guardOk, valueNumber, bodyNumber}
@@ -178,7 +178,7 @@ scaled-zero : entryValue (scaledEntry (pos 0)) ≡ pos 0
 unfolding scaledEntry
 scaled-zero = refl
 
-answer-zero : (kind : ℕ) (body : List ℕ) (i : ℕ) → rowZero kind body i ≡ true → entryValue (rowAnswer kind body i) ≡ pos 0
+answer-zero : (kind : ℕ) (body : List ℕ) (i : ℕ) → columnZero 1 kind body i ≡ true → entryValue (rowAnswer kind body i) ≡ pos 0
 answer-zero kind body i z = split (eqb kind 0x03) z
   where
     split : (b : Bool) → cond b (isZero (bitsAt body i)) (entryZero body 1 i) ≡ true → entryValue (cond b (entryOfBits (bitsAt body i)) (scaledEntry (scaledAt body i))) ≡ pos 0
@@ -186,7 +186,7 @@ answer-zero kind body i z = split (eqb kind 0x03) z
     split false t = ap (λ (z : ℤ). entryValue (scaledEntry z)) (entryZero-is body 1 i t) ∙ scaled-zero
 
 module _ (s : State) (kind : ℕ) (body : List ℕ) (g : AcceptedSoFar s) where
-  so-far-row : s .last ≡ 1 → ((i : ℕ) → s .model .n ≤ i → i < 6 → rowZero kind body i ≡ true) → AcceptedSoFar (withRow s kind body)
+  so-far-row : s .last ≡ 1 → ((i : ℕ) → s .model .n ≤ i → i < 6 → columnZero 1 kind body i ≡ true) → AcceptedSoFar (withRow s kind body)
   unfolding withRow
   so-far-row e beyond =
       let r = row-place-range (s .rows + 1) (s .model .n) in

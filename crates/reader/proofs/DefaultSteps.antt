@@ -9,7 +9,7 @@ use Rattle.records.specs.Numbers.{littleEndian}
 use Rattle.records.specs.Order.{mayFollow, partOf}
 use Rattle.records.proofs.RecordAt.{recordAt-stands}
 use Rattle.stepping.specs.Refusals.{dimensionOk}
-use Rattle.columns.proofs.ColumnLaws.{unusedZero-of}
+use Rattle.columns.proofs.ColumnLaws.{unusedZero-none}
 use Rattle.reader.specs.Models.{start, usualSteps, withHead}
 use Rattle.reader.specs.Values.{headOk, unless, bodyNumber}
 use Rattle.reader.specs.Refusals.{kindNumber, refusal, stored}
@@ -34,7 +34,7 @@ module _ (n : ℕ) (rest : List ℕ) where
   -- a head has no entries
   values : (steps : ℕ) → bodyNumber start 0x01 (body steps) ≡ unless (headOk (body steps)) 4
   unfolding partOf
-  values steps = bodyNumber-value start 0x01 (body steps) (unusedZero-of (start .model .n) 0x01 (body steps) (λ i l. refl))
+  values steps = bodyNumber-value start 0x01 (body steps) (unusedZero-none (start .model .n) 0x01 (body steps) refl)
 
   taken : (steps : ℕ) → headOk (body steps) ≡ true → readModel (headed steps) ≡ readFrom (headed steps) 4 (withHead start (body steps))
   unfolding readModel bodyLength partOf stored

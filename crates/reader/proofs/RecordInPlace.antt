@@ -10,7 +10,7 @@ use Rattle.records.specs.Kinds.{bodyLength}
 use Rattle.records.proofs.RecordAt.{recordAt-stands}
 use Rattle.reader.specs.declared.state.State.{State}
 use Rattle.records.specs.Order.{partOf}
-use Rattle.columns.proofs.ColumnLaws.{unusedZero-of}
+use Rattle.columns.proofs.ColumnLaws.{unusedZero-none}
 use Rattle.reader.specs.Values.{bodyNumber}
 use Rattle.reader.specs.Refusals.{kindNumber, stored}
 use Rattle.reader.specs.Reading.{readAs, readFrom}
@@ -26,7 +26,7 @@ readFrom-stands prefix kind body rest s known fits z ne =
 pub readFrom-stands-end : (prefix : List ℕ) (s : State) → kindNumber s 0xFF ≡ 0 → readFrom (prefix ++ 0xFF ∷ []) (length prefix) s ≡ readAs (s .model)
 unfolding bodyLength partOf
 readFrom-stands-end prefix s fits =
-    readFrom-end (prefix ++ 0xFF ∷ []) (length prefix) s (recordAt-stands prefix 0xFF [] [] refl) (refusal-whole s 0xFF [] fits ∙ bodyNumber-value s 0xFF [] (unusedZero-of (s .model .n) 0xFF [] (λ i l. refl))) refl (simp length-append (omega arith))
+    readFrom-end (prefix ++ 0xFF ∷ []) (length prefix) s (recordAt-stands prefix 0xFF [] [] refl) (refusal-whole s 0xFF [] fits ∙ bodyNumber-value s 0xFF [] (unusedZero-none (s .model .n) 0xFF [] refl)) refl (simp length-append (omega arith))
 
 -- The same, so that the next record can stand behind it: what was read joins what stands before.
 pub readFrom-behind : (prefix : List ℕ) (kind : ℕ) (body rest : List ℕ) (s : State) → bodyLength kind ≡ Bytes (length body) → kindNumber s kind ≡ 0 → bodyNumber s kind body ≡ 0 → (kind ≡ 0xFF → ⊥) → readFrom (prefix ++ ((kind ∷ body) ++ rest)) (length prefix) s ≡ readFrom ((prefix ++ (kind ∷ body)) ++ rest) (length (prefix ++ (kind ∷ body))) (stored s kind body)

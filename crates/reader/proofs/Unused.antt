@@ -18,14 +18,14 @@ use Rattle.records.specs.Order.{partOf}
 use Rattle.records.specs.Records.{Record, whole, nothing, recordAt, recordKind, recordBody}
 use Rattle.records.proofs.LittleEndian.{AllBytes, littleEndian-lt}
 use Rattle.records.proofs.RecordAt.{recordAt-nothing, whole-of, whole-bytes}
-use Rattle.columns.specs.Columns.{entryAt, scaledAt, bitsAt, entryZero, partZero, unusedZero}
-use Rattle.columns.proofs.ColumnLaws.{unusedZero-at, entryZero-is}
+use Rattle.columns.specs.Columns.{entryAt, scaledAt, bitsAt, entryZero, unusedZero}
+use Rattle.columns.proofs.ColumnLaws.{entryZero-is, partZero, unusedZero-at}
 use Rattle.reader.specs.declared.Status.the-variants.{Read}
 use Rattle.reader.specs.declared.state.State.{State}
-use Rattle.reader.specs.Models.{blankModel, start, withHead, withRow, withDrift, withSetPoint, withDirection, withGuard}
+use Rattle.reader.specs.Models.{blankModel, start, withRow, withDrift, withSetPoint, withDirection, withGuard}
 use Rattle.reader.specs.Values.{bodyNumber}
 use Rattle.reader.specs.Refusals.{refusal, storedIn, stored}
-use Rattle.reader.specs.Reading.{Stop, stopHere, goesOn, behind, storedRecord, stopFor, stopFrom, numberAt, readFrom, readModel}
+use Rattle.reader.specs.Reading.{Stop, stopHere, goesOn, behind, storedRecord, stopFor, numberAt, readModel}
 use Rattle.reader.specs.Unused.{offsetOf, recordNo, ZeroFrom, Unused, UnusedIn}
 use Rattle.reader.proofs.order.KindNumbers.{kindNumber-zero}
 use Rattle.reader.proofs.BodyNumbers.{bodyNumber-zero}
@@ -162,8 +162,8 @@ module _ (file : List ℕ) (bytes : AllBytes file) where
 
 -- ---- all records of a file
 
-pub unused-zero : (file : List ℕ) → AllBytes file → readModel file .status ≡ Read → (k : ℕ) → UnusedIn (readModel file .model .n) (recordNo file k)
+pub readModel-unused-zero : (file : List ℕ) → AllBytes file → readModel file .status ≡ Read → (k : ℕ) → UnusedIn (readModel file .model .n) (recordNo file k)
 unfolding readModel
-unused-zero file bytes e k =
+readModel-unused-zero file bytes e k =
     subst (λ (n : ℕ). UnusedIn n (recordNo file k)) (sym (ap (λ m. m .n) (readFrom-model file 0 start e)))
     (unused-from file bytes (suc (length file - 0)) 0 start acceptedSoFar-start (omega arith) (readFrom-number file 0 start e) k)
