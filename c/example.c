@@ -1,6 +1,6 @@
 /* The C interface in use. Makes the specification's sample file (Listing 8), sweeps its direction, judges its guards, sweeps the
  * same model with a fitted row, sweeps and judges the model of Figures 24, which has a drift, makes two steps of Figures 5 and two
- * of Figures 17, lists the sample in one call, and shows refusals: five files, a direction with growth (Figures 8), calls that ask
+ * of Figures 17, lists the sample in one call, and shows refusals: six files, a direction with growth (Figures 8), calls that ask
  * for what isn't there, and a buffer that is too small. What it writes is compared with expected.txt. Returns 1 where a call is
  * refused that should not be, or finishes that should not, or where a number is taken for one that refuses the file and isn't, or
  * the other way round. */
@@ -27,7 +27,7 @@ static void put(struct file *f, int64_t value, int count)
     }
 }
 
-/* Six numbers, of which the first counts. */
+/* Six numbers, of which the first counts and the others have to be zero. */
 static void put_six(struct file *f, int32_t first)
 {
     int i;
@@ -203,7 +203,7 @@ static void list(const struct file *f, size_t room, int finished)
  * taken once. */
 static void expect_file_refused(void)
 {
-    static const int refused[256] = {0, 1, 1, 1, 1, 1, 1, 1, 1, 1, 1, 0, 0, 0, 0, 1, 0, 1};
+    static const int refused[256] = {0, 1, 1, 1, 1, 1, 1, 1, 1, 1, 1, 0, 0, 0, 0, 1, 1, 1};
     uint64_t answers[256];
     const uint64_t *next = answers;
     unsigned number;
@@ -234,7 +234,7 @@ int main(void)
     int64_t r[6] = {1048576};
     int64_t e[6] = {0};
     struct file sample = model(3), fitted = model(3), beyond = model(3), growing = model(11);
-    struct file drifting = model(2), too_far = model(3), together = model(3);
+    struct file drifting = model(2), too_far = model(3), together = model(3), unclean;
     int64_t level;
 
     put_scaled(&sample, 32768);
@@ -265,6 +265,8 @@ int main(void)
     put_end(&drifting);
     put_end(&too_far);
     put_end(&together);
+    unclean = sample;
+    unclean.bytes[10] = 1; /* the second entry of the row */
 
     printf("sample %zu bytes\n", sample.length);
     sweep(&sample, sample.length, 0, 4, PEPPERSCARP_FINISHED);
@@ -297,6 +299,7 @@ int main(void)
     sweep(&sample, 0, 0, 4, 1);
     sweep(&sample, 185, 0, 4, 1);
     sweep(&beyond, beyond.length, 0, 4, 15);
+    sweep(&unclean, unclean.length, 0, 4, 16);
     sweep(&too_far, too_far.length, 0, 4, 17);
     judge(&together, 0, 4, 17);
     sweep(&sample, sample.length, 1, 4, PEPPERSCARP_NOT_THERE);

@@ -1,6 +1,6 @@
 /* Pepperscarp: envelopes of stepped linear models, from C and C++. docs/SPECIFICATION.md says what the figures are.
  *
- * Answers. Every call is answered, whatever the values. A refusal by step, sweep or judge has a number, 1 to 15 or 17 (the
+ * Answers. Every call is answered, whatever the values. A refusal by step, sweep or judge has a number, 1 to 17 (the
  * specification's "Refusals" says what each means), and leaves the lent memory as it was.
  *
  * Memory. Pointers must not be null, not even for a list of no elements; each must lead to as many elements as its length says;
@@ -41,10 +41,12 @@ extern "C" {
 #define PEPPERSCARP_VERDICT(answer) ((unsigned)(((uint64_t)(answer) >> 8) & 255u))
 #define PEPPERSCARP_FIGURE(answer) ((uint64_t)(answer) >> 16)
 
-/* Numbers. 1 to 10, 15 and 17 refuse the file, and the figure is the offset of the record at fault; for 10, of the first byte
+/* Numbers. 1 to 10 and 15 to 17 refuse the file, and the figure is the offset of the record at fault; for 10, of the first byte
  * behind the end; the file's length where no byte is left. 15 is for a fitted row alone: one of its first n entries is not finite,
- * or is beyond 2 in magnitude. 17 is for a drift one of whose first n entries is beyond 1,048,576 in magnitude, and for a point of
- * the input set with which the set's reach in a coordinate and the drift's magnitude there are more than that together. */
+ * or is beyond 2 in magnitude. 16 is for a row, drift, point or direction that has something other than zero beyond its first n
+ * entries, and comes before all else that its body is refused for. 17 is for a drift one of whose first n entries is beyond
+ * 1,048,576 in magnitude, and for a point of the input set with which the set's reach in a coordinate and the drift's magnitude
+ * there are more than that together. */
 #define PEPPERSCARP_FINISHED 0u
 #define PEPPERSCARP_INVALID 11u      /* a step's values break a rule */
 #define PEPPERSCARP_NOT_THERE 12u    /* no such direction, or no such guard */
@@ -56,7 +58,7 @@ extern "C" {
 static inline int pepperscarp_file_refused(uint64_t answer)
 {
     unsigned number = PEPPERSCARP_NUMBER(answer);
-    return (1u <= number && number <= 10u) || number == 15u || number == 17u;
+    return (1u <= number && number <= 10u) || (15u <= number && number <= 17u);
 }
 
 /* Verdicts of a judge that finished. */
@@ -95,16 +97,16 @@ uint64_t pepperscarp_step(size_t n, const int32_t matrix[36], int64_t r[6], int6
  * Number 0: the lists have the bound and the slack of steps 0 to K, and the figure is the spare figure, 0 to 10. No run of the
  * model passes a bound, and some run comes within its slack. Entries of fitted rows are rounded to multiples of 1/65,536 first, and
  * the bounds are those of the rounded matrix: a run of the numbers before rounding may pass one.
- * Numbers 1 to 10, 15 and 17: the file is refused. 12: it has no such direction. 13: a list has other than K + 1 elements. 14:
+ * Numbers 1 to 10 and 15 to 17: the file is refused. 12: it has no such direction. 13: a list has other than K + 1 elements. 14:
  * growth. The first that applies is answered, in this order. 11 never comes: the model of a file that is read breaks no rule.
- * (Before version 0.5.0 there was no 15, and before 0.6.0 no 17.) */
+ * (Before version 0.5.0 there was no 15, before 0.6.0 no 17, and before 0.7.0 no 16: what stood beyond n was ignored.) */
 uint64_t pepperscarp_sweep(const uint8_t *file, size_t file_length, size_t direction, int64_t *bounds, size_t bounds_length,
                            int64_t *slacks, size_t slacks_length);
 
 /* The judge of one guard of a model file. Takes the guard's number from 0, the rest as for the sweep.
  * Number 0, with a verdict: HIT or UNKNOWN with its step as the figure, or CLEAR with figure 0. The lists have the sweep of the
  * guard's direction.
- * Numbers 1 to 10, 13 to 15 and 17: as for the sweep. 12: the file has no such guard. */
+ * Numbers 1 to 10 and 13 to 17: as for the sweep. 12: the file has no such guard. */
 uint64_t pepperscarp_judge(const uint8_t *file, size_t file_length, size_t guard, int64_t *bounds, size_t bounds_length,
                            int64_t *slacks, size_t slacks_length);
 

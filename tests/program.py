@@ -126,7 +126,7 @@ class Text(unittest.TestCase):
                 )
                 self.assertEqual(none, said, path.name)
                 replies.add(none.split(b"\n")[0].split(b" at ")[0])
-        refused = {f"refused {number}".encode() for number in (*range(1, 11), 15, 17)}
+        refused = {f"refused {number}".encode() for number in (*range(1, 11), *range(15, 18))}
         self.assertLessEqual({b"model 1 120", b"model 6 120", *refused}, replies)
 
     def test_every_other_head_says_its_own_steps(self) -> None:
@@ -321,9 +321,15 @@ class Fitted(unittest.TestCase):
                 rows.append(f"0{kind} 0{i} {'00' * (8 if kind == 2 else 16)} {last}")
             self.assertEqual(self.sums(*rows), [1, 2, 3])
 
-    def test_bits_beyond_n_are_not_looked_at(self) -> None:
-        self.assertEqual(self.sums(f"03 00 {self.TWO} {'FF' * 40}"), [131_072])
-        self.assertEqual(self.sums(f"03 00 {self.TWO} {self.NAN * 5}"), [131_072])
+    def test_either_zero_passes_beyond_n_and_nothing_else_does(self) -> None:
+        zero, minus = "00" * 8, "00" * 7 + "80"
+        for beyond in (zero * 5, minus * 5, minus + zero * 3 + minus):
+            self.assertEqual(self.sums(f"03 00 {self.TWO} {beyond}"), [131_072])
+        # The smallest numbers, 1 and a NaN, next to n and in the last column.
+        for bits in ("01" + "00" * 7, "01" + "00" * 6 + "80", "00" * 6 + "F03F", self.NAN):
+            for beyond in (bits + zero * 4, minus * 4 + bits):
+                row = f"03 00 {self.TWO} {beyond}"
+                self.assertEqual(reply(self.file(row)), b"refused 16 at 4\n", row)
 
     def test_body_then_number_then_entries(self) -> None:
         start = bytes([1, 1, 1, 0])
@@ -337,6 +343,67 @@ class Fitted(unittest.TestCase):
         self.assertEqual(reply(self.file(f"02 00 {'00' * 24}", f"03 01 {self.NAN} {self.REST}")),
                          b"refused 15 at 30\n")
         self.assertEqual(reply(wrong), b"refused 3 at 0\n")
+
+
+class BeyondN(unittest.TestCase):
+    """Entries beyond n by their bytes (Refusals 16)."""
+
+    def test_figures_28(self) -> None:
+        # A fitted row at 4 with 0.5 and its last column, and a drift at 54.
+        def said(number: int, last: bytes, drift: bytes) -> bytes:
+            row = bytes([3, number]) + struct.pack("<d", 0.5) + bytes(32) + last
+            rest = b"\x05" + bytes(4) + drift + bytes(16) + b"\x14" + bytes(24) + b"\x30\x01" + bytes(23)
+            return reply(b"\x01\x01\x01\x00" + row + rest + b"\xff").split(b"\n")[0]
+
+        zero, minus, smallest, four = bytes(8), bytes(7) + b"\x80", b"\x01" + bytes(7), bytes(4)
+        self.assertEqual(said(0, zero, four), b"model 1 1")
+        self.assertEqual(said(0, minus, four), b"model 1 1")
+        self.assertEqual(said(0, smallest, four), b"refused 16 at 4")
+        self.assertEqual(said(1, smallest, four), b"refused 16 at 4")
+        self.assertEqual(said(1, zero, four), b"refused 5 at 4")
+        self.assertEqual(said(0, minus, b"\x01\0\0\0"), b"refused 16 at 54")
+
+    def test_each_byte_beyond_n_of_the_sample_is_tested(self) -> None:
+        # n is 1: the row is at 4 and has its number first; four corners and a direction follow.
+        places = [(4, 2), *((at, 1) for at in (30, 55, 80, 105, 130))]
+        for at, first in places:
+            for offset in range(at + first + 4, at + first + 24):
+                for byte in (1, 0x80, 0xFF):
+                    data = SAMPLE[:offset] + bytes([byte]) + SAMPLE[offset + 1 :]
+                    self.assertEqual(reply(data), b"refused 16 at %d\n" % at, (offset, byte))
+
+    def test_it_comes_before_the_row_number_and_the_values(self) -> None:
+        # The row's number becomes 1, the first entry of a record 2 ** 31 - 1, the last one 1.
+        for at, first, alone in ((4, 2, 5), (30, 1, 6), (80, 1, 6), (130, 1, 7)):
+            large = b"\xff\xff\xff\x7f"
+            wrong = SAMPLE[: at + first] + large + SAMPLE[at + first + 4 :]
+            self.assertEqual(reply(wrong), b"refused %d at %d\n" % (alone, at))
+            both = wrong[: at + first + 20] + b"\x01" + wrong[at + first + 21 :]
+            self.assertEqual(reply(both), b"refused 16 at %d\n" % at)
+            # Of a body that is cut behind it nothing is tested.
+            self.assertEqual(reply(both[: at + first + 23]), b"refused 1 at %d\n" % at)
+        turned = SAMPLE[:5] + b"\x01" + SAMPLE[6:]
+        self.assertEqual(reply(turned), b"refused 5 at 4\n")
+        self.assertEqual(reply(turned[:10] + b"\x01" + turned[11:]), b"refused 16 at 4\n")
+
+    def test_head_and_guard_have_no_such_entries(self) -> None:
+        # A level fills its eight bytes.
+        data = SAMPLE[:157] + b"\xff" * 7 + b"\x7f" + SAMPLE[165:]
+        self.assertIn(b"\nguard 0 CLEAR\n", reply(data))
+
+    def test_three_coordinates_that_were_saved_from_four(self) -> None:
+        # One entry in the fourth column, of the first row, the drift or the direction.
+        def file(row: int, drift: int, direction: int) -> bytes:
+            def record(kind: int, *entries: int) -> bytes:
+                return struct.pack("<B6i", kind, *entries, *[0] * (6 - len(entries)))
+
+            rows = (struct.pack("<BB6i", 2, i, 9, 9, 9, row, 0, 0) for i in range(3))
+            parts = record(5, 1, 1, 1, drift), record(0x14, 2, 2, 2), record(0x30, 1, 0, 0, direction)
+            return b"".join([bytes([1, 3, 1, 0]), *rows, *parts, b"\xff"])
+
+        self.assertTrue(reply(file(0, 0, 0)).startswith(b"model 3 1\n"))
+        for entries, offset in (((9, 1, 1), 4), ((0, 1, 1), 82), ((0, 0, 1), 132)):
+            self.assertEqual(reply(file(*entries)), b"refused 16 at %d\n" % offset)
 
 
 def number(value: int) -> bytes:
@@ -428,10 +495,13 @@ class Drift(unittest.TestCase):
         self.assertLessEqual({1, 2, 3, 6, 7, 8, 9, 10}, replies)
         self.assertLessEqual({4, 5, 15}, before)
 
-    def test_numbers_beyond_n_are_not_looked_at(self) -> None:
-        good = self.file(7, 9, (-1, 1), 1, 1)
-        for rubbish in (b"\xff", b"\x80", b"\x7f", b"\x01"):
-            self.assertEqual(reply(good[:35] + 20 * rubbish + good[55:]), reply(good))
+    def test_each_byte_beyond_n_is_tested_before_the_size(self) -> None:
+        for entry, alone in ((7, b"model 1 1\n"), (MAX_REACH + 1, b"refused 17 at 30\n")):
+            data = self.file(entry, 9, (-1, 1), 1, 1)
+            self.assertTrue(reply(data).startswith(alone))
+            for at in range(35, 55):
+                unclean = data[:at] + b"\x01" + data[at + 1 :]
+                self.assertEqual(reply(unclean), b"refused 16 at 30\n")
 
 
 class OnePointMore(unittest.TestCase):

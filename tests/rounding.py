@@ -9,6 +9,7 @@ files are made here too. A file has one step, no input set, one vertex, which is
 coordinate i and zero elsewhere, and a direction for each coordinate. The bound of direction p at
 step 1 is then the entry in row p and column i, so that n patterns are seen in a file, each by
 itself. A pattern that is no entry is alone in its file, which must be refused by 15 at its row.
+Beyond n a pattern that is no zero must be refused by 16.
 
 It takes the built program, target/bin/envelope, and fails where there is none; or another command
 that takes a file on its standard input, and of the patterns every N-th. Where all tests ran, on all
@@ -150,7 +151,7 @@ def replies(files: Sequence[bytes]) -> list[str]:
 
 
 class Rounding(unittest.TestCase):
-    """File 11 to 14 and Refusals 15, seen in listings."""
+    """File 11 to 14 and Refusals 15 and 16, seen in listings."""
 
     def check_files(self, cases: Iterable[Case]) -> None:
         global files_seen
@@ -237,14 +238,33 @@ class Rounding(unittest.TestCase):
         right, wrong = self.check([*wide, *small])
         self.assertEqual(wrong, [])
 
-    def test_bits_beyond_n_are_not_looked_at(self) -> None:
+    def test_either_zero_passes_beyond_n(self) -> None:
         rng = random.Random(7)
-        none = [TWO + 1, INFINITY, INFINITY | 1, INFINITY | QUIET, 2**64 - 1, SIGN | INFINITY]
         for n in range(1, 6):
             patterns = [pattern(rng.uniform(-2, 2)) for _ in range(60 * n)][:: min(every, 20)]
-            for beyond in (none[n:] + none[:n], [rng.getrandbits(64) for _ in range(6)]):
-                self.check_files(accepted(patterns, n, beyond))
+            for zeros in ([0], [SIGN], [0, SIGN]):
+                self.check_files(accepted(patterns, n, rng.choices(zeros, k=6 - n)))
             seen.update(patterns)
+
+    def test_all_else_beyond_n_is_refused_by_16(self) -> None:
+        # Each bit by itself, numbers of every size, NaNs; also in a row out of turn, or beside an
+        # entry that is none.
+        rng = random.Random(8)
+        single = [1 << j for j in range(63)]
+        sizes = [rng.getrandbits(rng.randint(1, 63)) | 1 for _ in range(400)]
+        none = [TWO + 1, INFINITY, INFINITY | 1, INFINITY | QUIET, SIGN - 1]
+        tried = [bits | sign for bits in (*single, *sizes, *none) for sign in (0, SIGN)]
+        self.assertTrue(all(value_of(bits) != 0 for bits in tried))
+        cases = []
+        for bits, n in zip(tried[::every], itertools.cycle(range(1, 6))):
+            p = rng.randrange(n)
+            number, entry = rng.choice(((p, TWO), (p, INFINITY), (p + 1, TWO), (255, INFINITY)))
+            beyond = rng.choices((0, SIGN), k=6 - n)
+            beyond[rng.randrange(6 - n)] = bits
+            rows = [fitted(i, [TWO] * n) for i in range(n)]
+            rows[p] = fitted(number, [entry] * n, beyond)
+            cases.append((file(n, rows, 0), f"refused 16 at {4 + 50 * p}\n"))
+        self.check_files(cases)
 
     def test_the_number_of_the_row_comes_first(self) -> None:
         cases = []

@@ -363,6 +363,17 @@ class Words(Clone):
         told = rb"fitted row 0 \(the first\): entry inf in column 0 .* from -2 to 2\n$"
         self.assertRegex(done.stderr, told)
 
+    def test_why_something_beyond_n_is_refused_is_told_in_words(self) -> None:
+        # The example has two coordinates. The last column of its drift, whose record is at 56, becomes 7,
+        # or the third of its first direction, at 181.
+        data = (EXAMPLES / "summer.bin").read_bytes()
+        for at, kind, column, told in ((56, 0x05, 5, "the drift, record 3 of"), (181, 0x30, 2, "direction 0.* record 8 of")):
+            place = at + 1 + 4 * column
+            self.assertEqual((data[at], data[place : place + 4]), (kind, bytes(4)))
+            done = self.run_on("-", data=data[:place] + b"\x07" + data[place + 1 :])
+            self.assert_done(done, 1, b"refused 16 at %d\n" % at)
+            self.assertRegex(done.stderr.decode(), f"{told}.*entry 7 in column {column}.*columns 2 to 5 must be zero")
+
     def test_the_version_is_that_of_the_bindings(self) -> None:
         (version,) = re.findall(rb'^version = "(.*)"$', (ROOT / "rust" / "Cargo.toml").read_bytes(), re.MULTILINE)
         self.assert_done(self.run_on("--version"), 0, b"Pepperscarp %s\n" % version, b"")

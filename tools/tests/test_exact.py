@@ -19,9 +19,9 @@ import listings
 import models
 import readerfiles
 from layout import (
-    BODY_LENGTHS, BOX, FITTED, GROWTH_LIMIT, LONGEST_FILE, MIN_POINTS, ROW, VERTICES, ZONOTOPE,
-    Model, Set, direction, drift, encode, fitted, fitted_rows_of, guard, head, offsets, pattern,
-    point, row, states_input,
+    BODY_LENGTHS, BOX, END, FITTED, GROWTH_LIMIT, INITIAL, LONGEST_FILE, MIN_POINTS, ROW, VERTEX,
+    VERTICES, ZONOTOPE, Model, Set, direction, drift, encode, fitted, fitted_rows_of, guard, head,
+    offsets, pattern, point, row, states_input,
 )
 from listings import Growth, Listing, Refusal, Sweep, Verdict
 
@@ -186,6 +186,21 @@ class Figures(unittest.TestCase):
         moved = swept(single(1, (0, 0), (0, 524_288), 1, 5))
         self.assertEqual(moved.bounds, (*told.bounds[:5], 524_297))
         self.assertEqual(moved.slacks, (*told.slacks[:5], 3))
+
+    def test_case_28(self):
+        """The last column of a fitted row of 0.5, its number, and the second column of a drift."""
+        asked = point(INITIAL + VERTEX, ()) + direction((1,)) + bytes([END])
+
+        def said(number: int, last: int, second: int) -> Model | Refusal:
+            row_ = fitted(number, (pattern(0.5), 0, 0, 0, 0, last))
+            return exact.read_model(head(1, 1) + row_ + drift((0, second)) + asked)
+
+        zeros, minus = said(0, 0, 0), 1 << 63
+        self.assertEqual(zeros.matrix, ((32_768,),))
+        self.assertEqual(said(0, minus, 0), zeros)
+        self.assertEqual([said(0, 1, 0), said(1, 1, 0)], [Refusal(16, 4)] * 2)
+        self.assertEqual(said(1, 0, 0), Refusal(5, 4))
+        self.assertEqual(said(0, minus, 1), Refusal(16, 54))
 
     def test_sample(self):
         self.assertEqual(len(SAMPLE), 186)

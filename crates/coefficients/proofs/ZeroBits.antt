@@ -1,4 +1,4 @@
--- Laws of `isZero` (File 11): no bit but the sign is set, so there are two patterns, and both become the entry 0. Assumes nothing.
+-- Laws of `isZero` (File 11): no bit but the sign is set, so there are two patterns. Assumes nothing.
 use mathlib.Core.Path.{_≡_, refl, sym, ap, ap₂, _∙_}
 use mathlib.Core.Bool.{Bool, true, false, cond, _&&_}
 use mathlib.Core.Logic.{_⊎_, inl, inr}
@@ -9,12 +9,8 @@ use native.Mathlib.Omega.{arith}
 use borrow.Author.Tests.{eq-eqb, ne-eqb, lt-ltb, eqb-true}
 use lib.Dec.{eqb}
 use lib.Pow.{pow-pos}
-use lib.IntN.{pos}
-use Rattle.integers.proofs.Booleans.{and-true, and-false}
-use Rattle.coefficients.specs.declared.EntryAnswer.the-variants.{Entry}
+use Rattle.integers.proofs.Booleans.{and-false}
 use Rattle.coefficients.specs.Binary64.{exponentOf, fractionOf, isFinite, magnitudeOf, isZero}
-use Rattle.coefficients.specs.Entries.{entryOfBits}
-use Rattle.coefficients.proofs.FittedLaws.{entry-small}
 
 -- without its sign a pattern is zero where exponent and fraction are
 magnitude-none : (bits : ℕ) → bits % 2 ^ 63 ≡ 0 → magnitudeOf bits ≡ 0
@@ -51,11 +47,3 @@ pub zero-patterns : (bits : ℕ) → bits < 2 ^ 64 → isZero bits ≡ true → 
 zero-patterns bits l z =
     let none = eqb-true (bits % 2 ^ 63) 0 (sym (isZero-bits bits) ∙ z) in
     elim (decLt 0 bits) [ yes h ↦ inr (omega (arith, l, none, h)) | no g ↦ inl (omega (arith, g)) ]
-
--- File 12: the entry of either.
-pub entry-zero : (bits : ℕ) → isZero bits ≡ true → entryOfBits bits ≡ Entry (pos 0)
-unfolding isZero
-entry-zero bits z =
-    let both = and-true (isFinite bits) (eqb (magnitudeOf bits) 0) z in
-    let none = eqb-true (magnitudeOf bits) 0 (both .1) in
-    entry-small bits (both .0) (omega (arith, none))

@@ -1,5 +1,5 @@
 // The columns of a body that a model does not use (File 7): whether the entries beyond n of a row, drift, point or direction are zero.
-// Where one is not, the record is refused by 16.
+// Where one is not, the record is refused by 16. No binary64 number is compared: a zero is told by its bits.
 //
 // No public function has a `requires`: any n, kind and bytes get their answer.
 use records::order::Part;

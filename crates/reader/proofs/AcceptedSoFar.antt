@@ -1,6 +1,6 @@
 -- What every state that the reader reaches satisfies, and that each record that is not refused keeps it. In order: the start; each
 -- kind of record; any record. Assumes nothing.
-use mathlib.Core.Path.{_≡_, refl, sym, ap, ap₂, subst, _∙_}
+use mathlib.Core.Path.{_≡_, refl, sym, ap₂, subst, _∙_}
 use mathlib.Core.Bool.{Bool, true, false, cond, _&&_, _||_}
 use mathlib.Core.List.{List}
 use Prim.Native.Nat.{ℕ, _+_, _*_, _≤_, _<_}
@@ -8,7 +8,7 @@ use native.Mathlib.Omega.{arith}
 use borrow.Author.Tests.{le-leb, leb-true, ltb-true, eqb-true, eqb-false, leb-false}
 use lib.Dec.{leb, ltb, eqb}
 use lib.ListN.{length-set, replicate}
-use lib.IntN.{ℤ, pos, natAbs}
+use lib.IntN.{natAbs}
 use lib.Signed.{leZ}
 use Rattle.integers.specs.Sums.{allBelow}
 use Rattle.integers.proofs.Booleans.{and-true}
@@ -18,10 +18,8 @@ use Rattle.arrays.proofs.Tests.{zeroOutside-of}
 use Rattle.arrays.proofs.FirstOf.{firstOf-zero}
 use Rattle.stepping.specs.Limits.{entryLimit}
 use Rattle.stepping.specs.Refusals.{dimensionOk}
-use Rattle.coefficients.specs.Binary64.{isZero}
-use Rattle.coefficients.specs.Entries.{entryOfBits, scaledEntry, entryValue}
+use Rattle.coefficients.specs.Entries.{entryValue}
 use Rattle.coefficients.specs.Rows.{storedSix}
-use Rattle.coefficients.proofs.ZeroBits.{entry-zero}
 use Rattle.coefficients.proofs.RowLaws.{storedSix-within, storedSix-beyond, scaledEntry-ind, entryOfBits-ind}
 use Rattle.records.specs.Numbers.{littleEndian, signedAt}
 use Rattle.limits.specs.Limits.{directionLimit, stepsOk}
@@ -31,8 +29,7 @@ use Rattle.records.specs.declared.order.Part.{Part}
 use Rattle.records.specs.declared.order.Part.the-variants.{Head, Row, Drift, Initial, Input, Direction, Guard, End}
 use Rattle.reader.specs.declared.state.State.{State}
 use Rattle.records.specs.Order.{partOf}
-use Rattle.columns.specs.Columns.{scaledAt, bitsAt, entryZero, columnZero}
-use Rattle.columns.proofs.ColumnLaws.{entryZero-is, partZero, unusedZero-at}
+use Rattle.columns.proofs.ColumnLaws.{partZero, unusedZero-at}
 use Rattle.reader.specs.Order.{mostOf}
 use Rattle.reader.specs.Models.{zeros, blankSet, blankModel, start, firstByte, usualSteps, defaultSteps, rowAnswer, rowPlace, withHead, withRow, withDrift, withPoint, withSetPoint, inputAt, withDirection, withGuard}
 use Rattle.reader.specs.Values.{headOk, driftOk, pointOk, enteringPointOk, directionOk, guardOk, valueNumber, bodyNumber}
@@ -173,27 +170,15 @@ answer-within =
     (λ bits. entryOfBits-ind (λ a. natAbs (entryValue a) ≤ entryLimit) bits (λ h. h) (omega arith))
     (λ entry. scaledEntry-ind (λ a. natAbs (entryValue a) ≤ entryLimit) entry (λ h. h) (omega arith))
 
--- Limits 9: for a zero, of either sign in a fitted row, a row stores zero
-scaled-zero : entryValue (scaledEntry (pos 0)) ≡ pos 0
-unfolding scaledEntry
-scaled-zero = refl
-
-answer-zero : (kind : ℕ) (body : List ℕ) (i : ℕ) → columnZero 1 kind body i ≡ true → entryValue (rowAnswer kind body i) ≡ pos 0
-answer-zero kind body i z = split (eqb kind 0x03) z
-  where
-    split : (b : Bool) → cond b (isZero (bitsAt body i)) (entryZero body 1 i) ≡ true → entryValue (cond b (entryOfBits (bitsAt body i)) (scaledEntry (scaledAt body i))) ≡ pos 0
-    split true t = ap entryValue (entry-zero (bitsAt body i) t)
-    split false t = ap (λ (z : ℤ). entryValue (scaledEntry z)) (entryZero-is body 1 i t) ∙ scaled-zero
-
 module _ (s : State) (kind : ℕ) (body : List ℕ) (g : AcceptedSoFar s) where
-  so-far-row : s .last ≡ 1 → ((i : ℕ) → s .model .n ≤ i → i < 6 → columnZero 1 kind body i ≡ true) → AcceptedSoFar (withRow s kind body)
+  so-far-row : s .last ≡ 1 → AcceptedSoFar (withRow s kind body)
   unfolding withRow
-  so-far-row e beyond =
+  so-far-row e =
       let r = row-place-range (s .rows + 1) (s .model .n) in
       let p = rowPlace (s .rows + 1) (s .model .n) in
       record {
         first = λ z. absurd (omega (arith, r .0));
-        frame = frame-row (g .frame) (storedSix (rowAnswer kind body)) e (storedSix-within (rowAnswer kind body) (answer-within kind body)) (storedSix-beyond (s .model .n) (rowAnswer kind body) (λ i h l. answer-zero kind body i (beyond i h l)));
+        frame = frame-row (g .frame) (storedSix (s .model .n) (rowAnswer kind body)) e (storedSix-within (s .model .n) (rowAnswer kind body) (answer-within kind body)) (storedSix-beyond (s .model .n) (rowAnswer kind body));
         initial = set-early (g .initial) p (omega arith) (omega (arith, r .1));
         input = set-early (g .input) p (omega arith) (omega (arith, r .1));
         drift = drift-early p (omega (arith, r .1)) (λ l. g .drift .none (omega arith)) (g .drift .beyond) (g .drift .small);
@@ -303,7 +288,7 @@ module _ (s : State) (kind : ℕ) (body : List ℕ) (g : AcceptedSoFar s) where
   unfolding fact
   so-far-part Head f few beyond z =
       subst (λ (x : State). AcceptedSoFar (withHead x body)) (sym (g .first (eqb-true (s .last) 0x00 f))) (so-far-head body (passed (headOk body) 4 (omega arith) z))
-  so-far-part Row f few beyond z = so-far-row (eqb-true (s .last) 0x01 f) beyond
+  so-far-part Row f few beyond z = so-far-row (eqb-true (s .last) 0x01 f)
   so-far-part Drift f few beyond z =
       let both = and-true (eqb kind 0x05) (eqb (s .last) 0x02) f in
       so-far-drift (eqb-true kind 0x05 (both .0)) (eqb-true (s .last) 0x02 (both .1)) (sixAt-beyond (s .model .n) body beyond) (passed _ 17 (omega arith) z)

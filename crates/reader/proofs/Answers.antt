@@ -51,7 +51,7 @@ unfolding rowNumber
 rowNumber-known s kind body =
     firstOf-ind FileNumber
     (unless-known (eqb (firstByte body) (s .rows)) 5 (inl (omega arith)))
-    (entriesNumber-ind FileNumber (rowAnswer kind body) (inl (omega arith)) (answer-known kind body))
+    (entriesNumber-ind FileNumber (s .model .n) (rowAnswer kind body) (inl (omega arith)) (answer-known kind body))
 
 pointNumber-known : (input : Bool) (n kind : ℕ) (set : Set) (drift : List ℤ) → FileNumber (pointNumberOf input n kind set drift)
 pointNumber-known input n kind set drift =

@@ -20,3 +20,4 @@ pub mod Answers
 pub mod Sample
 pub mod Longest
 pub mod DriftFigures
+pub mod UnusedFigures

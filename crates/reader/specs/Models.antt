@@ -141,7 +141,7 @@ rowStored s six =
 
 -- File 3, kinds 02 and 03.
 unfoldable pub withRow : State → ℕ → List ℕ → State
-withRow s kind body = rowStored s (storedSix (rowAnswer kind body))
+withRow s kind body = rowStored s (storedSix (s .model .n) (rowAnswer kind body))
 
 -- File 3, kind 05. File 15: without it the drift stays that of the blank model, zero.
 unfoldable pub withDrift : State → ℕ → List ℕ → State

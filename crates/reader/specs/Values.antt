@@ -60,7 +60,7 @@ unless ok number = cond ok 0 number
 
 -- Refusals 5, of the row number and then of the entries, or Refusals 15 of the entries.
 unfoldable pub rowNumber : State → ℕ → List ℕ → ℕ
-rowNumber s kind body = firstOf (unless (eqb (firstByte body) (s .rows)) 5) (entriesNumber (rowAnswer kind body))
+rowNumber s kind body = firstOf (unless (eqb (firstByte body) (s .rows)) 5) (entriesNumber (s .model .n) (rowAnswer kind body))
 
 -- The number of a point more of the initial set or, with `input`, of the input set: Refusals 6, then Refusals 17.
 abbrev pub pointNumberOf : Bool → ℕ → ℕ → Set → List ℤ → ℕ

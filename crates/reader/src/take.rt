@@ -96,13 +96,15 @@ fn store_row(state: State, row: usize, entries: RowEntries) -> Taken
 fn take_row(state: State, kind: u8, body: &[u8]) -> Taken
     ensures { λ r. ⌜ Takes (rowNumber state kind (now (body .entry))) (withRow state kind (now (body .entry))) r ⌝ }
 {
+    let model = state.model;
+    let n = model.n;
     if kind == 0x03 {
         let held = fitted_row(body);
-        let entries = fitted_entries(held);
+        let entries = fitted_entries(n, held);
         return store_row(state, held.number, entries);
     }
     let six = six_at(body, 1);
-    let entries = scaled_entries(six);
+    let entries = scaled_entries(n, six);
     store_row(state, first_byte(body), entries)
 }
 

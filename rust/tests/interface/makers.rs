@@ -272,7 +272,8 @@ fn rubbish(random: &mut Random, kind: u8) -> u64 {
     if kind == 0x03 {
         let one_bit = 1 << random.below(63);
         let any = (random.bits() >> 1).max(1);
-        return random.pick(&[1, one_bit, 1f64.to_bits(), no_entry(random), any]) | random.pick(&[0, SIGN]);
+        let none = no_entry(random);
+        return random.pick(&[1, one_bit, 1f64.to_bits(), none, any]) | random.pick(&[0, SIGN]);
     }
     let one_bit = 1i32 << random.below(32);
     let any = (random.bits() as i32) | 1;

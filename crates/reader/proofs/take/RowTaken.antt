@@ -23,17 +23,17 @@ use Rattle.reader.specs.Models.{firstByte, sixAt, rowAnswer, rowStored, 
 use Rattle.reader.specs.Values.{unless, rowNumber}
 use Rattle.reader.specs.Inner.{Takes, fittedAt, heldRow}
 
-module _ (kind : ℕ) (body : List ℕ) where
+module _ (n kind : ℕ) (body : List ℕ) where
   -- of kind 03
   fitted-answer : AllBytes body → kind ≡ 0x03 → (i : ℕ) → entryOf (Fitted (fittedAt body i)) ≡ rowAnswer kind body i
   fitted-answer bytes e i =
       entryOf-bits (bitsAt body i) (littleEndian-lt 8 body (1 + 8 * i) bytes)
       ∙ sym (ap (λ (b : Bool). cond b (entryOfBits (bitsAt body i)) (scaledEntry (scaledAt body i))) (eq-eqb kind 0x03 e))
 
-  pub fitted-taken : AllBytes body → kind ≡ 0x03 → entriesOf (fittedRow (heldRow body .values)) ≡ entriesOf (rowAnswer kind body)
+  pub fitted-taken : AllBytes body → kind ≡ 0x03 → entriesOf n (fittedRow (heldRow body .values)) ≡ entriesOf n (rowAnswer kind body)
   fitted-taken bytes e =
       let at = fitted-answer bytes e in
-      entriesOf-cong (each-of-six (λ i. fittedRow (heldRow body .values) i ≡ rowAnswer kind body i) (at 0) (at 1) (at 2) (at 3) (at 4) (at 5))
+      entriesOf-cong n (each-of-six (λ i. fittedRow (heldRow body .values) i ≡ rowAnswer kind body i) (at 0) (at 1) (at 2) (at 3) (at 4) (at 5))
 
   -- of kind 02
   scaled-answer : (kind ≡ 0x03 → ⊥) → (i : ℕ) → i < 6 → scaledRow (sixAt body 1) i ≡ rowAnswer kind body i
@@ -42,13 +42,13 @@ module _ (kind : ℕ) (body : List ℕ) where
       ap scaledEntry (getD-tabulate 6 (entryAt body 1) i (pos 0) l)
       ∙ sym (ap (λ (b : Bool). cond b (entryOfBits (bitsAt body i)) (scaledEntry (scaledAt body i))) (ne-eqb kind 0x03 ne))
 
-  pub scaled-taken : (kind ≡ 0x03 → ⊥) → entriesOf (scaledRow (sixAt body 1)) ≡ entriesOf (rowAnswer kind body)
-  scaled-taken ne = entriesOf-cong (scaled-answer ne)
+  pub scaled-taken : (kind ≡ 0x03 → ⊥) → entriesOf n (scaledRow (sixAt body 1)) ≡ entriesOf n (rowAnswer kind body)
+  scaled-taken ne = entriesOf-cong n (scaled-answer ne)
 
 -- the number and the state
-pub row-taken : (s : State) (kind : ℕ) (body : List ℕ) {row : ℕ} {entries : RowEntries} {r : Taken} → row ≡ firstByte body → entries ≡ entriesOf (rowAnswer kind body)
+pub row-taken : (s : State) (kind : ℕ) (body : List ℕ) {row : ℕ} {entries : RowEntries} {r : Taken} → row ≡ firstByte body → entries ≡ entriesOf (s .model .n) (rowAnswer kind body)
     → Takes (firstOf (unless (eqb row (s .rows)) 5) (entries .number)) (rowStored s (entries .six)) r → Takes (rowNumber s kind body) (withRow s kind body) r
 unfolding entriesOf rowNumber withRow
 row-taken s kind body {row} {entries} {r} e f t =
-    subst (λ (k : ℕ). Takes (firstOf (unless (eqb k (s .rows)) 5) (entriesOf (rowAnswer kind body) .number)) (rowStored s (entriesOf (rowAnswer kind body) .six)) r) e
+    subst (λ (k : ℕ). Takes (firstOf (unless (eqb k (s .rows)) 5) (entriesOf (s .model .n) (rowAnswer kind body) .number)) (rowStored s (entriesOf (s .model .n) (rowAnswer kind body) .six)) r) e
     (subst (λ (x : RowEntries). Takes (firstOf (unless (eqb row (s .rows)) 5) (x .number)) (rowStored s (x .six)) r) f t)

@@ -8,7 +8,7 @@ use Rattle.coefficients.proofs.rows.fitted_entries.Tie as tie
 returns : tie.Need-returns
 returns c =
     let a = c .before .before .args in
-    c .entries-of .ensures ∙ entriesOf-cong (each-of-six (λ i. _ ≡ fittedRow (a .held .values) i) refl refl refl refl refl refl)
+    c .entries-of .ensures ∙ entriesOf-cong (a .n) (each-of-six (λ i. _ ≡ fittedRow (a .held .values) i) refl refl refl refl refl refl)
 
 pub fitted-entries-spec : {M : Type 1} → statement M
 fitted-entries-spec =

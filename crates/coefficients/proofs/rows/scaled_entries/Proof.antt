@@ -19,16 +19,16 @@ returns : tie.Need-returns
 returns c =
     let at-last = c .before in
     let at-first = at-last .before .before .before .before .before in
-    let six = at-first .before .args .t1 in
+    let six = at-first .before .args .t2 in
     c .entries-of .ensures
-    ∙ entriesOf-cong
+    ∙ entriesOf-cong (at-first .before .args .n)
     (each-of-six (λ i. _ ≡ scaledRow six i)
-    (same (vector six 0) (at-first .t6 .given))
-    (same (vector six 1) (at-last .before .before .before .before .t10 .given))
-    (same (vector six 2) (at-last .before .before .before .t14 .given))
-    (same (vector six 3) (at-last .before .before .t18 .given))
-    (same (vector six 4) (at-last .before .t22 .given))
-    (same (vector six 5) (at-last .t26 .given)))
+    (same (vector six 0) (at-first .t7 .given))
+    (same (vector six 1) (at-last .before .before .before .before .t11 .given))
+    (same (vector six 2) (at-last .before .before .before .t15 .given))
+    (same (vector six 3) (at-last .before .before .t19 .given))
+    (same (vector six 4) (at-last .before .t23 .given))
+    (same (vector six 5) (at-last .t27 .given)))
 
 pub scaled-entries-spec : {M : Type 1} → statement M
 scaled-entries-spec =
