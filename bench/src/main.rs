@@ -1,9 +1,9 @@
 //! Measures the sweep through the C interface against Rust of the same recurrence. Called by bench/run:
 //!
-//!     bench report ROUNDS         agreement, the sweep, and how its time grows, as Markdown
-//!     bench count WHO SETS TIMES  does one thing so often, for an instruction counter; SETS may end in `-drift`
-//!     bench file PATH             writes the model with the largest listing
-//!     bench listing PATH          prints the listing of a model file, from the calls alone
+//!     bench report ROUNDS           agreement, the sweep, and how its time grows, as Markdown
+//!     bench count WHO N SETS TIMES  does one thing so often, for an instruction counter; SETS may end in `-drift`
+//!     bench file PATH               writes the model with the largest listing
+//!     bench listing PATH            prints the listing of a model file, from the calls alone
 
 mod clock;
 mod float;
@@ -97,13 +97,13 @@ fn main() {
     let arguments: Vec<&str> = arguments.iter().map(String::as_str).collect();
     match arguments[..] {
         ["report", rounds] => report(number(rounds)),
-        ["count", who, sets, times] => count(who, sets, number(times)),
+        ["count", who, n, sets, times] => count(who, number(n), sets, number(times)),
         ["file", path] => std::fs::write(path, largest()).unwrap_or_else(|error| fail(&format!("{path}: {error}"))),
         ["listing", path] => match std::fs::read(path) {
             Ok(bytes) => print!("{}", listing::text(calls::listing(&bytes))),
             Err(error) => fail(&format!("{path}: {error}")),
         },
-        _ => fail("usage: bench report ROUNDS | count WHO SETS TIMES | file PATH | listing PATH"),
+        _ => fail("usage: bench report ROUNDS | count WHO N SETS TIMES | file PATH | listing PATH"),
     }
 }
 
@@ -359,14 +359,17 @@ fn listing_times(rounds: usize) {
 
 // One thing, so often, for an instruction counter.
 
-fn count(who: &str, sets: &str, times: usize) {
+fn count(who: &str, n: usize, sets: &str, times: usize) {
     let (sets, drift) = sets.strip_suffix("-drift").map_or((sets, false), |sets| (sets, true));
     let sets = match sets {
         "boxes" => Sets::Boxes,
         "vertices" => Sets::Vertices,
         _ => fail("SETS is boxes or vertices, or one of these and -drift"),
     };
-    let size = Size { sets, drift, ..Size::FULL };
+    if !(1..=6).contains(&n) {
+        fail("N is 1 to 6");
+    }
+    let size = Size { n, sets, drift, ..Size::FULL };
     let mut subject = size.subject();
     let mut with_fitted = size.subject().fitted();
     let mut values = vec![0.0; 257];
