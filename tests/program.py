@@ -242,8 +242,8 @@ class Text(unittest.TestCase):
                 replies.add(expected.split("\n")[0])
             self.assertEqual(reply(data).decode(), expected, path.name)
         self.assertLessEqual({"model 1 1", "model 1 120", "model 6 256"}, replies)
-        self.assertLessEqual({1, 3, 7, 8, 9, 10}, replies)
-        self.assertLessEqual({17}, before)
+        self.assertLessEqual({1, 3, 7, 8, 9, 10, 16}, replies)
+        self.assertLessEqual({16, 17}, before)
 
     def test_the_longest_file_is_listed_and_a_byte_more_is_refused(self) -> None:
         vertices = Set(VERTICES, tuple((k,) * MAX_N for k in range(16)))
@@ -353,15 +353,15 @@ class BeyondN(unittest.TestCase):
         def said(number: int, last: bytes, drift: bytes) -> bytes:
             row = bytes([3, number]) + struct.pack("<d", 0.5) + bytes(32) + last
             rest = b"\x05" + bytes(4) + drift + bytes(16) + b"\x14" + bytes(24) + b"\x30\x01" + bytes(23)
-            return reply(b"\x01\x01\x01\x00" + row + rest + b"\xff").split(b"\n")[0]
+            return reply(b"\x01\x01\x01\x00" + row + rest + b"\xff")
 
         zero, minus, smallest, four = bytes(8), bytes(7) + b"\x80", b"\x01" + bytes(7), bytes(4)
-        self.assertEqual(said(0, zero, four), b"model 1 1")
-        self.assertEqual(said(0, minus, four), b"model 1 1")
-        self.assertEqual(said(0, smallest, four), b"refused 16 at 4")
-        self.assertEqual(said(1, smallest, four), b"refused 16 at 4")
-        self.assertEqual(said(1, zero, four), b"refused 5 at 4")
-        self.assertEqual(said(0, minus, b"\x01\0\0\0"), b"refused 16 at 54")
+        self.assertEqual(said(0, zero, four), b"model 1 1\ndir 0 spare 10\n0 0 0\n1 0 0\n")
+        self.assertEqual(said(0, minus, four), said(0, zero, four))
+        self.assertEqual(said(0, smallest, four), b"refused 16 at 4\n")
+        self.assertEqual(said(1, smallest, four), b"refused 16 at 4\n")
+        self.assertEqual(said(1, zero, four), b"refused 5 at 4\n")
+        self.assertEqual(said(0, minus, b"\x01\0\0\0"), b"refused 16 at 54\n")
 
     def test_each_byte_beyond_n_of_the_sample_is_tested(self) -> None:
         # n is 1: the row is at 4 and has its number first; four corners and a direction follow.
@@ -492,8 +492,8 @@ class Drift(unittest.TestCase):
                 replies.add(expected.split("\n")[0])
             self.assertEqual(reply(with_zeros).decode(), expected, path.name)
         self.assertLessEqual({"model 1 1", "model 1 120", "model 6 256"}, replies)
-        self.assertLessEqual({1, 2, 3, 6, 7, 8, 9, 10}, replies)
-        self.assertLessEqual({4, 5, 15}, before)
+        self.assertLessEqual({1, 2, 3, 6, 7, 8, 9, 10, 16}, replies)
+        self.assertLessEqual({4, 5, 15, 16}, before)
 
     def test_each_byte_beyond_n_is_tested_before_the_size(self) -> None:
         for entry, alone in ((7, b"model 1 1\n"), (MAX_REACH + 1, b"refused 17 at 30\n")):

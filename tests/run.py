@@ -367,12 +367,15 @@ class Words(Clone):
         # The example has two coordinates. The last column of its drift, whose record is at 56, becomes 7,
         # or the third of its first direction, at 181.
         data = (EXAMPLES / "summer.bin").read_bytes()
-        for at, kind, column, told in ((56, 0x05, 5, "the drift, record 3 of"), (181, 0x30, 2, "direction 0.* record 8 of")):
+        for at, kind, column, told in (
+            (56, 0x05, 5, "the drift, record 3 of"), (181, 0x30, 2, "direction 0.* record 8 of")
+        ):
             place = at + 1 + 4 * column
             self.assertEqual((data[at], data[place : place + 4]), (kind, bytes(4)))
             done = self.run_on("-", data=data[:place] + b"\x07" + data[place + 1 :])
             self.assert_done(done, 1, b"refused 16 at %d\n" % at)
-            self.assertRegex(done.stderr.decode(), f"{told}.*entry 7 in column {column}.*columns 2 to 5 must be zero")
+            words = f"{told}.*entry 7 in column {column}.*columns 2 to 5 must be zero"
+            self.assertRegex(done.stderr.decode(), words)
 
     def test_the_version_is_that_of_the_bindings(self) -> None:
         (version,) = re.findall(rb'^version = "(.*)"$', (ROOT / "rust" / "Cargo.toml").read_bytes(), re.MULTILINE)

@@ -123,6 +123,7 @@ def with_zero_drift(data: bytes) -> tuple[int, bytes] | None:
 
 
 def accepted_files() -> Iterator[File]:
+    """Models of each form and at their limits; the last file has any numbers beyond n (16)."""
     yield "the sample of the specification", encode(SAMPLE)
     for form in FORMS:
         yield f"shortest with {form}", encode(made_model(form))
@@ -187,7 +188,7 @@ def count_files() -> Iterator[File]:
 
 
 def value_files() -> Iterator[File]:
-    """Numbers 4 to 8 and 10."""
+    """Numbers 4 to 8 and 10, and 16 for one direction."""
     for n, steps in ((0, 3), (7, 3), (255, 3), (1, 257), (1, 65_535), (0, 257)):
         yield f"head {n} {steps}", head(n, steps) + b"".join(records(SAMPLE)[1:])
 
@@ -376,7 +377,7 @@ def mixed_files() -> Iterator[File]:
 
 
 def fitted_value_files() -> Iterator[File]:
-    """Entries and numbers of fitted rows: 15, and 1 and 5 before it."""
+    """Entries and numbers of fitted rows: 15, and 1, 5 and 16 before it."""
     signs = {"": 0, "minus ": SIGN}
     for (sign, bit), (what, bits) in itertools.product(signs.items(), NO_ENTRIES.items()):
         yield f"fitted entry: {sign}{what}", encode(SAMPLE, fitted_rows={0: [bits | bit]})
@@ -579,8 +580,8 @@ def drift_length_files() -> Iterator[File]:
 
 # Entries beyond n (Refusals 16)
 
-# What is no zero: the least in magnitude, one bit of each byte, the largest; of a fitted row these,
-# 1 and what is no number.
+# What is no zero: the least in magnitude, one bit of each byte, the largest; of a fitted row the
+# smallest, 1, a bit by itself and what is no number.
 NO_ZEROS = (1, -1, 2**31 - 1, -(2**31), 1 << 8, 1 << 16, 1 << 24, 7)
 NO_FITTED_ZEROS = {
     "the smallest": 1,
@@ -645,7 +646,8 @@ def column_files() -> Iterator[File]:
 def beyond_order_files() -> Iterator[File]:
     """16 before the row number and the other values, and behind 1, 3 and 9."""
     for kind, n in itertools.product(ROW_KINDS, range(1, MAX_N)):
-        for column, number in ((n, n % 2 * 255), (MAX_N - 1, n)):
+        wrong_numbers = itertools.cycle((255, n, 0) if n > 1 else (255, n))  # it should be n - 1
+        for column, number in zip(range(n, MAX_N), wrong_numbers):
             about = f"{kind:02X} with number {number}, n {n}: column {column} is not zero"
             yield about, start_of(n, kind) + with_rubbish(kind, n, column, 1, number)
 
@@ -685,7 +687,10 @@ def beyond_order_files() -> Iterator[File]:
 
 
 def zero_files() -> Iterator[File]:
-    """Either zero beyond n in fitted rows, what is near to zero, and zeros in place of rubbish."""
+    """Either zero beyond n in fitted rows, and all else there; zeros in place of rubbish.
+
+    Also a file of three coordinates that was saved from four, and which of two records is told.
+    """
     for n in range(1, MAX_N):
         model = made_model(BOX, n)
         for what, zero in (("zeros", 0), ("negative zeros", SIGN)):

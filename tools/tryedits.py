@@ -135,6 +135,7 @@ TEXT = r"(?P<text>.*(?:\n  .*)*)"
 ERROR = re.compile(f"^{PLACE}error: {TEXT}", re.MULTILINE)
 NOTE = re.compile(f"^note: {PLACE}{TEXT}", re.MULTILINE)
 NO_FIT = re.compile(r"has no `Need-|has no field `|is not in scope")
+FOLLOWS = "was not admitted"  # said of a name that another one rests on
 DIFFER = re.compile(
     r"differ only where one has `(.+?)`\s+\(expected\).*?the other has `(.+?)`\s+\(found\)",
     re.DOTALL,
@@ -149,7 +150,8 @@ def short(text: str, most: int) -> str:
 
 def why(log: str, where: str = "") -> tuple[bool, str]:
     """Whether a fact failed first, and what. `where` is the folder that the crate stood in."""
-    found = ERROR.search(log) or NOTE.search(log)
+    errors = [error for error in ERROR.finditer(log) if FOLLOWS not in error["text"]]
+    found = next(iter(errors), None) or NOTE.search(log) or ERROR.search(log)
     if found is None:
         return False, "the prover named no place"
     place = found["file"].removeprefix(where).lstrip("/")

@@ -922,7 +922,7 @@ class BeyondN(unittest.TestCase):
         return (*(data for _, data in readerfiles.all_files()), *models.stream(19, 1_500))
 
     def test_accepted_files_have_zeros_alone(self):
-        """Limits 9 of the file itself: of every record, each entry beyond n."""
+        """File 7: of every record, each entry beyond n."""
         seen = collections.Counter()
         for data in self.files():
             read = exact.read_model(data)

@@ -57,6 +57,12 @@ class Reasons(unittest.TestCase):
     def test_a_function_without_a_proof_file(self):
         self.assertEqual(self.why(SEARCHED), (True, f"src/lib.rt:21: {ENSURES}"))
 
+    def test_what_only_follows_is_not_told(self):
+        follows = f"{WHERE}/proofs/f/Proof.antt:84:5: error: `f-spec`: `close` was not admitted (it has\n"
+        self.assertEqual(self.why(follows + SEARCHED), (True, f"src/lib.rt:21: {ENSURES}"))
+        self.assertEqual(self.why(follows + DIFFERS), self.why(DIFFERS))
+        self.assertIn("`f-spec`", self.why(follows)[1])
+
     def test_a_law(self):
         expected = "proofs/Laws.antt:53 `between-small`: `omega`: it does not follow"
         self.assertEqual(self.why(LAW), (True, expected))

@@ -21,7 +21,8 @@ unfoldable pub firstNumber : ℕ → (ℕ → EntryAnswer) → ℕ
 firstNumber zero row = 0
 firstNumber (suc k) row = firstOf (firstNumber k row) (entryNumber (row k))
 
--- Limits 9: an entry beyond n is not looked at here, and zero is stored for it. In a row that is read it is zero (Refusals 16, `columns`).
+-- Limits 9: an entry beyond n is not looked at here, and zero is stored for it. In a row that is read it is zero (Refusals 16,
+-- `columns`).
 abbrev pub answerAt : ℕ → (ℕ → EntryAnswer) → ℕ → EntryAnswer
 answerAt n row i = cond (ltb i n) (row i) (Entry (pos 0))
 

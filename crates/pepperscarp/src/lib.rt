@@ -30,8 +30,8 @@ pub extern "C" fn pepperscarp_step(
 }
 
 // C interface 3, 5 and 7. The sweep of direction number `direction` of the file's model. The figure is the spare figure.
-// Refusals: 1 to 10, 15 or 17 with the offset as the figure, where the file is refused; 12 and 13; 14 with the first step with growth
-// as the figure.
+// Refusals: 1 to 10 or 15 to 17 with the offset as the figure, where the file is refused; 12 and 13; 14 with the first step with
+// growth as the figure.
 #[no_mangle]
 pub extern "C" fn pepperscarp_sweep(
     file: &[u8],

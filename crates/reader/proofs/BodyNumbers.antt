@@ -1,4 +1,4 @@
--- The number of a whole body: a test that passes, and that 16 stands above the other values. Assumes nothing.
+-- The number of a whole body: a test that passes; a body that passes; a body with nothing beyond n. Assumes nothing.
 use mathlib.Core.Path.{_≡_, refl, ap}
 use mathlib.Core.Bool.{Bool, true, false}
 use mathlib.Core.List.{List}

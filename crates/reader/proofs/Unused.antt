@@ -1,5 +1,5 @@
--- File 7: of an accepted file every entry beyond n of every record is zero. In order: what the test of one record says; n is that of the
--- head; the records from an offset on; all records of a file. Assumes nothing.
+-- File 7: of an accepted file every entry beyond n of every record is zero. In order: what the test of one record says; n never falls;
+-- the records from an offset on; all records of a file. Assumes nothing.
 use mathlib.Core.Path.{_≡_, refl, sym, ap, subst, _∙_}
 use mathlib.Core.Bool.{Bool, true, false, cond}
 use mathlib.Core.List.{List}
@@ -89,7 +89,7 @@ unused-nothing n =
       direction = λ e. let z : _≡_ {A = ℕ} 0 1 = cc in absurd (omega arith);
     }
 
--- ---- n is that of the head: before it n is 0, and no other record changes it
+-- ---- n never falls: before the head it is 0, and no other record changes it
 
 start-n : start .model .n ≡ 0
 unfolding start blankModel

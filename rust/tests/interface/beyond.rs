@@ -211,7 +211,7 @@ fn body_place_and_count_come_before_it() {
 }
 
 #[test]
-fn all_six_entries_count_where_n_is_6() {
+fn nothing_lies_beyond_n_where_n_is_6() {
     for kind in KINDS {
         assert_eq!(refusal(&file(&with_kind(6, kind))), None);
     }
