@@ -1,5 +1,7 @@
 """The reader's test files: always the same, with replies worked out by hand where they can be."""
 
+import itertools
+import re
 import tempfile
 import unittest
 from pathlib import Path
@@ -175,7 +177,7 @@ class ReaderFiles(unittest.TestCase):
             ("30, n 3: column 3 is not zero", "refused 16 at 107"),
             ("23, n 4: no column beyond is zero", "refused 16 at 158"),
             ("02 with number 255, n 1: column 1 is not zero", "refused 16 at 4"),
-            ("03 with number 5, n 5: column 5 is not zero", "refused 16 at 108"),
+            ("03 with number 4, n 4: column 5 is not zero", "refused 16 at 82"),
             ("02 with a wrong entry, n 3", "refused 5 at 56"),
             ("02 with a wrong entry, n 3: column 5 is not zero", "refused 16 at 56"),
             ("03 with a wrong entry, n 1", "refused 15 at 4"),
@@ -287,6 +289,24 @@ class ReaderFiles(unittest.TestCase):
             self.assertEqual((data[at], list(beyond(data[at:], n))), (kind, [column]))
             cleaned = without_rubbish(data, n)
             self.assertEqual(readerfiles.reply(cleaned), f"refused 1 at {len(data)}")
+
+    def test_each_column_beyond_n_of_a_row_out_of_turn(self):
+        """A file for each kind, n and column, and with zeros there it is 5."""
+        seen = set()
+        for what, data in self.files:
+            told = re.fullmatch(r"(0[23]) with number (\d+), n (\d): column (\d) is not zero", what)
+            if told is None:
+                continue
+            number, n, column = map(int, told.groups()[1:])
+            at = 4 + 26 * (n - 1)
+            self.assertNotEqual(number, n - 1)
+            self.assertEqual((data[at], data[at + 1]), (int(told[1]), number))
+            self.assertEqual(list(beyond(data[at:], n)), [column])
+            self.assertEqual(self.replies[what], f"refused 16 at {at}")
+            self.assertEqual(readerfiles.reply(without_rubbish(data, n)), f"refused 5 at {at}")
+            seen.add((told[1], n, column))
+        places = itertools.product(("02", "03"), range(1, 6), range(1, 6))
+        self.assertEqual(seen, {place for place in places if place[1] <= place[2]})
 
     def test_zeros_beyond_n(self):
         """Either zero in fitted rows gives the same listing; so do zeros in place of rubbish."""
