@@ -51,19 +51,19 @@ partZero Guard kind body i = true
 partZero End kind body i = true
 
 module _ (n kind : ℕ) (body : List ℕ) where
-  -- only a row is fitted
-  not-fitted : {p : Part} → partOf kind ≡ p → (Row ≡ p → ⊥) → (i : ℕ) → columnZero 0 kind body i ≡ entryZero body 0 i
+  -- only a row is fitted, and no other part has anything before its entries
+  not-fitted : {p : Part} → partOf kind ≡ p → firstEntry p ≡ 0 → (i : ℕ) → columnZero 0 kind body i ≡ entryZero body 0 i
   unfolding partOf
-  not-fitted e ne i =
-      ap (λ (b : Bool). cond b (isZero (bitsAt body i)) (entryZero body 0 i)) (ne-eqb kind 0x03 (λ k. ne (sym (ap partOf k) ∙ e)))
+  not-fitted e first i =
+      ap (λ (b : Bool). cond b (isZero (bitsAt body i)) (entryZero body 0 i)) (ne-eqb kind 0x03 (λ k. omega (arith, first, ap firstEntry (sym (ap partOf k) ∙ e))))
 
   by-part : (p : Part) → partOf kind ≡ p → (i : ℕ) → not (hasEntries p) || columnZero (firstEntry p) kind body i ≡ true → partZero p kind body i ≡ true
   by-part Head e i z = refl
   by-part Row e i z = z
-  by-part Drift e i z = sym (not-fitted e (λ t. let u : _≡_ {A = ℕ} 0 1 = cc in omega arith) i) ∙ z
-  by-part Initial e i z = sym (not-fitted e (λ t. let u : _≡_ {A = ℕ} 0 1 = cc in omega arith) i) ∙ z
-  by-part Input e i z = sym (not-fitted e (λ t. let u : _≡_ {A = ℕ} 0 1 = cc in omega arith) i) ∙ z
-  by-part Direction e i z = sym (not-fitted e (λ t. let u : _≡_ {A = ℕ} 0 1 = cc in omega arith) i) ∙ z
+  by-part Drift e i z = sym (not-fitted e refl i) ∙ z
+  by-part Initial e i z = sym (not-fitted e refl i) ∙ z
+  by-part Input e i z = sym (not-fitted e refl i) ∙ z
+  by-part Direction e i z = sym (not-fitted e refl i) ∙ z
   by-part Guard e i z = refl
   by-part End e i z = refl
 

@@ -2,7 +2,7 @@
 -- the records from an offset on; all records of a file. Assumes nothing.
 use mathlib.Core.Path.{_≡_, refl, sym, ap, subst, _∙_}
 use mathlib.Core.Bool.{Bool, true, false, cond}
-use mathlib.Core.List.{List}
+use mathlib.Core.List.{List, []}
 use mathlib.Core.Logic.{_⊎_}
 use Prim.Native.Nat.{ℕ, zero, suc, _+_, _*_, _-_, _^_, _≤_, _<_}
 use native.Mathlib.Omega.{arith}
@@ -19,7 +19,7 @@ use Rattle.records.specs.Records.{Record, whole, nothing, recordAt, recordKind,
 use Rattle.records.proofs.LittleEndian.{AllBytes, littleEndian-lt}
 use Rattle.records.proofs.RecordAt.{recordAt-nothing, whole-of, whole-bytes}
 use Rattle.columns.specs.Columns.{entryAt, scaledAt, bitsAt, entryZero, unusedZero}
-use Rattle.columns.proofs.ColumnLaws.{entryZero-is, partZero, unusedZero-at}
+use Rattle.columns.proofs.ColumnLaws.{entryZero-is, partZero, unusedZero-at, unusedZero-none}
 use Rattle.reader.specs.declared.Status.the-variants.{Read}
 use Rattle.reader.specs.declared.state.State.{State}
 use Rattle.reader.specs.Models.{blankModel, start, withRow, withDrift, withSetPoint, withDirection, withGuard}
@@ -79,15 +79,7 @@ unused-more h u =
 -- where no record stands there is no entry
 unused-nothing : (n : ℕ) → UnusedIn n nothing
 unfolding partOf
-unused-nothing n =
-    record {
-      scaled = λ e. absurd (omega arith);
-      fitted = λ e. absurd (omega arith);
-      drift = λ e. let z : _≡_ {A = ℕ} 0 1 = cc in absurd (omega arith);
-      initial = λ e. let z : _≡_ {A = ℕ} 0 1 = cc in absurd (omega arith);
-      input = λ e. let z : _≡_ {A = ℕ} 0 1 = cc in absurd (omega arith);
-      direction = λ e. let z : _≡_ {A = ℕ} 0 1 = cc in absurd (omega arith);
-    }
+unused-nothing n = unused-of n 0 [] (unusedZero-none n 0 [] refl) (λ i. record { fits = omega arith })
 
 -- ---- n never falls: before the head it is 0, and no other record changes it
 
@@ -95,16 +87,16 @@ start-n : start .model .n ≡ 0
 unfolding start blankModel
 start-n = refl
 
-n-kept : (s : State) (kind : ℕ) (body : List ℕ) → AcceptedSoFar s → (p : Part) → fact p (s .last) kind ≡ true → s .model .n ≤ storedIn p s kind body .model .n
+n-onward : (s : State) (kind : ℕ) (body : List ℕ) → AcceptedSoFar s → (p : Part) → fact p (s .last) kind ≡ true → s .model .n ≤ storedIn p s kind body .model .n
 unfolding fact withRow withDrift withSetPoint withDirection withGuard
-n-kept s kind body g Head f = omega (arith, ap (λ (x : State). x .model .n) (g .first (eqb-true (s .last) 0x00 f)), start-n)
-n-kept s kind body g Row f = omega arith
-n-kept s kind body g Drift f = omega arith
-n-kept s kind body g Initial f = omega arith
-n-kept s kind body g Input f = omega arith
-n-kept s kind body g Direction f = omega arith
-n-kept s kind body g Guard f = omega arith
-n-kept s kind body g End f = omega arith
+n-onward s kind body g Head f = omega (arith, ap (λ (x : State). x .model .n) (g .first (eqb-true (s .last) 0x00 f)), start-n)
+n-onward s kind body g Row f = omega arith
+n-onward s kind body g Drift f = omega arith
+n-onward s kind body g Initial f = omega arith
+n-onward s kind body g Input f = omega arith
+n-onward s kind body g Direction f = omega arith
+n-onward s kind body g Guard f = omega arith
+n-onward s kind body g End f = omega arith
 
 record Onward (n : ℕ) (p : Stop) : Type 0 where
   so-far : AcceptedSoFar (p .state)
@@ -115,7 +107,7 @@ unfolding stored
 onward-next file n at s kind body o g =
     record {
       so-far = acceptedSoFar-stored s kind body (o .so-far) (g .allowed) (g .passes);
-      least = omega (arith, o .least, n-kept s kind body (o .so-far) (partOf kind) (order-fact (s .last) kind (kindNumber-zero s kind (g .allowed) .0)));
+      least = omega (arith, o .least, n-onward s kind body (o .so-far) (partOf kind) (order-fact (s .last) kind (kindNumber-zero s kind (g .allowed) .0)));
     }
 
 -- ---- the records from an offset on

@@ -106,7 +106,7 @@ whole-of file at kind body = by-case (recordAt file at) (recordAt-is file at)
 pub whole-length : (file : List ℕ) (at kind : ℕ) (body : List ℕ) → recordAt file at ≡ whole kind body → bodyLength kind ≡ Bytes (length body)
 whole-length file at kind body e = whole-of file at kind body e .length-is
 
--- The body of a file of bytes is bytes.
+-- In a file of bytes the body of a record is bytes.
 pub whole-bytes : (file : List ℕ) (at kind : ℕ) (body : List ℕ) → recordAt file at ≡ whole kind body → AllBytes file → AllBytes body
 whole-bytes file at kind body e bytes i =
     let part = whole-of file at kind body e .body-is in
