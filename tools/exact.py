@@ -7,7 +7,7 @@ from the changed clauses, before the Rattle side is looked at.
 In order: the reader of files, and how it rounds fitted entries; supports and reaches, of a set and
 of what enters at a step; the recurrence over whole numbers; the listing; and, apart from all of
 these, the exact largest values as fractions, by corners, with the check of the accuracy rule
-against them.
+against them. `unrounded_values` has those of a matrix of any fractions.
 
     exact.py FILE            print the listing of a file (standard input without FILE, or for `-`)
     exact.py --check FILE    and check the accuracy rule of what is printed
@@ -402,6 +402,29 @@ def exact_values(model: Model) -> list[list[Fraction]]:
             for points in (states, inputs)
         )
     return values
+
+
+def unrounded_values(
+    model: Model, matrix: Sequence[Sequence[Fraction]]
+) -> tuple[int, list[list[int]]]:
+    """The exact largest values of the model with this matrix in place of its own.
+
+    The recurrence without its rounding: a direction goes back by the transposed matrix, and a value
+    is the sum of the supports there. The entries count in 1/unit, and so the direction after k
+    moves, and the value at step k, in 1/unit^k. The answer is the unit, and for each direction its
+    values in these counts. It takes no corners, so that large sets cost little.
+    """
+    unit = math.lcm(*(entry.denominator for entries in matrix for entry in entries))
+    columns = [[int(unit * entry) for entry in column] for column in zip(*matrix)]
+    values: list[list[int]] = []
+    for direction in model.directions:
+        r, entered, found = list(direction), 0, []
+        for _ in range(model.steps + 1):
+            found.append(support(model.initial, r) + entered)
+            entered = unit * (entered + entering_support(model.input, model.drift, r))
+            r = [dot(column, r) for column in columns]
+        values.append(found)
+    return unit, values
 
 
 def check_cost(model: Model) -> int:

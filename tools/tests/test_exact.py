@@ -1171,6 +1171,57 @@ class ExactValues(unittest.TestCase):
         self.assertGreater(drifting, 40)
 
 
+class UnroundedValues(unittest.TestCase):
+    """The exact largest values of a matrix of any fractions."""
+
+    def values(self, model, matrix):
+        unit, values = exact.unrounded_values(model, matrix)
+        return [[Fraction(x, unit**k) for k, x in enumerate(each)] for each in values]
+
+    def test_a_stored_matrix_has_the_exact_values(self):
+        rng = random.Random(2020)
+        tried = 0
+        for _ in range(200):
+            model = models.random_model(rng)
+            if exact.check_cost(model) <= 100_000:
+                tried += 1
+                matrix = [[Fraction(x, 65_536) for x in entries] for entries in model.matrix]
+                self.assertEqual(self.values(model, matrix), exact.exact_values(model))
+        self.assertGreater(tried, 100)
+
+    def test_a_matrix_of_thirds(self):
+        """x/3 + u with x in [0, 9], u in [-1, 2] and a drift of 1, by hand."""
+        model = single(0, (0, 9), (-1, 2), 1, 3, drift=1)
+        up, down = self.values(replace(model, directions=((1,), (-1,))), [[Fraction(1, 3)]])
+        self.assertEqual(up, [9, 6, 5, Fraction(14, 3)])
+        self.assertEqual(down, [0, 0, 0, 0])
+
+    def test_against_corners_that_go_forward(self):
+        rng = random.Random(2021)
+        for _ in range(40):
+            model = models.random_model(rng)
+            model = replace(model, steps=min(model.steps, 6))
+            if exact.check_cost(model) > 20_000:
+                continue
+            matrix = [[Fraction(rng.randint(-20, 20), rng.choice((3, 7, 10, 1000)))
+                       for _ in range(model.n)] for _ in range(model.n)]
+            states = exact.corners(model.initial)
+            inputs = [tuple(map(sum, zip(corner, model.drift)))
+                      for corner in exact.corners(model.input)]
+            driven = [0] * len(model.directions)
+            expected = [[] for _ in model.directions]
+            for _ in range(model.steps + 1):
+                for number, entries in enumerate(model.directions):
+                    most = max(sum(map(mul, entries, state)) for state in states)
+                    expected[number].append(most + driven[number])
+                    driven[number] += max(sum(map(mul, entries, point)) for point in inputs)
+                states, inputs = (
+                    [tuple(sum(map(mul, row, point)) for row in matrix) for point in points]
+                    for points in (states, inputs)
+                )
+            self.assertEqual(self.values(model, matrix), expected)
+
+
 class Accuracy(unittest.TestCase):
     """The check of the accuracy rule fails where it must; true values are 0, 1, 3/2, 7/4."""
 
