@@ -20,9 +20,10 @@ A text has one statement in a row, and `#` starts a comment:
       vertex ..                   1 to 16 vertices
     input FORM                    the input set, in the same way; left out, the input is zero
     direction NAME ENTRY ..       1 to 16, whole numbers
-    unit DIRECTION UNIT [COUNTS]  what a direction above it is in, as in `unit hottest °C 16`, and
-                                  how many counts make one (1 without); may be left out
-    guard DIRECTION LEVEL         0 to 16, each on a direction above it
+    unit NAME UNIT [COUNTS]       what a direction above it or a coordinate is in, as in
+                                  `unit hottest °C 16`, and how many counts make one (1 without);
+                                  may be left out
+    guard DIRECTION LEVEL [NAME]  0 to 16, each on a direction above it; the name may be left out
 
 An ENTRY of a `row` is a decimal from -2 to 2. It must be a multiple of 1/65,536, as 0.5 is;
 `~0.97` stands for the nearest multiple (of two equally near the even one), so that in a `row` all
@@ -34,10 +35,14 @@ where there is none, unless it is to be quiet. Points, the drift and levels are 
 the reader would refuse is refused here: all mistakes, up to twenty, are told with the text's name,
 or NAME, and the row.
 
-A file has no names, units or time. Unpacked, its coordinates are x0, x1, .. and its directions d0,
-d1, .., or all of these are those of the text that `--names` gives. Fitted rows stay so: each entry
-is the shortest decimal that gives its 64 bits again. Beyond its coordinates a text packs zeros, and
-a file that has anything else there is refused.
+The NAME of a `unit` is that of a direction above it, or else of a coordinate. A direction without a
+unit of its own takes the one, with its counts, that all coordinates have whose entries in it are
+not zero.
+
+A file has no names, units or time. Unpacked, its coordinates are x0, x1, .., its directions d0, d1,
+.. and its guards have no names, or all of these are those of the text that `--names` gives. Fitted
+rows stay so: each entry is the shortest decimal that gives its 64 bits again. Beyond its
+coordinates a text packs zeros, and a file that has anything else there is refused.
 
 `rounded` prints how far the matrix of MODEL, a text or a file, is from what was written. For each
 entry that rounding changes: row, column, the entry (cut where it is long), the whole number of
@@ -63,7 +68,7 @@ from layout import (
 )
 from listings import Refusal
 from spelling import FLOAT, decimal_text, float_text
-from textform import POINT_WORDS, Source, parse, rounded_in
+from textform import POINT_WORDS, Source, Unit, parse, rounded_in
 
 
 def read_source(data: bytes, name: str = "file") -> Source:
@@ -120,15 +125,24 @@ def load(path: str) -> Source:
 
 
 def renamed(source: Source, by: Source, name: str, by_name: str) -> Source:
-    """A model with the names, the units and the time of another, which has as many."""
-    for what in ("coordinates", "directions"):
+    """A model with the names, the units and the time of another, which has as many.
+
+    Its guards may be more or fewer where it names none of them.
+    """
+    for what in ("coordinates", "directions", *["guards"] * any(by.guards)):
         count, there = len(getattr(source, what)), len(getattr(by, what))
         if count != there:
             raise files.Failure(
                 f"{by_name}: no names for {name}: {there} {what} where the file has {count}"
             )
     return dataclasses.replace(
-        source, coordinates=by.coordinates, directions=by.directions, units=by.units, time=by.time
+        source,
+        coordinates=by.coordinates,
+        directions=by.directions,
+        units=by.units,
+        time=by.time,
+        coordinate_units=by.coordinate_units,
+        guards=by.guards if any(by.guards) else (),
     )
 
 
@@ -138,6 +152,13 @@ def write_text(source: Source) -> str:
     def statement(word: str, entries: Iterable[object]) -> str:
         return " ".join([word, *map(str, entries)])
 
+    def unit_rows(names: Iterable[str], units: Iterable[Unit | None]) -> list[str]:
+        return [
+            f"unit {name} {unit[0]}" + (f" {unit[1]}" if unit[1] > 1 else "")
+            for name, unit in zip(names, units)
+            if unit is not None
+        ]
+
     model, names = source.model, source.coordinates
     made_up = names == tuple(f"x{i}" for i in range(model.n))
     rows = [f"coordinates {model.n if made_up else ' '.join(names)}"]
@@ -145,6 +166,8 @@ def write_text(source: Source) -> str:
     rows.append(f"steps {stated}" if stated else f"# steps: the default, {DEFAULT_STEPS}")
     if source.time is not None:
         rows.append(f"time {decimal_text(source.time[0])} {source.time[1]}")
+    # Above all directions, of which one may have the same name.
+    rows += unit_rows(names, source.coordinate_units)
     rows.append("")
     for number, (name, entries) in enumerate(zip(names, model.matrix)):
         fitted = source.fitted.get(number)
@@ -162,9 +185,10 @@ def write_text(source: Source) -> str:
     rows.append("")
     for name, entries, unit in zip(source.directions, model.directions, source.units):
         rows.append(statement(f"direction {name}", entries))
-        if unit is not None:
-            rows.append(f"unit {name} {unit[0]}" + (f" {unit[1]}" if unit[1] > 1 else ""))
-    rows += [f"guard {source.directions[number]} {level}" for number, level in model.guards]
+        rows += unit_rows([name], [unit])
+    for (number, level), name in zip(model.guards, source.guards):
+        guard = f"guard {source.directions[number]}"
+        rows.append(statement(guard, [level] if name is None else [level, name]))
     return "\n".join(rows) + "\n"
 
 

@@ -31,7 +31,7 @@ MEANT = {
     "centre": "center centers centres middle mid point", "generator": "gen axis point",
     "vertex": "vertices vert point corner", "coordinates": "coords states state variables names",
     "steps": "horizon k", "row": "matrix line a", "fitted": "fit float double coefficients",
-    "drift": "bias offset constant ambient", "initial": "init start x0", "input": "in u",
+    "drift": "bias offset constant ambient", "initial": "init start x0", "input": "in u init",
     "direction": "dir output", "guard": "level limit threshold", "time": "dt",
     "box": "interval range", "vertices": "vertex hull points polytope list", "zonotope": "zono",
 }

@@ -48,6 +48,7 @@ ROW_FORMS = {"row": DECIMAL, "scaled": WHOLE, "fitted": FLOAT}
 MARK = "~ marks entries of a 'row' only"
 LIMIT = f"{-MAX_FACTOR} to {MAX_FACTOR}"
 Number = TypeVar("Number", int, Fraction)
+Unit = tuple[str, int]  # its name, and how many counts make one
 
 
 @dataclass(frozen=True)
@@ -80,11 +81,27 @@ class Source:
     input_stated: bool  # or there is no input set, and the model's is that of `zero_box`
     coordinates: tuple[str, ...]
     directions: tuple[str, ...]
-    units: tuple[tuple[str, int] | None, ...]  # of each direction: the unit, and counts in one
+    units: tuple[Unit | None, ...]  # of each direction, as far as the text states them
     time: tuple[Fraction, str] | None = None  # how long a step takes, and in which unit
     fitted: dict[int, Vector] = field(default_factory=dict)  # the fitted rows, by their numbers
     rounded: tuple[Rounded, ...] = ()  # in the order of the matrix
     drift_stated: bool = False  # which it may be also where it is zero
+    coordinate_units: tuple[Unit | None, ...] = ()  # likewise
+    guards: tuple[str | None, ...] = ()  # their names, as far as they have any
+
+    def __post_init__(self) -> None:
+        for what, count in (("coordinate_units", self.model.n), ("guards", len(self.model.guards))):
+            if not getattr(self, what):
+                object.__setattr__(self, what, (None,) * count)
+
+    @property
+    def direction_units(self) -> tuple[Unit | None, ...]:
+        """The unit of each direction: its own, or else the one that all its coordinates have."""
+        found = []
+        for unit, entries in zip(self.units, self.model.directions):
+            of = {each for each, entry in zip(self.coordinate_units, entries) if entry}
+            found.append(unit or (of.pop() if len(of) == 1 else None))
+        return tuple(found)
 
     @property
     def data(self) -> bytes:
@@ -191,8 +208,10 @@ class _Parser:
         self.lost_sets = 0  # sets and points that may have been meant for a set that is missing
         self.directions: dict[str, list[int | None]] = {}
         self.nameless = False  # there is a direction whose name is not known
-        self.units: dict[str, tuple[str, int]] = {}
-        self.guards: list[tuple[str, int | None]] = []
+        # Of each kind, by name.
+        self.units: dict[str, dict[str, Unit]] = {"direction": {}, "coordinate": {}}
+        # The direction of each, its level, and its name where it has one.
+        self.guards: list[tuple[str, int | None, str | None]] = []
         self.statements: dict[str, Callable[[list[str]], None]] = {
             "coordinates": self.take_coordinates,
             "steps": self.take_steps,
@@ -392,7 +411,7 @@ class _Parser:
         else:
             if known in ROW_FORMS:
                 self.behind = 0
-            elif known not in ("coordinates", "steps", "time"):
+            elif known not in ("coordinates", "steps", "time", "unit"):
                 self.behind = self.behind or at
             self.open = None
             try:
@@ -418,7 +437,8 @@ class _Parser:
         words += ["drift"] if "drift" not in self.seen else []
         words += [which for which in ("initial", "input") if which not in self.sets]
         words += ["direction"] if len(self.directions) < MAX_DIRECTIONS else []
-        words += ["unit"] if len(self.units) < len(self.directions) else []
+        names = (*self.directions, *self.coordinates)
+        words += ["unit"] if any(name not in self.units[self.kind(name)] for name in names) else []
         return words + (["guard"] if self.directions and len(self.guards) < MAX_GUARDS else [])
 
     def guessed(self, words: list[str]) -> tuple[str | None, list[str]]:
@@ -426,8 +446,8 @@ class _Parser:
         word, rest = words[0], words[1:]
         allowed = self.allowed()
         guess = suggestion(word, allowed) if rest else None
-        if guess in ("initial", "input") and DECIMAL.fullmatch(rest[0]):
-            guess = None  # a form would follow, and no number
+        if guess in ("initial", "input", "unit") and DECIMAL.fullmatch(rest[0]):
+            guess = None  # a form or a name would follow, and no number
         hint = f" did you mean {guess!r}?" if guess else ""
         if guess is None:
             guess = self.left_out(words, allowed)
@@ -464,15 +484,25 @@ class _Parser:
             _fail(f"a second {word!r}")
         self.seen.add(word)
 
-    def test_direction(self, name: str, what: str) -> None:
-        """Tell a name that no direction above has; not where that may follow from a mistake."""
-        if name in self.directions or self.nameless:
+    def kind(self, name: str) -> str:
+        """What a unit of this name is of: a direction above it has precedence."""
+        return "direction" if name in self.directions else "coordinate"
+
+    def test_named(self, name: str, what: str, coordinates: Sequence[str] = ()) -> None:
+        """Tell a name that no direction above has, and none of these coordinates.
+
+        Not where that may follow from a mistake.
+        """
+        names = list(dict.fromkeys((*self.directions, *coordinates)))
+        if name in names or self.nameless or coordinates and not self.sure_names:
             return
-        names = list(self.directions)
         guess = suggestion(name, names)
         hint = f"; did you mean {guess!r}?" if guess else ";"
-        there = f"{hint} above it are {', '.join(names)}" if names else "; there is none above it"
-        self.tell(f"no direction named {quoted(name)} above this {what}{there}")
+        above = ", ".join(self.directions)
+        there = f"above it are {above}" if above else "no direction is above it"
+        neither = ", and no coordinate" if coordinates else ""
+        there += f"; coordinates are {', '.join(coordinates)}" if coordinates else ""
+        self.tell(f"no direction named {quoted(name)} above this {what}{neither}{hint} {there}")
 
     def test_unit(self, unit: str) -> None:
         if len(unit) > LONGEST_UNIT or not unit.isprintable() or plain(unit, DECIMAL) is not None:
@@ -612,26 +642,42 @@ class _Parser:
     def take_unit(self, words: list[str]) -> None:
         if len(words) not in (2, 3):
             _fail(
-                "expected 'unit', a direction's name, a unit and, where it is not 1, how many"
-                " counts make one, as in 'unit hottest °C 16'"
+                "expected 'unit', the name of a direction or of a coordinate, a unit and, where it"
+                " is not 1, how many counts make one, as in 'unit hottest °C 16'"
             )
         name, unit, *rest = words
-        self.test_direction(name, "unit")
-        if name in self.units:
-            self.tell(f"a second unit of direction {name!r}")
+        self.test_named(name, "unit", self.coordinates)
+        kind = self.kind(name)
+        units = self.units[kind]
+        # A second one may be meant for a direction or a coordinate whose name above is wrong.
+        sure = name in self.coordinates and self.sure_names and not self.nameless
+        if name in units and (kind == "direction" or sure):
+            self.tell(f"a second unit of {kind} {name!r}")
         self.test_unit(unit)
         read = _limited(1, MOST_COUNTS, "counts")
         counts = self.number(rest[0], read) if rest else 1
-        self.units.setdefault(name, (unit, counts or 1))
+        units.setdefault(name, (unit, counts or 1))
 
     def take_guard(self, words: list[str]) -> None:
-        if len(words) != 2:
-            _fail("expected 'guard', a direction's name and a level")
+        # With a name where the level is due, and the level behind it.
+        turned = len(words) == 3 and NAME.fullmatch(words[1]) and WHOLE.fullmatch(words[2])
+        if len(words) not in (2, 3) or turned:
+            _fail(
+                "expected 'guard', a direction's name, a level and, where it has one, the guard's"
+                " name, as in 'guard hottest 4480 limit'"
+            )
         if len(self.guards) == MAX_GUARDS:
             self.tell(f"one guard too many: 0 to {MAX_GUARDS}")
-        self.test_direction(words[0], "guard")
-        level = self.number(words[1], _limited(MIN_LEVEL, MAX_LEVEL, "level"))
-        self.guards.append((words[0], level))
+        direction, level, *rest = words
+        self.test_named(direction, "guard")
+        value = self.number(level, _limited(MIN_LEVEL, MAX_LEVEL, "level"))
+        name = rest[0] if rest else None
+        if name is not None and not NAME.fullmatch(name):
+            hint = "; a level is one number" if plain(name, DECIMAL) is not None else ""
+            self.tell(f"{quoted(name)} is no name: {NAME_FORM}{hint}")
+        elif name is not None and any(name == each for _, _, each in self.guards):
+            self.tell(f"a second guard named {name!r}")
+        self.guards.append((direction, value, name))
 
     # The end
 
@@ -690,7 +736,7 @@ class _Parser:
             sets["initial"],
             sets.get("input", zero_box(n)),
             tuple(map(tuple, self.directions.values())),
-            tuple((names.index(name), level) for name, level in self.guards),
+            tuple((names.index(name), level) for name, level, _ in self.guards),
             tuple(self.drift),
         )
         return Source(
@@ -699,11 +745,13 @@ class _Parser:
             "input" in sets,
             self.coordinates,
             names,
-            tuple(self.units.get(name) for name in names),
+            tuple(map(self.units["direction"].get, names)),
             self.time,
             {number: tuple(map(pattern_of, words)) for number, words in self.fitted.items()},
             tuple(self.rounded),
             "drift" in self.seen,
+            tuple(map(self.units["coordinate"].get, self.coordinates)),
+            tuple(name for _, _, name in self.guards),
         )
 
 

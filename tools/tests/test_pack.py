@@ -43,6 +43,11 @@ INPUT = "input vertices\n  vertex 0 0\n  vertex 5 -6\n"
 ZERO = "input box\n  lower 0 0\n  upper 0 0\n"
 NO_INPUT = GOOD.replace(INPUT, "")
 NO_INPUT_NOTE = "no input set: the input is zero in every coordinate"
+# Units of the coordinates and names of the guards, which change no byte.
+UNITS = "unit hot °C 16\nunit cold °C 16\n"
+NAMED = (GOOD.replace("steps 7\n", f"steps 7\n{UNITS}").replace("gap -12", "gap -12 cools")
+         .replace("775807", "775807 melts"))
+DEGREES = ("°C", 16)
 # Row 0 in decimals, row 1 in whole numbers.
 FIRST, SECOND = "row hot 0.5 -0.25   # decimals", "scaled 1 -131072"
 
@@ -64,6 +69,7 @@ class Pack(unittest.TestCase):
         self.assertEqual(source.coordinates, ("hot", "cold"))
         self.assertEqual(source.directions, ("warm", "gap"))
         self.assertEqual((source.units, source.time), ((None, None), None))
+        self.assertEqual((source.coordinate_units, source.guards), ((None, None), (None, None)))
 
     def test_units_and_time(self):
         text = GOOD.replace("guard gap", "unit warm °C 16\nunit gap mV\ntime 1.25 ms\nguard gap")
@@ -183,6 +189,138 @@ class Pack(unittest.TestCase):
         self.assertGreater(with_drift, 20)
         data = pack.parse(GOOD).data
         self.assertEqual(pack.parse(pack.unpack(data)).data, data)
+
+
+class Names(unittest.TestCase):
+    """Units of coordinates, which directions take, and names of guards."""
+
+    def below(self, row, rows, text=GOOD):
+        """The source of a text with more rows right below the one that starts so."""
+        lines = text.splitlines()
+        at = next(at for at, line in enumerate(lines) if line.startswith(row))
+        return pack.parse("\n".join(lines[: at + 1] + rows.splitlines() + lines[at + 1 :]))
+
+    def same(self, source, again):
+        """All that two texts say is the same, but for how their rows are written."""
+        for what in ("model", "data", "coordinates", "directions", "units", "coordinate_units",
+                     "direction_units", "guards", "time"):
+            self.assertEqual(getattr(source, what), getattr(again, what), what)
+
+    def test_by_hand(self):
+        source = pack.parse(NAMED)
+        self.assertEqual(source.coordinate_units, (DEGREES, DEGREES))
+        self.assertEqual(source.units, (None, None))
+        self.assertEqual(source.direction_units, (DEGREES, DEGREES))
+        self.assertEqual(source.guards, ("cools", "melts"))
+        self.assertEqual((source.model, source.data),
+                         (pack.parse(GOOD).model, pack.parse(GOOD).data))
+
+    def test_a_packed_file_has_none(self):
+        read = pack.read_source(pack.parse(NAMED).data)
+        self.assertEqual(read.coordinate_units, (None, None))
+        self.assertEqual((read.units, read.direction_units), ((None, None), (None, None)))
+        self.assertEqual(read.guards, (None, None))
+
+    def test_directions_take_the_unit_that_their_coordinates_share(self):
+        """`warm` is of `hot` alone, `gap` of both."""
+        for hot, cold, *due in (
+            ("°C 16", "°C 16", DEGREES, DEGREES),
+            ("°C", "°C 1", ("°C", 1), ("°C", 1)),
+            ("°C 16", "K 16", DEGREES, None),
+            ("°C 16", "°C", DEGREES, None),
+            ("°C 16", None, DEGREES, None),
+            (None, "°C 16", None, None),
+        ):
+            rows = [f"unit {name} {unit}" for name, unit in (("hot", hot), ("cold", cold)) if unit]
+            with self.subTest(rows):
+                source = self.below("coordinates", "\n".join(rows))
+                self.assertEqual((source.units, source.direction_units), ((None, None), (*due,)))
+                # A direction's own unit holds instead.
+                source = self.below("direction gap", "unit gap mV 4", pack.write_text(source))
+                self.assertEqual(source.units, (None, ("mV", 4)))
+                self.assertEqual(source.direction_units, (due[0], ("mV", 4)))
+
+    def test_a_coordinates_unit_stands_anywhere(self):
+        source = self.below("coordinates", UNITS)
+        for row in ("steps", "row", "scaled", "  generator", "  vertex 5", "direction warm",
+                    "direction gap", "guard gap", "guard warm"):
+            self.assertEqual(self.below(row, UNITS), source)
+        hot, cold = UNITS.splitlines()
+        self.assertEqual(self.below("guard gap", hot, f"{GOOD}{cold}\n"), source)
+
+    def test_a_direction_above_has_precedence(self):
+        text = GOOD.replace("warm", "hot")
+        below = self.below("guard gap", "unit hot °C 16", text)
+        self.assertEqual((below.units, below.coordinate_units), ((DEGREES, None), (None, None)))
+        self.assertEqual(below.direction_units, (DEGREES, None))
+        # Also beside a unit of the other coordinate.
+        below = self.below("direction gap", UNITS, text)
+        self.assertEqual((below.units, below.coordinate_units), ((DEGREES, None), (None, DEGREES)))
+        self.assertEqual(below.direction_units, (DEGREES, None))
+
+    def test_above_a_direction_of_the_same_name(self):
+        text = GOOD.replace("warm", "hot")
+        above = self.below("  vertex 5", "unit hot °C 16", text)
+        self.assertEqual((above.units, above.coordinate_units), ((None, None), (DEGREES, None)))
+        self.assertEqual(above.direction_units, (DEGREES, None))
+        both = self.below("direction hot", "unit hot mK", text.replace("steps 7\n", UNITS))
+        self.assertEqual((both.units, both.coordinate_units),
+                         ((("mK", 1), None), (DEGREES, DEGREES)))
+        self.assertEqual(both.direction_units, (("mK", 1), DEGREES))
+        self.same(both, pack.parse(pack.write_text(both)))
+
+    def test_numbered_coordinates(self):
+        text = GOOD.replace("hot cold", "2").replace("row hot", "row")
+        source = self.below("coordinates", "unit x1 mV 10\nunit x0 mV", text)
+        self.assertEqual(source.coordinate_units, (("mV", 1), ("mV", 10)))
+        written = pack.write_text(source)
+        self.assertTrue(written.startswith("coordinates 2\nsteps 7\nunit x0 mV\nunit x1 mV 10\n\n"))
+        self.same(source, pack.parse(written))
+
+    def test_guards_with_and_without_names(self):
+        for first, second in (("cools", None), (None, "melts"), ("cools", "melts"),
+                              ("gap", "hot"), ("x_1.a-b", "größe"), (None, None)):
+            text = GOOD.replace("gap -12", f"gap -12 {first or ''}")
+            source = pack.parse(text.replace("775807", f"775807 {second or ''}"))
+            self.assertEqual(source.guards, (first, second))
+            self.same(source, pack.parse(pack.write_text(source)))
+        self.assertEqual(pack.parse(GOOD.split("guard")[0]).guards, ())
+
+    def test_written(self):
+        written = pack.write_text(self.below("steps", "time 1.25 ms", NAMED))
+        self.assertIn("\nsteps 7\ntime 1.25 ms\nunit hot °C 16\nunit cold °C 16\n\nscaled hot ",
+                      written)
+        self.assertTrue(written.endswith("\ndirection warm 1 0\ndirection gap 1 -1\n"
+                                         "guard gap -12 cools\n"
+                                         "guard warm 9223372036854775807 melts\n"), written)
+        self.assertEqual(written.count("unit"), 2)
+
+    def test_written_and_parsed_again(self):
+        """Random names, of which a coordinate and a direction may have the same, and units."""
+        rnd = random.Random(15)
+        words = [f"x{i}" for i in range(9)] + [f"d{i}" for i in range(9)]
+        units = [None, None, ("mV", 1), ("mV", 10), DEGREES]
+        seen = shared = 0
+        for data in models.stream(15, 150):
+            if isinstance(exact.read_model(data), Refusal):
+                continue
+            read = pack.read_source(data)
+            n, directions, guards = len(read.coordinates), len(read.directions), len(read.guards)
+            source = replace(
+                read,
+                coordinates=rnd.choice((read.coordinates, tuple(rnd.sample(words, n)))),
+                directions=tuple(rnd.sample(words, directions)),
+                units=tuple(rnd.choice(units) for _ in range(directions)),
+                coordinate_units=tuple(rnd.choice(units) for _ in range(n)),
+                guards=tuple(rnd.choice((name, None)) for name in rnd.sample(words, guards)),
+                time=rnd.choice((None, (Fraction(5, 4), "ms"))),
+            )
+            self.same(source, pack.parse(pack.write_text(source)))
+            self.same(source, pack.renamed(pack.read_source(source.data), source, "file", "text"))
+            seen += 1
+            shared += not {*source.coordinates}.isdisjoint(source.directions)
+        self.assertGreater(seen, 60)
+        self.assertGreater(shared, 20)
 
 
 class Drift(unittest.TestCase):
@@ -604,13 +742,18 @@ class Messages(unittest.TestCase):
             ("guard gap -12", "guard gap", 14, "expected 'guard'"),
             ("guard gap -12", "guard gap many", 14, "no whole number"),
             ("guard gap -12", "guard gpa -12", 14, "did you mean 'gap'? above it are warm, gap"),
-            ("guard gap -12", "unit gas mV", 14, "no direction named 'gas' above this unit"),
-            ("guard gap -12", "unit gap", 14, "'unit hottest °C 16'"),
+            ("guard gap -12", "unit gap", 14,
+             "expected 'unit', the name of a direction or of a coordinate, a unit and, where it is"
+             " not 1, how many counts make one, as in 'unit hottest °C 16'"),
             ("guard gap -12", "unit gap 16", 14, "'16' is no unit"),
             ("guard gap -12", "unit gap " + "m" * 13, 14, "1 to 12 characters"),
             ("guard gap -12", "unit gap mV 0", 14, "counts 0 is beyond 1 to 1,000,000,000"),
             ("guard gap -12", "unit gap mV 1000000001", 14, "beyond 1 to 1,000,000,000"),
             ("guard gap -12", "unit gap mV\nunit gap mV", 15, "a second unit of direction 'gap'"),
+            ("guard gap -12", "unit hot mV\nunit hot K", 15, "a second unit of coordinate 'hot'"),
+            ("steps 7", "unit cold mV\nunit cold mV", 4, "a second unit of coordinate 'cold'"),
+            ("steps 7", "unit hot 16", 3, "'16' is no unit"),
+            ("steps 7", "unit hot mV 0", 3, "counts 0 is beyond 1 to 1,000,000,000"),
             ("guard gap -12", "time 1.25", 14, "'time 1.25 ms'"),
             ("guard gap -12", "time 0 ms", 14, "not above 0"),
             ("guard gap -12", "time -1 ms", 14, "not above 0"),
@@ -621,6 +764,58 @@ class Messages(unittest.TestCase):
         ):
             with self.subTest(new[:40]):
                 self.refused(old, new, place, message)
+
+    def test_names_of_units(self):
+        """What is no direction above a unit and no coordinate, with a suggestion of either."""
+        def told(name, hint, above):
+            return (f"no direction named {name!r} above this unit, and no coordinate;{hint}"
+                    f" {above}; coordinates are hot, cold")
+
+        none, one, both = "no direction is above it", "above it are warm", "above it are warm, gap"
+        for old, new, place, message in (
+            ("guard gap -12", "unit gas mV", 14, told("gas", " did you mean 'gap'?", both)),
+            ("guard gap -12", "unit code mV", 14, told("code", " did you mean 'cold'?", both)),
+            ("guard gap -12", "unit Hot mV", 14, told("Hot", " did you mean 'hot'?", both)),
+            ("guard gap -12", "unit air mV", 14, told("air", "", both)),
+            ("direction gap", "unit gap mV\ndirection gap", 13, told("gap", "", one)),
+            ("steps 7", "unit gap mV", 3, told("gap", "", none)),
+            ("steps 7", "unit hat mV", 3, told("hat", " did you mean 'hot'?", none)),
+            ("steps 7", "guard hot 1", 3,
+             "no direction named 'hot' above this guard; no direction is above it"),
+            ("guard gap -12", "guard cold -12", 14,
+             "no direction named 'cold' above this guard; above it are warm, gap"),
+        ):
+            with self.subTest(new):
+                self.assertEqual(self.changed(old, new), [f"{place}: {message}"])
+        # Each is told once for each row, and nothing of a second unit of what is not there.
+        told_twice = [f"{place}: {told('air', '', both)}" for place in (14, 15)]
+        self.assertEqual(self.changed("guard gap -12", "unit air mV\nunit air mV"), told_twice)
+
+    def test_names_of_guards(self):
+        form = "is no name: a letter, then letters, digits, '_', '.' or '-'"
+        expected = ("expected 'guard', a direction's name, a level and, where it has one, the"
+                    " guard's name, as in 'guard hottest 4480 limit'")
+        second = "a second guard named 'low'"
+        for new, told in (
+            ("guard gap -12 low\nguard warm 1 low", f"15: {second}"),
+            ("guard gap -12 low\nguard gap 1\nguard gap -12 low", f"16: {second}"),
+            ("guard gap -12 9lives", f"14: '9lives' {form}"),
+            ("guard gap -12 'low'", f"14: \"'low'\" {form}"),
+            ("guard gap -12 -", f"14: '-' {form}"),
+            ("guard gap 12 000", f"14: '000' {form}; a level is one number"),
+            ("guard gap 12 ,5", f"14: ',5' {form}; a level is one number"),
+            ("guard gap", f"14: {expected}"),
+            ("guard", f"14: {expected}"),
+            ("guard gap -12 low level", f"14: {expected}"),
+            ("guard gap -12 is too low", f"14: {expected}"),
+            # In another order.
+            ("guard gap low -12", f"14: {expected}"),
+            ("guard low gap -12", f"14: {expected}"),
+            ("guard gap low", "14: 'low' is no whole number"),
+            ("guard gap 1_0 low", "14: '1_0' is no whole number; write 10"),
+        ):
+            with self.subTest(new):
+                self.assertEqual(self.changed("guard gap -12", new), [told])
 
     def test_fitted_rows(self):
         binary = "no decimal or hexadecimal number"
@@ -763,25 +958,30 @@ class Messages(unittest.TestCase):
             ("centre", "center", 7, "centre", "centre"),
             ("generator", "generators", 8, "generator", "generator"),
             ("centre", "mid", 7, "centre", "centre"),
-            ("vertex 5", "point 5", 11, "vertex", "vertex, time, drift, direction"),
+            ("vertex 5", "point 5", 11, "vertex", "vertex, time, drift, direction, unit"),
             ("row hot", "matrix hot", 4, "row",
-             "time, row, scaled, fitted, drift, initial, input, direction"),
+             "time, row, scaled, fitted, drift, initial, input, direction, unit"),
             ("row hot", "Row hot", 4, "row",
-             "time, row, scaled, fitted, drift, initial, input, direction"),
+             "time, row, scaled, fitted, drift, initial, input, direction, unit"),
             ("row hot", "fit hot", 4, "fitted",
-             "time, row, scaled, fitted, drift, initial, input, direction"),
+             "time, row, scaled, fitted, drift, initial, input, direction, unit"),
             ("steps 7", "stops 7", 3, "steps",
-             "steps, time, row, scaled, fitted, drift, initial, input, direction"),
-            ("initial", "offset 1 2\ninitial", 6, "drift", "time, drift, initial, input"),
-            ("initial", "init", 6, "initial", "time, drift, initial, input, direction"),
-            ("input", "inputs", 9, "input", "generator, time, drift, input, direction"),
-            ("direction gap", "dir gap", 13, "direction", "time, drift, direction, unit"),
+             "steps, time, row, scaled, fitted, drift, initial, input, direction, unit"),
+            ("steps 7", "units hot mV", 3, "unit",
+             "steps, time, row, scaled, fitted, drift, initial, input, direction, unit"),
+            ("initial", "offset 1 2\ninitial", 6, "drift",
+             "time, drift, initial, input, direction, unit"),
+            ("initial", "init", 6, "initial", "time, drift, initial, input, direction, unit"),
+            ("input", "inputs", 9, "input", "generator, time, drift, input, direction, unit"),
+            ("input", "init", 9, "input", "generator, time, drift, input, direction, unit"),
+            ("direction gap", "dir gap", 13, "direction", "time, drift, direction, unit, guard"),
             ("guard gap", "limit gap", 14, "guard", "time, drift, direction, unit, guard"),
         ):
             with self.subTest(new):
                 word = new.split()[0]
                 told = f"unknown word {word!r}; did you mean {guess!r}? allowed here: {allowed}"
                 self.refused(old, new, place, told)
+                self.assertTrue(self.changed(old, new)[0].endswith(told))
         corners = "initial zonotope\n  centre 1 2\n  generator 3 -4"
         self.assertEqual(
             self.changed(corners, "initial box\nmin 1 2\nhigh 3 4"),
@@ -796,6 +996,26 @@ class Messages(unittest.TestCase):
                          " is left out where there is no input")
         self.refused("steps 7", "blob 7", 3, "unknown word 'blob'; allowed here: steps, time, row")
         self.refused("row hot 0.5", "0.5", 4, "did you mean 'row 0.5 ..'?")
+
+    def test_units_that_are_still_allowed(self):
+        """Of a direction above, or of a coordinate whose name none of these has."""
+        named = GOOD.replace("warm", "hot")
+        for text, rows, still in (
+            (GOOD, UNITS, True),
+            (GOOD, UNITS + "unit warm K\n", True),
+            (GOOD, UNITS + "unit warm K\nunit gap K\n", False),
+            (GOOD, "unit hot K\nunit warm K\nunit gap K\n", True),
+            (named, "unit hot K\nunit gap K\n", True),
+            (named, "unit hot K\nunit gap K\nunit cold K\n", False),
+        ):
+            with self.subTest(rows):
+                (told,) = mistakes(text.replace("guard gap", f"{rows}blob 1\nguard gap"))
+                self.assertEqual(told.endswith("direction, unit, guard"), still, told)
+        told = mistakes(NAMED.replace("row hot", "blob 1\nrow hot"))
+        self.assertTrue(told[0].endswith("initial, input, direction"), told)
+        # A name stands behind it: of numbers another word is meant.
+        self.refused("direction gap 1 -1", "unit1 1 -1\ndirection gap 1 -1", 13,
+                     "unknown word 'unit1'; did you mean 'direction unit1 ..'?")
 
     def test_numbers_in_other_spellings(self):
         """The advice is right at its place, or there is none but the limits."""
@@ -900,11 +1120,36 @@ class Messages(unittest.TestCase):
                 self.assertEqual(len(found), 1, found)
                 self.assertTrue(found[0].startswith(told), found)
 
+    def test_no_row_is_told_where_the_matrix_ends(self):
+        """Units may stand above it, as steps and the time may."""
+        for rows, told in (
+            (f"{FIRST}\n{SECOND}\n", "6: no row for 'hot', 'cold'"),
+            (f"{SECOND}\n", "7: no row for 'cold'"),
+        ):
+            self.assertEqual(mistakes(NAMED.replace(rows, "")), [told])
+
+    def test_no_unit_is_told_that_may_be_meant_for_a_wrong_name(self):
+        alike, second = "2: two coordinates have the same", "13: a second direction named 'warm'"
+        for old, new, units, told in (
+            ("hot cold", "hot 9cold", UNITS, "2: '9cold' is no name"),
+            ("hot cold", "hot hot", UNITS, alike),
+            ("hot cold", "hot hot", "unit hot K\nunit hot K\n", alike),
+            ("direction warm", "direction 9", "unit warm K\n", "12: a direction needs a name"),
+            ("direction gap", "direction warm", "unit gap K\n", second),
+            # Its name may be `cold`.
+            ("direction gap", "direction warm", "unit cold K\nunit cold K\n", second),
+        ):
+            with self.subTest(new + units):
+                text = GOOD.split("guard")[0] + units
+                self.assertEqual(text.count(old), 1)
+                (found,) = mistakes(text.replace(old, new))
+                self.assertTrue(found.startswith(told), found)
+
     def test_nothing_is_told_that_only_follows(self):
         """Of a text with one word changed there is one mistake, or a few in the same row."""
         rnd = random.Random(3)
-        for _ in range(600):
-            rows = rnd.choice((GOOD, NO_INPUT)).splitlines()
+        for _ in range(800):
+            rows = rnd.choice((GOOD, NO_INPUT, NAMED)).splitlines()
             at = rnd.randrange(2, len(rows))
             words = rows[at].partition("#")[0].split()
             words[rnd.randrange(1, len(words))] = rnd.choice(("1e99", "?", "0,5", "2.7182", "-"))
@@ -1140,7 +1385,7 @@ class Command(helpers.FolderTest):
             self.assertTrue(said.startswith(f"{name}:3: steps 0"), said)
 
     def test_unpacked_with_names(self):
-        text = GOOD.replace("guard gap", "unit gap mV 10\ntime 1.25 ms\nguard gap")
+        text = NAMED.replace("guard gap", "unit gap mV 10\ntime 1.25 ms\nguard gap")
         data = pack.parse(GOOD).data
         names = self.write("names.model", text)
         out, said, status = run_tool("pack.py", "unpack", "-", "--names", names, stdin=data)
@@ -1167,10 +1412,14 @@ class Command(helpers.FolderTest):
         fewer = self.write("fewer.model", "coordinates hot\nsteps 60\nrow 1\ninitial vertices\n"
                                           "vertex 1\ninput vertices\nvertex 1\ndirection d 1\n")
         more = self.write("more.model", GOOD + "direction more 1 1\n")
+        guards = self.write("guards.model", NAMED + "guard gap 7\n")
+        guard = self.write("guard.model", NAMED.replace("guard gap -12 cools\n", ""))
         wrong = self.write("wrong.model", GOOD.replace("steps 7", "steps 0"))
         for path, message, expected in (
             (fewer, "no names for standard input: 1 coordinates where the file has 2", 1),
             (more, "no names for standard input: 3 directions where the file has 2", 1),
+            (guards, "no names for standard input: 3 guards where the file has 2", 1),
+            (guard, "no names for standard input: 1 guards where the file has 2", 1),
             (wrong, "wrong.model:3: steps 0", 1),
             (self.folder / "none", "none: no such file", 3),
         ):
@@ -1178,12 +1427,26 @@ class Command(helpers.FolderTest):
             self.assertEqual((out, status), (b"", expected))
             self.assertIn(message, said)
 
+    def test_names_of_a_text_with_other_guards(self):
+        """They fit where the text names none of its guards."""
+        data = pack.parse(NAMED).data
+        for text in (GOOD + "guard gap 7\n", GOOD.split("guard")[0], GOOD):
+            text = text.replace("steps 7\n", UNITS)
+            path = self.write("names.model", text)
+            out, said, status = run_tool("pack.py", "unpack", "-", "--names", path, stdin=data)
+            self.assertEqual((said, status), ("", 0))
+            source = pack.parse(out.decode())
+            self.assertEqual(source.guards, (None, None))
+            self.assertEqual(source.coordinate_units, (DEGREES, DEGREES))
+            self.assertEqual(source.data, data)
+
     def test_help_shows_the_form(self):
         for words in (("--help",), ("pack", "--help"), ("rounded", "--help")):
             out, _, status = run_tool("pack.py", *words)
             self.assertEqual(status, 0)
             self.assertIn(b"\n    direction NAME ENTRY ..       1 to 16, whole numbers\n", out)
-            self.assertIn(b"\n    unit DIRECTION UNIT [COUNTS]  ", out)
+            self.assertIn(b"\n    unit NAME UNIT [COUNTS]       what a direction above it or", out)
+            self.assertIn(b"\n    guard DIRECTION LEVEL [NAME]  0 to 16, each on a direction", out)
             self.assertIn(b"\n    fitted [NAME] ENTRY ..        the same, in numbers of", out)
             self.assertIn(b" set, in the same way; left out, the input is zero\n", out)
             self.assertIn(b" the file leaves them to the default, 120\n", out)
