@@ -4,10 +4,16 @@
     chart.py LISTING [-o OUT.svg] [--model MODEL]
 
 Each direction has a panel: its bound and its bound - slack over the steps, and the slack by itself
-below. A listing has numbers only, so the names, the guard levels, the units and the time of a step
-come from the model where one is given (its text, or packed without units and time). Line styles
-differ, so that a copy in black and white can be read too. The picture has a fixed size in pixels,
-which grows with the numbers beside the plots, and needs no style sheet or script.
+below. Where two directions are the highest and the lowest of the same they share a panel, which
+shows the tube between them. The largest bound is marked and told, and of each guard how far its
+level is from the largest value, as far as that is certain; all of this is rounded outward.
+
+A listing has numbers only, so the names, the guard levels, the units and the time of a step come
+from the model where one is given (its text, or packed without units and time). Line styles differ,
+so that a copy in black and white can be read too. The picture has a fixed size in pixels, which
+grows with the numbers beside the plots, and needs no style sheet or script.
+
+Everything is drawn from exact fractions (`answers`); only places on the page are floats.
 """
 
 from __future__ import annotations
@@ -20,26 +26,38 @@ from fractions import Fraction
 from functools import cached_property
 from typing import Iterable, Sequence
 
+import answers
 import exact
 import files
 import listings
 import pack
-from listings import CLEAR, GROWTH, HIT, UNKNOWN, Growth, Listing, Refusal, Sweep, Verdict
+import quantities
+from answers import Direction, Guard
+from listings import CLEAR, GROWTH, HIT, UNKNOWN, Growth, Listing, Refusal, Verdict
 from svg import Scale, cut, element, fitted, path, segment, spread, text, ticks, width, wrapped
+
+Group = tuple[Direction, ...]  # what a panel shows: the upper and the lower of a tube, or one alone
+Time = tuple[Fraction, str]  # how long a step takes, and in which unit
 
 # The least margins left and right of the plots, and what they have beside numbers and labels.
 LEFT, RIGHT_MARGIN = 92, 308
 TURNED_LABEL, TICK_GAP, LEADER = 28, 8, 14
-PLOT_WIDTH, PLOT_HEIGHT, STRIP_HEIGHT, STRIP_GAP = 600, 220, 44, 12
-PANEL_HEIGHT = 30 + PLOT_HEIGHT + STRIP_GAP + STRIP_HEIGHT + 58
-GROWTH_HEIGHT = 110
+PLOT_WIDTH, PLOT_HEIGHT, TUBE_HEIGHT, STRIP_HEIGHT, STRIP_GAP = 600, 220, 300, 44, 12
+BELOW_STRIP = 58
+GROWTH_HEIGHT = 60
 LABEL_SPACE = 16
+NOTE_ROW = 17
 TIME_ROW, TIME_ROOM = 15, 280
-UNIT_ROOM = 340  # for a guard's label that tells the level in the unit too
+NAME_ROOM = 200  # for a guard's name
 HEADING_ROWS = 3
 MARGIN = 16
+SAMPLE = 34  # the length of a stroke in the legend
+LEGEND_ROW = 22
+DIAMOND, ARROW_HEAD = 5.0, 6.0
+LEAST_ARROW = 2.0  # a shorter one is not drawn
+TICK_SPACE = 36  # between two numbers of the value axis, about
 
-INK, FAINT, BAND, LOWER_INK = "#000000", "#d0d0d0", "#c9d7ea", "#1a56b0"
+INK, FAINT, BAND, TUBE, LOWER_INK = "#000000", "#d0d0d0", "#c9d7ea", "#f0f4fa", "#1a56b0"
 # Colour and dashes of a guard's level, by its verdict.
 GUARD_STYLE = {
     HIT: ("#b00020", "10 3 2 3"),
@@ -49,7 +67,7 @@ GUARD_STYLE = {
 }
 
 
-# Strokes
+# Strokes and marks
 
 
 def bound_stroke(lower: bool) -> dict[str, object]:
@@ -57,6 +75,11 @@ def bound_stroke(lower: bool) -> dict[str, object]:
     if lower:
         return {"fill": "none", "stroke": LOWER_INK, "stroke_width": 1.5, "stroke_dasharray": "5 3"}
     return {"fill": "none", "stroke": INK, "stroke_width": 2.2}
+
+
+def slack_stroke(turned: bool) -> dict[str, object]:
+    """The stroke of a slack by itself: as the bound's, or of the lower one of a tube, dashed."""
+    return bound_stroke(turned) | {"stroke_width": 1.2}
 
 
 def guard_stroke(word: str) -> dict[str, object]:
@@ -74,95 +97,244 @@ def guard_mark(word: str, x: float, y: float) -> str:
     return element("circle", cx=float(x), cy=float(y), r=5, fill=fill, **stroke)
 
 
-# Words
+def peak_mark(x: float, y: float) -> str:
+    """A diamond."""
+    corners = [(x, y - DIAMOND), (x + DIAMOND, y), (x, y + DIAMOND), (x - DIAMOND, y)]
+    return path(corners, closed=True, fill=INK, stroke="#ffffff")
 
 
-def value_range(sweep: Sweep, levels: Sequence[int]) -> tuple[float, float]:
-    """What the vertical axis shows: all bounds, and the levels that are not far off."""
-    low = min(bound - slack for bound, slack in zip(sweep.bounds, sweep.slacks))
-    high = max(sweep.bounds)
-    near = max(high - low, 1)
-    shown = [level for level in levels if low - near <= level <= high + near]
-    low, high = min([low, *shown]), max([high, *shown])
-    pad = max(0.06 * (high - low), 0.5)
-    return low - pad, high + pad
+def arrow(x: float, start: float, end: float) -> Iterable[str]:
+    """A thin vertical arrow with a head at either end."""
+    yield segment(x, start, x, end, stroke=INK, stroke_width=1)
+    head = math.copysign(min(ARROW_HEAD, abs(end - start) / 3), end - start)
+    for tip, back in ((start, start + head), (end, end - head)):
+        corners = [(x - head / 2, back), (x, tip), (x + head / 2, back)]
+        yield path(corners, closed=True, fill=INK)
 
 
-def decimal(value: Fraction) -> str:
-    """The value exactly: a decimal without trailing zeros, or a fraction where it is none."""
-    for places in range(100):
-        scaled = value * 10**places
-        if scaled.denominator == 1:
-            whole, rest = divmod(abs(scaled.numerator), 10**places)
-            told = f"{'-' if value < 0 else ''}{whole:,}"
-            return f"{told}.{rest:0{places}}" if places else told
-    return f"{value.numerator:,}/{value.denominator:,}"
+# What is told
 
 
 @dataclass(frozen=True)
-class Guard:
-    number: int
-    level: int
-    said: Verdict
+class Curve:
+    """A direction as it is drawn: as it is, or turned round as the lower one of a tube."""
 
-    def label(self, *notes: str) -> str:
+    direction: Direction
+    turned: bool = False
+
+    def placed(self, value: Fraction) -> Fraction:
+        """A value of the direction as one of the panel's axis, or the other way."""
+        return -value if self.turned else value
+
+    @cached_property
+    def bounds(self) -> list[Fraction]:
+        return [self.placed(value) for value in self.direction.bounds]
+
+    @cached_property
+    def lows(self) -> list[Fraction]:
+        """The bounds without their slacks."""
+        return [self.placed(value) for value in self.direction.lows]
+
+    @cached_property
+    def slacks(self) -> list[Fraction]:
+        return [abs(bound - low) for bound, low in zip(self.bounds, self.lows)]
+
+    def level(self, guard: Guard) -> Fraction:
+        return self.placed(self.direction.level(guard))
+
+    def margin(self, guard: Guard) -> Fraction | None:
+        """How far the level certainly is from the largest value; None where nothing is certain.
+
+        Of a CLEAR guard how far above it, of one that is HIT how far below it.
+        """
+        if guard.said.word not in (HIT, CLEAR):
+            return None
+        least, most = self.direction.margin(guard)
+        return least if guard.said.word == CLEAR else -most
+
+    def amount(self, number: str) -> str:
+        """A number with its unit, where that has a name."""
+        return number if self.direction.unit is None else f"{number} {self.direction.unit_name}"
+
+    def peak_told(self, places: int) -> str:
+        """The largest bound, of a turned one the lowest value, rounded outward."""
+        rounded = quantities.told_down if self.turned else quantities.told_up
+        return self.amount(rounded(self.bounds[self.direction.peak], places))
+
+    def margin_told(self, guard: Guard, places: int) -> str:
+        """The margin, rounded down to at most so many places; nothing where it is none or zero."""
+        margin = self.margin(guard)
+        if not margin:
+            return ""
+        return f", by {self.amount(quantities.told_down(margin, min(places, digits(margin))))}"
+
+
+@dataclass(frozen=True)
+class Label:
+    """What is told of a guard: its name and level, its verdict, and its margin."""
+
+    name: str
+    level: str
+    said: str
+    margin: str
+
+    @property
+    def shown(self) -> str:
         """What stands before the verdict."""
-        return f"guard {self.number}: {self.level:,} " + (f"({', '.join(notes)}) " if notes else "")
+        return f"{cut(self.name, NAME_ROOM)}: {self.level} "
 
-    def width(self, label: str) -> float:
-        return width(label) + width(str(self.said), bold=True)
+    @property
+    def whole(self) -> str:
+        return f"{self.name}: {self.level} {self.said}{self.margin}"
+
+    @property
+    def width(self) -> float:
+        return width(self.shown) + width(self.said, bold=True) + width(self.margin)
 
 
 @dataclass(frozen=True)
 class Panel:
-    """What is told of one direction."""
+    """What is told of one direction, or of the two of a tube, the upper one first."""
 
     heading: str
-    swept: Sweep | Growth
-    guards: tuple[Guard, ...] = ()
-    unit: tuple[str, int] | None = None
+    curves: tuple[Curve, ...]
+
+    @property
+    def growth(self) -> Growth | None:
+        swept = self.curves[0].direction.swept
+        return swept if isinstance(swept, Growth) else None
+
+    @property
+    def tube(self) -> bool:
+        return len(self.curves) > 1
+
+    @property
+    def unit_name(self) -> str:
+        return self.curves[0].direction.unit_name
 
     @cached_property
-    def span(self) -> tuple[float, float]:
-        """What its vertical axis shows; all there is where it has none."""
-        if isinstance(self.swept, Growth):
-            return -math.inf, math.inf
-        return value_range(self.swept, [guard.level for guard in self.guards])
+    def guards(self) -> list[tuple[Curve, Guard]]:
+        """The guards in the order of their levels, from the top."""
+        pairs = [(curve, guard) for curve in self.curves for guard in curve.direction.guards]
+        return sorted(pairs, key=lambda pair: -pair[0].level(pair[1]))
+
+    @cached_property
+    def span(self) -> tuple[Fraction, Fraction]:
+        """What the value axis shows: all bounds, and the levels that are not far off.
+
+        It has the room of one count at the least.
+        """
+        values = [value for curve in self.curves for value in (*curve.bounds, *curve.lows)]
+        low, high = min(values), max(values)
+        count = self.curves[0].direction.figure(1)
+        near = max(high - low, count)
+        levels = [curve.level(guard) for curve, guard in self.guards]
+        shown = [level for level in levels if low - near <= level <= high + near]
+        low, high = min([low, *shown]), max([high, *shown])
+        pad = max((high - low) * Fraction(6, 100), (count - (high - low)) / 2)
+        return low - pad, high + pad
 
     @property
-    def values(self) -> list[int]:
-        """The round numbers of the vertical axis."""
-        return [] if isinstance(self.swept, Growth) else ticks(*self.span, 6)
+    def height(self) -> int:
+        """That of its plot."""
+        return TUBE_HEIGHT if self.tube else PLOT_HEIGHT
+
+    @cached_property
+    def values(self) -> list[Fraction]:
+        """The round numbers of the value axis; whole ones where all bounds are whole."""
+        whole = all(curve.direction.counts * curve.direction.factor == 1 for curve in self.curves)
+        return ticks(*self.span, self.height // TICK_SPACE, 1 if whole else 0)
 
     @property
-    def slacks(self) -> list[int]:
-        """The numbers of the strip."""
-        return [] if isinstance(self.swept, Growth) else sorted({0, max(self.swept.slacks)})
+    def largest_slack(self) -> Fraction:
+        return max(slack for curve in self.curves for slack in curve.slacks)
+
+    @cached_property
+    def places(self) -> int:
+        """The decimals of peaks and margins: those of the axis, and two digits of each margin."""
+        low, high = self.span
+        found = [curve.margin(guard) for curve, guard in self.guards]
+        margins = [margin for margin in found if margin]
+        peaks = [curve.direction.largest_bound for curve in self.curves]
+        return quantities.places_for([*peaks, *margins], min([(high - low) / 100, *margins]))
+
+    def label(self, curve: Curve, guard: Guard) -> Label:
+        """`resets: ≤ 21,000 mV CLEAR, by 489 mV`, with `(off scale)` behind a level that is."""
+        level, margin = curve.level(guard), ""
+        told = f"{'≤' if curve.turned else '≥'} {curve.amount(quantities.exactly(level))}"
+        if self.growth is None:
+            margin = curve.margin_told(guard, self.places)
+            told += "" if self.span[0] <= level <= self.span[1] else " (off scale)"
+        return Label(guard.label, told, str(guard.said), margin)
 
     @property
-    def count(self) -> str:
-        """What a count is."""
-        if self.unit is None:
-            return "counts"
-        name, counts = self.unit
-        return name if counts == 1 else f"counts of 1/{counts:,} {name}"
+    def note(self) -> str:
+        """What the heading has on the right: the factor, or the spare figure of a plain listing."""
+        notes = []
+        for direction in (curve.direction for curve in self.curves):
+            if direction.factor > 1:
+                notes.append(f"factor {direction.factor:,}")
+            elif not isinstance(direction.swept, Growth):
+                notes.append(f"spare {direction.swept.spare}")
+        return ", ".join(dict.fromkeys(notes))
 
-    def label(self, guard: Guard) -> str:
-        """What stands before a guard's verdict: `guard 0: 3,200 (200 °C, off scale) `."""
-        notes = [] if self.span[0] <= guard.level <= self.span[1] else ["off scale"]
-        plain = guard.label(*notes)
-        if self.unit is None or self.unit[1] == 1:
-            return plain
-        name, counts = self.unit
-        full = guard.label(f"{decimal(Fraction(guard.level, counts))} {name}", *notes)
-        return full if guard.width(full) <= UNIT_ROOM else plain
+
+def digits(value: Fraction) -> int:
+    """Decimals that tell a positive value exactly, or else three of its digits."""
+    return quantities.places_for([value], value / 10)
+
+
+def numbers(values: Sequence[Fraction]) -> list[str]:
+    """Decimals, all with as many places as they need."""
+    places = max(quantities.exact_places(value) for value in values)
+    return [quantities.told(value, places) for value in values]
+
+
+def slack_told(slack: Fraction) -> str:
+    """A slack, rounded up where it has more than three digits."""
+    return quantities.told_up(slack, digits(slack) if slack else 0)
+
+
+# Panels and pages
+
+
+def makes_tube(one: Direction, other: Direction) -> bool:
+    """Whether two directions are the highest and the lowest of the same, and swept."""
+    pair = one, other
+    known = all(any(each.entries) and not isinstance(each.swept, Growth) for each in pair)
+    return known and answers.opposite(*pair)
+
+
+def panels(directions: Sequence[Direction]) -> list[Group]:
+    """The directions as panels show them: the upper and the lower one of a tube, or one alone.
+
+    Each pairs with the first one that it can, and the tube stands where the first of the two does.
+    """
+    found: list[Group] = []
+    left = list(directions)
+    while left:
+        one = left.pop(0)
+        pair = [one, *[other for other in left if makes_tube(one, other)][:1]]
+        left = [other for other in left if other is not pair[-1]]
+        # The first entry that isn't zero is positive in the upper one and negative in the other.
+        found.append(tuple(sorted(pair, key=lambda each: each.entries, reverse=True)))
+    return found
+
+
+def panel_of(group: Group, coordinates: Sequence[str]) -> Panel:
+    """A panel with its heading: `hottest = element`, of a tube `highest, lowest: rail`."""
+    names = ", ".join(direction.name for direction in group)
+    told = answers.expression(group[0].entries, coordinates)
+    if len(group) > 1:
+        return Panel(f"{names}: {told}", tuple(map(Curve, group, (False, True))))
+    return Panel(names if told in ("", names) else f"{names} = {told}", (Curve(group[0]),))
 
 
 @dataclass(frozen=True)
 class Page:
     """What all panels share: the time of a step, and the places of plots and guard labels."""
 
-    time: tuple[Fraction, str] | None
+    time: Time | None
     left: int
     room: int  # for a guard's label
 
@@ -179,19 +351,21 @@ class Page:
         return self.labels + self.room + MARGIN
 
     def time_at(self, step: int) -> str:
-        return "" if self.time is None else decimal(step * self.time[0])
+        return "" if self.time is None else quantities.exactly(step * self.time[0])
 
 
-def page_of(panels: Sequence[Panel], time: tuple[Fraction, str] | None) -> Page:
+def page_of(shown: Sequence[Panel], time: Time | None = None) -> Page:
     """Margins that hold the widest number on the left and the widest guard label on the right."""
-    numbers = [width(f"{value:,}") for panel in panels for value in panel.values + panel.slacks]
-    labels = [guard.width(panel.label(guard)) for panel in panels for guard in panel.guards]
-    left = max(LEFT, TURNED_LABEL + math.ceil(max(numbers, default=0)) + TICK_GAP)
+    swept = [panel for panel in shown if panel.growth is None]
+    told = [number for panel in swept for number in numbers(panel.values)]
+    told += [slack_told(panel.largest_slack) for panel in swept]
+    labels = [panel.label(*pair).width for panel in shown for pair in panel.guards]
+    left = max(LEFT, TURNED_LABEL + math.ceil(max(map(width, told), default=0)) + TICK_GAP)
     least = RIGHT_MARGIN - LEADER - LABEL_SPACE - MARGIN
     return Page(time, left, max(least, math.ceil(max(labels, default=0))))
 
 
-# Panels
+# Parts of a panel
 
 
 def heading(page: Page, y: float, content: str, size: int, note: str) -> tuple[list[str], float]:
@@ -208,38 +382,77 @@ def heading(page: Page, y: float, content: str, size: int, note: str) -> tuple[l
     return parts, space * (len(rows) - 1)
 
 
-def guard_label(page: Page, panel: Panel, guard: Guard, y: float) -> str:
-    """A guard's level and verdict."""
-    colour = GUARD_STYLE[guard.said.word][0]
-    return text(page.labels, y, panel.label(guard), bold=str(guard.said), fill=colour)
+def peak_row(page: Page, y: float, panel: Panel, curve: Curve) -> Iterable[str]:
+    """`peak 24,650 mV at step 56 (70 ms)` behind the mark of a peak.
+
+    In a tube, which has two lines of slacks, the largest slack and its stroke stand on the right.
+    """
+    start, end = page.left + 2 * DIAMOND + 6, float(page.right)
+    if panel.tube:
+        slack = f"slack up to {curve.amount(slack_told(max(curve.slacks)))}"
+        yield segment(end - SAMPLE, y - 4, end, y - 4, **slack_stroke(curve.turned))
+        yield text(end - SAMPLE - 6, y, slack, text_anchor="end")
+        end -= SAMPLE + 6 + width(slack) + LABEL_SPACE
+    step = curve.direction.peak
+    time = "" if page.time is None else f" ({page.time_at(step)} {page.time[1]})"
+    what, value = "lowest " if curve.turned else "peak ", curve.peak_told(panel.places)
+    behind = f" at step {step}{time}"
+    room = end - start - width(what) - width(value, bold=True)
+    yield peak_mark(page.left + DIAMOND, y - 4)
+    yield text(start, y, what, bold=value, behind=cut(behind, room), whole=what + value + behind)
+
+
+def guard_label(page: Page, label: Label, word: str, y: float) -> str:
+    """A guard's level, verdict and margin."""
+    more = {"bold": label.said, "behind": label.margin, "whole": label.whole}
+    return text(page.labels, y, label.shown, **more, fill=GUARD_STYLE[word][0])
 
 
 def guard_parts(page: Page, panel: Panel, x: Scale, y: Scale, bottom: float) -> Iterable[str]:
     """Levels across the plot, marks at the steps named, and labels to the right."""
-    ordered = sorted(panel.guards, key=lambda guard: -guard.level)
-    places = [min(max(y(guard.level), y.end), y.start) for guard in ordered]
+    levels = [curve.level(guard) for curve, guard in panel.guards]
+    places = [min(max(y(level), y.end), y.start) for level in levels]
     labels = spread(places, y.end + 4, bottom, LABEL_SPACE)
-    end = page.right + LEADER
-    for guard, place, label in zip(ordered, places, labels):
-        colour = GUARD_STYLE[guard.said.word][0]
-        if y.low <= guard.level <= y.high:
-            yield segment(page.left, place, page.right, place, **guard_stroke(guard.said.word))
+    end, marks = page.right + LEADER, []
+    for (curve, guard), level, place, label in zip(panel.guards, levels, places, labels):
+        word, step = guard.said.word, guard.said.step
+        colour = GUARD_STYLE[word][0]
+        if y.shows(level):
+            yield segment(page.left, place, page.right, place, **guard_stroke(word))
             leader = [(page.right, place), (end, label), (end + 12, label)]
             yield path(leader, fill="none", stroke=colour, stroke_width=0.8)
+            marks += [] if step is None else [guard_mark(word, x(step), place)]
         else:
-            rise = 5 if guard.level > y.high else -5
+            rise = 5 if level > y.high else -5
             corners = [(end + 2, label + rise), (end + 10, label + rise), (end + 6, label - rise)]
             yield path(corners, closed=True, fill=colour)
-        yield guard_label(page, panel, guard, label + 4)
-    for guard in ordered:
-        if guard.said.step is not None and y.low <= guard.level <= y.high:
-            yield guard_mark(guard.said.word, x(guard.said.step), y(guard.level))
+        yield guard_label(page, panel.label(curve, guard), word, label + 4)
+    yield from marks
+
+
+def peak_parts(curve: Curve, x: Scale, y: Scale) -> Iterable[str]:
+    """The mark of a curve's peak, and an arrow from it to the nearest level.
+
+    The arrow is as long as the margin that is told: an UNKNOWN level has none, and one that is HIT
+    only where the slack can't be seen. Nor has a level that is off the scale or at the mark.
+    """
+    direction, step = curve.direction, curve.direction.peak
+    place = y(curve.bounds[step])
+    seen = abs(y(curve.placed(direction.largest_low)) - place) > LEAST_ARROW
+    words = (CLEAR,) if seen else (CLEAR, HIT)
+    levels = [curve.level(guard) for guard in direction.guards if guard.said.word in words]
+    places = [y(level) for level in levels if y.shows(level)]
+    far = [each for each in places if abs(each - place) >= DIAMOND + LEAST_ARROW]
+    if far:
+        nearest = min(far, key=lambda each: abs(each - place))
+        yield from arrow(x(step), place + math.copysign(DIAMOND, nearest - place), nearest)
+    yield peak_mark(x(step), place)
 
 
 def step_ticks(page: Page, steps: int) -> list[int]:
     """Round steps, as many as have room for their times beside each other; at the least two."""
     for most in (12, 6, 4, 3):
-        values = ticks(0, steps, most)
+        values = [int(value) for value in ticks(0, steps, most, 1)]
         widest = max(width(cut(page.time_at(value), TIME_ROOM)) for value in values)
         if widest + TICK_GAP <= PLOT_WIDTH * values[1] / steps:
             return values
@@ -248,8 +461,8 @@ def step_ticks(page: Page, steps: int) -> list[int]:
 
 def step_axis(page: Page, x: Scale, y: Scale, bottom: float) -> Iterable[str]:
     """The steps and their times below the strip, with a grid over the plot."""
-    middle, steps = {"text_anchor": "middle"}, int(x.high)
-    for value in step_ticks(page, steps):
+    middle = {"text_anchor": "middle"}
+    for value in step_ticks(page, int(x.high)):
         yield segment(x(value), y.end, x(value), y.start, stroke=FAINT, stroke_width=1)
         yield segment(x(value), bottom, x(value), bottom + 5, stroke=INK)
         yield text(x(value), bottom + 18, str(value), **middle)
@@ -261,11 +474,12 @@ def step_axis(page: Page, x: Scale, y: Scale, bottom: float) -> Iterable[str]:
     yield fitted((page.left + page.right) / 2, below, label, PLOT_WIDTH, **middle)
 
 
-def value_axis(page: Page, scale: Scale, values: Sequence[int], label: str) -> Iterable[str]:
+def value_axis(
+    page: Page, scale: Scale, told: Iterable[tuple[Fraction, str]], label: str
+) -> Iterable[str]:
     """The frame of the plot or of the strip, with numbers and a turned label to the left."""
     height = scale.start - scale.end
-    for value in values:
-        number = f"{value:,}"
+    for value, number in told:
         yield text(page.left - TICK_GAP, scale(value) + 4, number, text_anchor="end")
     yield element("rect", x=page.left, y=float(scale.end), width=PLOT_WIDTH, height=float(height),
                   fill="none", stroke=INK)
@@ -273,74 +487,191 @@ def value_axis(page: Page, scale: Scale, values: Sequence[int], label: str) -> I
     yield fitted(0, 0, label, height, text_anchor="middle", transform=turned)
 
 
-def curves(sweep: Sweep, x: Scale, y: Scale, strip: Scale) -> Iterable[str]:
-    """The bounds, the bounds without their slacks, and the slacks."""
-    upper = [(x(k), y(bound)) for k, bound in enumerate(sweep.bounds)]
-    lower = [(x(k), y(b - s)) for k, (b, s) in enumerate(zip(sweep.bounds, sweep.slacks))]
-    yield path(upper + lower[::-1], closed=True, fill=BAND)
-    yield path(upper, **bound_stroke(lower=False))
-    yield path(lower, **bound_stroke(lower=True))
-    if len(upper) <= 41:
-        for place_x, place_y in upper:
+def points(x: Scale, y: Scale, values: Sequence[Fraction]) -> list[tuple[float, float]]:
+    """The places of the values of all steps."""
+    return [(x(step), y(value)) for step, value in enumerate(values)]
+
+
+def curve_parts(curve: Curve, x: Scale, y: Scale) -> Iterable[str]:
+    """The bounds, and the bounds without their slacks."""
+    bounds, lows = points(x, y, curve.bounds), points(x, y, curve.lows)
+    yield path(bounds + lows[::-1], closed=True, fill=BAND)
+    yield path(bounds, **bound_stroke(lower=False))
+    yield path(lows, **bound_stroke(lower=True))
+    if len(bounds) <= 41:
+        for place_x, place_y in bounds:
             yield element("circle", cx=place_x, cy=place_y, r=2.5, fill=INK)
-    slack = [(x(k), strip(value)) for k, value in enumerate(sweep.slacks)]
-    ends = (x.start, strip.start), (x.end, strip.start)
-    yield path([ends[0], *slack, ends[1]], closed=True, fill=BAND)
-    yield path(slack, fill="none", stroke=INK, stroke_width=1.2)
 
 
-def sweep_panel(page: Page, top: float, panel: Panel, sweep: Sweep) -> Iterable[str]:
-    """The panel of a swept direction, below its heading."""
-    strip_top = top + PLOT_HEIGHT + STRIP_GAP
+def strip_parts(panel: Panel, x: Scale, strip: Scale) -> Iterable[str]:
+    """The slacks by themselves."""
+    for curve in panel.curves:
+        slacks = points(x, strip, curve.slacks)
+        if not curve.turned:
+            ends = (x.start, strip.start), (x.end, strip.start)
+            yield path([ends[0], *slacks, ends[1]], closed=True, fill=BAND)
+        yield path(slacks, **slack_stroke(curve.turned))
+
+
+# Panels
+
+
+def sweep_panel(page: Page, top: float, panel: Panel) -> tuple[list[str], float]:
+    """The panel of a swept direction or of a tube, below its heading, and where it ends."""
+    strip_top = top + panel.height + STRIP_GAP
     bottom = strip_top + STRIP_HEIGHT
-    x = Scale(0, len(sweep.bounds) - 1, page.left, page.right)
-    y = Scale(*panel.span, top + PLOT_HEIGHT, top)
-    strip = Scale(0, 1.15 * max(*sweep.slacks, 1), bottom, strip_top)
+    x = Scale(0, len(panel.curves[0].bounds) - 1, page.left, page.right)
+    y = Scale(*panel.span, strip_top - STRIP_GAP, top)
+    largest = panel.largest_slack
+    strip = Scale(0, Fraction(115, 100) * (largest or 1), bottom, strip_top)
+    parts: list[str] = []
+    if panel.tube:
+        upper, lower = (points(x, y, curve.bounds) for curve in panel.curves)
+        parts.append(path(upper + lower[::-1], closed=True, fill=TUBE))
     for value in panel.values:
-        yield segment(page.left, y(value), page.right, y(value), stroke=FAINT, stroke_width=1)
-    yield from step_axis(page, x, y, bottom)
-    yield from value_axis(page, y, panel.values, panel.count)
-    yield from value_axis(page, strip, panel.slacks, "slack")
-    yield from curves(sweep, x, y, strip)
-    yield from guard_parts(page, panel, x, y, bottom - 4)
+        across = page.left, y(value), page.right, y(value)
+        parts.append(segment(*across, stroke=FAINT, stroke_width=1))
+    parts += step_axis(page, x, y, bottom)
+    parts += value_axis(page, y, zip(panel.values, numbers(panel.values)), panel.unit_name)
+    slacks = {value: slack_told(value) for value in (Fraction(0), largest)}
+    parts += value_axis(page, strip, slacks.items(), "slack")
+    for curve in panel.curves:
+        parts += curve_parts(curve, x, y)
+    parts += strip_parts(panel, x, strip)
+    parts += guard_parts(page, panel, x, y, bottom - 4)
+    for curve in panel.curves:
+        parts += peak_parts(curve, x, y)
+    return parts, bottom + BELOW_STRIP + (0 if page.time is None else TIME_ROW)
 
 
-def growth_panel(page: Page, top: float, panel: Panel, step: int) -> Iterable[str]:
-    """The panel of a direction refused for growth, below its heading."""
-    yield element("rect", x=page.left, y=float(top), width=PLOT_WIDTH, height=GROWTH_HEIGHT - 50,
-                  fill="#f2f2f2", stroke=INK)
+def growth_panel(page: Page, top: float, panel: Panel, step: int) -> tuple[list[str], float]:
+    """The panel of a direction refused for growth, below its heading, and where it ends."""
     middle = (page.left + page.right) / 2
-    yield text(middle, top + 26, f"refused for growth at step {step}", 14, text_anchor="middle",
-               font_weight="bold")
     reason = "its working direction passes the limit there: no bounds are given"
-    yield text(middle, top + 46, reason, text_anchor="middle")
-    for index, guard in enumerate(panel.guards):
-        yield guard_label(page, panel, guard, top + 14 + LABEL_SPACE * index)
+    parts = [
+        element("rect", x=page.left, y=float(top), width=PLOT_WIDTH, height=GROWTH_HEIGHT,
+                fill="#f2f2f2", stroke=INK),
+        text(middle, top + 26, f"refused for growth at step {step}", 14, text_anchor="middle",
+             font_weight="bold"),
+        text(middle, top + 46, reason, text_anchor="middle"),
+    ]
+    for index, pair in enumerate(panel.guards):
+        label = panel.label(*pair)
+        parts.append(guard_label(page, label, GROWTH, top + 14 + LABEL_SPACE * index))
+    return parts, top + max(GROWTH_HEIGHT + 20, 24 + LABEL_SPACE * len(panel.guards))
 
 
-def legend(left: float, top: float, with_levels: bool) -> Iterable[str]:
-    """What the strokes and marks mean."""
-    place = left
+def panel_parts(page: Page, top: float, panel: Panel) -> tuple[list[str], float]:
+    """A panel with its heading, and where the next one starts."""
+    parts, more = heading(page, top + 20, panel.heading, 15, panel.note)
+    top += more
+    if panel.growth is not None:
+        below, end = growth_panel(page, top + 30, panel, panel.growth.step)
+        return parts + below, end
+    for curve in panel.curves:
+        top += NOTE_ROW
+        parts += peak_row(page, top + 22, panel, curve)
+    below, end = sweep_panel(page, top + 32, panel)
+    return parts + below, end
+
+
+def legend(page: Page, y: float, with_levels: bool) -> tuple[list[str], float]:
+    """What the strokes and marks mean, and where the last row is."""
+    parts: list[str] = []
+    x = float(page.left)
+
+    def item(name: str, room: float, *drawn: str) -> None:
+        nonlocal x
+        parts.extend([*drawn, text(x + room + 6, y + 4, name)])
+        x += room + 6 + width(name) + 24
+
     for lower, name in ((False, "bound"), (True, "bound - slack")):
-        yield segment(place, top, place + 34, top, **bound_stroke(lower))
-        yield text(place + 40, top + 4, name)
-        place += 70 + 8 * len(name)
-    for word in (HIT, UNKNOWN, CLEAR) if with_levels else ():
-        yield segment(place, top, place + 34, top, **guard_stroke(word))
-        yield guard_mark(word, place + 17, top)
-        yield text(place + 40, top + 4, f"guard level, {word}")
-        place += 144 + 9 * len(word)
+        item(name, SAMPLE, segment(x, y, x + SAMPLE, y, **bound_stroke(lower)))
+    item("peak: the largest bound", 2 * DIAMOND, peak_mark(x + DIAMOND, y))
+    if with_levels:
+        item("margin: how far a level is from the peak", 8, *arrow(x + 4, y - 9, y + 9))
+        x, y = float(page.left), y + LEGEND_ROW
+        for word in (HIT, UNKNOWN, CLEAR):
+            line = segment(x, y, x + SAMPLE, y, **guard_stroke(word))
+            item(f"guard level, {word}", SAMPLE, line, guard_mark(word, x + SAMPLE / 2, y))
+    return parts, y
 
 
-def expression(entries: Sequence[int], names: Sequence[str]) -> str:
-    """A direction as a sum over the coordinates: `-rail + 2 sink`."""
-    told = ""
-    for entry, name in zip(entries, names):
-        if entry:
-            sign = "-" if entry < 0 else "+" if told else ""
-            factor = "" if abs(entry) == 1 else f"{abs(entry)} "
-            told += f" {sign} {factor}{name}" if told else f"{sign}{factor}{name}"
-    return told
+def guard_rows(page: Page, top: float, guards: Sequence[Verdict]) -> Iterable[str]:
+    """The verdicts by themselves: without the model neither levels nor directions are known."""
+    told = [f"guard {i} {said}" for i, said in enumerate(guards)]
+    for row in range(0, len(told), 4):
+        yield text(page.left, top + 8 + LABEL_SPACE * row / 4, "; ".join(told[row : row + 4]))
+
+
+# Pictures
+
+
+def picture(page: Page, parts: Iterable[str], bottom: float) -> str:
+    """Parts as an SVG picture with a white background."""
+    height = round(bottom)
+    background = element("rect", width=page.width, height=height, fill="#ffffff")
+    return element(
+        "svg",
+        "\n" + "\n".join(part for part in [background, *parts] if part) + "\n",
+        xmlns="http://www.w3.org/2000/svg",
+        width=page.width,
+        height=height,
+        viewBox=f"0 0 {page.width} {height}",
+        font_family="sans-serif",
+    ) + "\n"
+
+
+def draw(
+    directions: Sequence[Direction],
+    coordinates: Sequence[str],
+    steps: int,
+    title: str,
+    time: Time | None = None,
+    with_levels: bool = True,
+    verdicts: Sequence[Verdict] = (),
+) -> str:
+    """The picture of directions with their guards: a title, a legend and the panels.
+
+    Without levels the legend has none; verdicts of guards that are not known stand at the end.
+    """
+    shown = [panel_of(group, coordinates) for group in panels(directions)]
+    page = page_of(shown, time)
+    n = len(coordinates)
+    size = f"{n} coordinate{'s' if n > 1 else ''}, steps 0 to {steps}"
+    parts, more = heading(page, 30, title, 18, size)
+    below, top = legend(page, 58 + more, with_levels)
+    parts += below
+    top += 26
+    for panel in shown:
+        below, top = panel_parts(page, top, panel)
+        parts += below
+    rows = list(guard_rows(page, top, verdicts))
+    return picture(page, parts + rows, top + LABEL_SPACE * len(rows) + MARGIN)
+
+
+def draw_panels(
+    groups: Sequence[Group], coordinates: Sequence[str], time: Time | None = None
+) -> list[str]:
+    """The pictures of panels, of each one by itself, all with the same margins."""
+    shown = [panel_of(group, coordinates) for group in groups]
+    page = page_of(shown, time)
+    return [picture(page, *panel_parts(page, 0, panel)) for panel in shown]
+
+
+def draw_panel(group: Group, coordinates: Sequence[str], time: Time | None = None) -> str:
+    """The picture of one panel."""
+    return draw_panels([group], coordinates, time)[0]
+
+
+def draw_legend(with_levels: bool = True) -> str:
+    """The picture of the legend alone."""
+    page = page_of([])
+    parts, bottom = legend(page, 16, with_levels)
+    return picture(page, parts, bottom + 16)
+
+
+# Listings
 
 
 def check_same(listing: Listing, source: pack.Source) -> None:
@@ -358,68 +689,18 @@ def check_same(listing: Listing, source: pack.Source) -> None:
             )
 
 
-def panels_of(listing: Listing, source: pack.Source | None) -> list[Panel]:
-    """The panels; without the model they have neither names nor guards."""
-    if source is None:
-        return [Panel(f"direction {i}", swept) for i, swept in enumerate(listing.directions)]
-    check_same(listing, source)
-    panels: list[Panel] = []
-    for number, (name, entries) in enumerate(zip(source.directions, source.model.directions)):
-        told = expression(entries, source.coordinates)
-        levels = enumerate(zip(source.model.guards, listing.guards))
-        guards = tuple(Guard(i, level, said) for i, ((on, level), said) in levels if on == number)
-        unit = source.units[number] if source.units else None
-        shown = name if told == name else f"{name} = {told}"
-        panels.append(Panel(shown, listing.directions[number], guards, unit))
-    return panels
-
-
-def panel_parts(page: Page, top: float, panel: Panel) -> tuple[list[str], float]:
-    """A panel with its heading, and where the next one starts."""
-    swept = panel.swept
-    note = "" if isinstance(swept, Growth) else f"spare {swept.spare}"
-    parts, more = heading(page, top + 20, panel.heading, 15, note)
-    top += more
-    if isinstance(swept, Growth):
-        parts += growth_panel(page, top + 30, panel, swept.step)
-        return parts, top + max(GROWTH_HEIGHT, 54 + LABEL_SPACE * len(panel.guards))
-    parts += sweep_panel(page, top + 30, panel, swept)
-    return parts, top + PANEL_HEIGHT + (0 if page.time is None else TIME_ROW)
-
-
-def guard_rows(page: Page, top: float, guards: Sequence[Verdict]) -> Iterable[str]:
-    """The verdicts by themselves: without the model neither levels nor directions are known."""
-    told = [f"guard {i} {said}" for i, said in enumerate(guards)]
-    for row in range(0, len(told), 4):
-        yield text(page.left, top + 8 + LABEL_SPACE * row / 4, "; ".join(told[row : row + 4]))
-
-
-def draw(listing: Listing, title: str, source: pack.Source | None = None) -> str:
-    """The picture of a listing."""
-    panels = panels_of(listing, source)
-    page = page_of(panels, None if source is None else source.time)
-    size = f"{listing.n} coordinate{'s' if listing.n > 1 else ''}, steps 0 to {listing.steps}"
-    parts, more = heading(page, 30, title, 18, size)
-    parts += legend(page.left, 58 + more, with_levels=source is not None)
-    top = 84 + more
-    for panel in panels:
-        drawn, top = panel_parts(page, top, panel)
-        parts += drawn
-    if source is None:
-        rows = list(guard_rows(page, top, listing.guards))
-        parts += rows
-        top += LABEL_SPACE * len(rows)
-    height = round(top + MARGIN)
-    background = element("rect", width=page.width, height=height, fill="#ffffff")
-    return element(
-        "svg",
-        "\n" + "\n".join(part for part in [background, *parts] if part) + "\n",
-        xmlns="http://www.w3.org/2000/svg",
-        width=page.width,
-        height=height,
-        viewBox=f"0 0 {page.width} {height}",
-        font_family="sans-serif",
-    ) + "\n"
+def draw_listing(listing: Listing, title: str, source: pack.Source | None = None) -> str:
+    """The picture of a listing; without the model it has neither names nor levels."""
+    if source is not None:
+        check_same(listing, source)
+        shown = answers.directions_of(listing, source)
+        return draw(shown, source.coordinates, listing.steps, title, source.time)
+    nameless = [
+        Direction(number, f"direction {number}", (), swept)
+        for number, swept in enumerate(listing.directions)
+    ]
+    names = [""] * listing.n
+    return draw(nameless, names, listing.steps, title, with_levels=False, verdicts=listing.guards)
 
 
 def chart(path: str, model_path: str | None = None) -> str:
@@ -432,7 +713,7 @@ def chart(path: str, model_path: str | None = None) -> str:
             f"{name}: nothing to draw: refused {listing.number} at {listing.offset}: {reason}"
         )
     source = None if model_path is None else pack.load(model_path)
-    return draw(listing, os.path.splitext(os.path.basename(name))[0], source)
+    return draw_listing(listing, os.path.splitext(os.path.basename(name))[0], source)
 
 
 def main() -> None:

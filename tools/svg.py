@@ -6,6 +6,8 @@ here are upper bounds: of each character the wider of Helvetica and DejaVu Sans.
 
 from __future__ import annotations
 
+import math
+from fractions import Fraction
 from itertools import accumulate
 from typing import Iterable, Sequence
 from xml.sax.saxutils import escape, quoteattr
@@ -24,7 +26,7 @@ WIDTHS = {
         (0.64, "0123456789$abdeghnopqu{}FT"),
         (0.69, "ABEKPSVXYZ"),
         (0.79, "&CDGHNOQRU"),
-        (0.84, "+<=>^~#w"),
+        (0.84, "+<=>^~#w≤≥"),
         (1.02, "%@mMW…"),
     )
     for character in characters
@@ -87,13 +89,14 @@ def element(tag: str, content: str = "", **attributes: object) -> str:
 
 
 def text(
-    x: float, y: float, content: str, size: int = 12, bold: str = "", whole: str = "",
-    **attributes: object,
+    x: float, y: float, content: str, size: int = 12, bold: str = "", behind: str = "",
+    whole: str = "", **attributes: object,
 ) -> str:
-    """A text, with a part in bold behind it, and with the whole of it for one that is cut."""
-    inner = element("title", escape(whole)) if whole not in ("", content) else ""
+    """A text, with a part in bold and one behind that, and with the whole where it is cut."""
+    inner = element("title", escape(whole)) if whole not in ("", content + bold + behind) else ""
     inner += escape(content)
     inner += element("tspan", escape(bold), font_weight="bold") if bold else ""
+    inner += escape(behind)
     return element("text", inner, x=float(x), y=float(y), font_size=size, **attributes)
 
 
@@ -116,32 +119,42 @@ def path(points: Iterable[tuple[float, float]], closed: bool = False, **attribut
 # Scales
 
 
-def nice_step(span: float, most: int) -> int:
-    """The least of 1, 2, 5, 10, 20, .. that divides the span into at most that many parts."""
-    unit = 1
-    while True:
-        for factor in (1, 2, 5):
-            if span <= factor * unit * most:
-                return factor * unit
+def nice_step(span: Fraction, most: int, least: Fraction | int = 0) -> Fraction:
+    """The least of 1, 2, 5 times any power of ten that divides the span into at most so many parts.
+
+    It is not below `least`.
+    """
+    wanted = max(Fraction(span) / most, least)
+    unit = Fraction(1)
+    while unit > wanted:
+        unit /= 10
+    while 10 * unit <= wanted:
         unit *= 10
+    return next(factor * unit for factor in (1, 2, 5, 10) if factor * unit >= wanted)
 
 
-def ticks(low: float, high: float, most: int) -> list[int]:
-    """Round whole numbers from low to high."""
-    step = nice_step(high - low, most)
-    first = int(-(-low // step)) * step
-    return [value for value in range(first, int(high // 1) + 1, step)]
+def ticks(
+    low: Fraction | int, high: Fraction | int, most: int, least: Fraction | int = 0
+) -> list[Fraction]:
+    """Round numbers from low to high, exactly; `least` is the least distance between them."""
+    step = nice_step(high - low, most, least)
+    return [step * i for i in range(math.ceil(low / step), math.floor(high / step) + 1)]
 
 
 class Scale:
-    """From values to places on the page."""
+    """From values, which are exact, to places on the page."""
 
-    def __init__(self, low: float, high: float, start: float, end: float) -> None:
-        self.low, self.high, self.start, self.end = low, high, start, end
+    def __init__(
+        self, low: Fraction | int, high: Fraction | int, start: float, end: float
+    ) -> None:
+        self.low, self.high, self.start, self.end = Fraction(low), Fraction(high), start, end
 
-    def __call__(self, value: float) -> float:
+    def __call__(self, value: Fraction | int) -> float:
         share = (value - self.low) / (self.high - self.low)
-        return self.start + share * (self.end - self.start)
+        return self.start + float(share) * (self.end - self.start)
+
+    def shows(self, value: Fraction | int) -> bool:
+        return self.low <= value <= self.high
 
 
 def spread(places: Sequence[float], low: float, high: float, space: float) -> list[float]:
