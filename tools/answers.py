@@ -44,13 +44,22 @@ class Written:
     unit: int
     numerators: tuple[int, ...]
 
+    @cached_property
+    def denominators(self) -> tuple[int, ...]:
+        found = [1]
+        for _ in self.numerators[1:]:
+            found.append(found[-1] * self.unit)
+        return tuple(found)
+
     def passes(self, step: int, counts: Fraction) -> bool:
         """Whether the value is above this one."""
-        return self.numerators[step] * counts.denominator > counts.numerator * self.unit**step
+        value = self.numerators[step] * counts.denominator
+        return value > counts.numerator * self.denominators[step]
 
-    def reaches(self, step: int, counts: int) -> bool:
-        """Whether the value is at this one or above."""
-        return self.numerators[step] >= counts * self.unit**step
+    def reached(self, counts: int) -> int | None:
+        """The first step at which the value is at this one or above."""
+        pairs = enumerate(zip(self.numerators, self.denominators))
+        return next((step for step, (value, one) in pairs if value >= counts * one), None)
 
     @cached_property
     def peak(self) -> int:
@@ -64,7 +73,7 @@ class Written:
 
     def up(self, step: int, counts: int, places: int, less: Fraction = Fraction(0)) -> Fraction:
         """The value in units of so many counts, minus `less`, rounded up to these decimals."""
-        below = counts * self.unit**step
+        below = counts * self.denominators[step]
         above = self.numerators[step] * less.denominator - less.numerator * below
         return Fraction(-(-above * 10**places // (below * less.denominator)), 10**places)
 

@@ -15,6 +15,7 @@ import files
 import listings
 import pack
 from layout import BOX, VERTICES, ZONOTOPE, Set, encode
+from reporting import reports
 
 
 def source_of(name):
@@ -43,6 +44,25 @@ class Examples(unittest.TestCase):
             stale = ["rail.listing", "verdicts.bin", "verdicts.listing"]
             self.assertEqual(examples.stale(folder), stale)
 
+    def test_the_readme_shows_rows_of_a_report(self):
+        readme = (examples.FOLDER.parent / "README.md").read_text(encoding="utf-8")
+        shown = readme.partition("\n## The report\n")[2].partition("\nFor each")[0]
+        rows = [row.removeprefix("    ") for row in shown.splitlines() if row.strip(" .")]
+        report = (examples.FOLDER / "rail.report").read_text(encoding="utf-8").splitlines()
+        self.assertGreater(len(rows), 6)
+        self.assertEqual([row for row in rows if row not in report], [])
+
+    def test_a_text_speaks_of_the_listing_and_of_the_report(self):
+        """Three texts say that a guard is UNKNOWN, and what it is in the report."""
+        for name, word in (("rail", "CLEAR"), ("head", "HIT"), ("fitted", "HIT")):
+            path = examples.FOLDER / f"{name}.model"
+            self.assertRegex(path.read_text(), rf" edge .*UNKNOWN.*, {word} in the sharper report\n")
+            told = reports.report_of(
+                reports.Input(name, path.read_bytes(), source_of(name)), reply=examples.reply
+            )
+            said = {guard.name: guard.said.word for _, guard in told.guards}
+            self.assertEqual(said["edge"], word)
+
     def test_accuracy(self):
         for name in self.names:
             exact.check_accuracy(source_of(name).model, listing_of(name))
@@ -69,6 +89,26 @@ class Examples(unittest.TestCase):
         self.assertEqual((listing_of("receipt").steps, listing_of("cooling").steps), (120, 60))
         self.assertEqual(source_of("budget").model.input.form, VERTICES)
         self.assertEqual(source_of("head").model.initial.form, ZONOTOPE)
+
+    def test_guards_have_names(self):
+        """All but those of the sample, which the README shows whole."""
+        for name in self.names:
+            guards = source_of(name).guards
+            if name == "verdicts":
+                self.assertEqual(guards, (None,) * 3)
+            else:
+                self.assertNotIn(None, guards, name)
+                self.assertLessEqual(max(map(len, guards)), 12)
+
+    def test_units_of_coordinates(self):
+        """`rail` and `head` state them there, and their directions take them."""
+        stated = [name for name in self.names if any(source_of(name).coordinate_units)]
+        self.assertEqual(stated, ["head", "rail"])
+        for name, units in (
+            ("head", (("°C", 16),) * 3), ("rail", (("mV", 1), ("mV", 1), ("mA", 1))),
+        ):
+            source = source_of(name)
+            self.assertEqual((source.units, source.direction_units), ((None,) * 3, units))
 
     def test_the_sample_is_the_specifications(self):
         self.assertEqual(len(source_of("verdicts").data), 186)

@@ -153,11 +153,13 @@ class AsWritten(unittest.TestCase):
             self.assertEqual(written.peak, values.index(max(values)))
             for step, value in enumerate(values):
                 other = rng.choice((value, Fraction(rng.randint(-9, 9), rng.randint(1, 9))))
-                whole, counts, places = rng.randint(-5, 5), rng.randint(1, 20), rng.randrange(4)
+                counts, places = rng.randint(1, 20), rng.randrange(4)
                 self.assertEqual(written.passes(step, other), value > other)
-                self.assertEqual(written.reaches(step, whole), value >= whole)
                 expected = quantities.rounded_up(value / counts - other, places)
                 self.assertEqual(written.up(step, counts, places, other), expected)
+            for level in range(-6, 7):
+                reached = (step for step, value in enumerate(values) if value >= level)
+                self.assertEqual(written.reached(level), next(reached, None))
 
 
 if __name__ == "__main__":

@@ -1,0 +1,292 @@
+"""A report as JSON and as CSV, with names that stay.
+
+Figures are in the direction's unit and rounded outward. They are decimal numbers, written out, and
+whoever needs them exact reads them as decimals. `proved` has the whole numbers that the program gave
+for the direction times its factor.
+"""
+
+from __future__ import annotations
+
+import csv
+import io
+import json
+from fractions import Fraction
+from typing import Mapping, Sequence
+
+import pack
+from answers import Guard
+from listings import CLEAR, Growth
+from quantities import exactly, told
+
+from . import program
+from .changes import Change, Changes, DirectionChange, GuardChange
+from .reports import Failed, Figures, Report, Result
+
+FORMAT = "pepperscarp-report"
+FORMAT_VERSION = 1
+ANSWERED, REFUSED, NOT_RUN = "answered", "refused", "not run"
+
+
+class Literal(str):
+    """A number as it is to be written."""
+
+
+def literal(value: Fraction | None, places: int) -> Literal | None:
+    return None if value is None else Literal(told(value, places, grouped=False))
+
+
+def number(value: Fraction) -> Literal | str:
+    """A number that is told exactly; a fraction that is no decimal is a text."""
+    written = exactly(value, grouped=False)
+    return written if "/" in written else Literal(written)
+
+
+def encoded(value: object, indent: str = "") -> str:
+    """JSON, with a row for each name, and lists of numbers in one row."""
+    if isinstance(value, Literal):
+        return str(value)
+    inner = indent + "  "
+    if isinstance(value, Mapping) and value:
+        rows = [f"{inner}{json.dumps(name)}: {encoded(part, inner)}" for name, part in value.items()]
+        return "{\n" + ",\n".join(rows) + f"\n{indent}}}"
+    if isinstance(value, (list, tuple)) and any(isinstance(part, Mapping) for part in value):
+        rows = [inner + encoded(part, inner) for part in value]
+        return "[\n" + ",\n".join(rows) + f"\n{indent}]"
+    if isinstance(value, (list, tuple)):
+        return "[" + ", ".join(encoded(part) for part in value) + "]"
+    return json.dumps(value, ensure_ascii=False)
+
+
+def time_of(step: int | None, report: Report) -> Literal | str | None:
+    if step is None or report.source.time is None:
+        return None
+    return number(step * report.source.time[0])
+
+
+def peak_of(one: Figures, report: Report) -> dict[str, object] | None:
+    direction = one.direction
+    if isinstance(direction.swept, Growth):
+        return None
+    return {
+        "step": direction.peak,
+        "time": time_of(direction.peak, report),
+        "bound": literal(one.bound(direction.peak), one.places),
+        "slack": literal(one.slack(direction.peak), one.places),
+    }
+
+
+def written_of(one: Figures, report: Report) -> dict[str, object] | None:
+    written = one.direction.written
+    if written is None:
+        return None
+    steps = range(len(written.numerators))
+    return {
+        "step": written.peak,
+        "time": time_of(written.peak, report),
+        "largest": literal(one.written(written.peak), one.places),
+        "steps_above_bound": list(one.above),
+        "most_above_bound": literal(one.above.get(one.most_above), one.places),
+        "most_above_bound_step": one.most_above,
+        "values": [literal(one.written(step), one.places) for step in steps],
+    }
+
+
+def direction_of(one: Figures, report: Report) -> dict[str, object]:
+    direction = one.direction
+    swept, unit = direction.swept, direction.unit
+    grown = isinstance(swept, Growth)
+    steps = range(len(direction.bounds))
+    return {
+        "name": direction.name,
+        "number": direction.number,
+        "entries": list(direction.entries),
+        "unit": None if unit is None else unit[0],
+        "counts_per_unit": direction.counts,
+        "factor": direction.factor,
+        "growth_step": swept.step if grown else None,
+        "peak": peak_of(one, report),
+        "as_written": written_of(one, report),
+        "bounds": [literal(one.bound(step), one.places) for step in steps],
+        "slacks": [literal(one.slack(step), one.places) for step in steps],
+        "proved": None if grown else {
+            "spare": swept.spare, "bounds": list(swept.bounds), "slacks": list(swept.slacks)
+        },
+    }
+
+
+def guard_of(one: Figures, guard: Guard, report: Report) -> dict[str, object]:
+    grown = isinstance(one.direction.swept, Growth)
+    least, most = (None, None) if grown else one.margin(guard)
+    reached = one.reached_as_written(guard)
+    return {
+        "name": guard.name,
+        "number": guard.number,
+        "direction": one.direction.name,
+        "level": number(one.direction.level(guard)),
+        "level_counts": guard.level,
+        "verdict": guard.said.word,
+        "step": guard.said.step,
+        "time": time_of(guard.said.step, report),
+        "margin_least": literal(least, one.places),
+        "margin_most": literal(most, one.places),
+        "reached_as_written": None if one.direction.written is None else reached is not None,
+        "reached_as_written_step": reached,
+        "clear": one.word(guard) == CLEAR,
+    }
+
+
+def result_of(result: Result) -> str:
+    if isinstance(result, Report):
+        return ANSWERED
+    return REFUSED if result.data is not None else NOT_RUN
+
+
+def model_of(result: Result) -> dict[str, object]:
+    if isinstance(result, Failed):
+        said = {"said": result.said, "message": result.message}
+        return {"name": result.name, "result": result_of(result), "status": result.status, **said}
+    time = result.source.time
+    return {
+        "name": result.name,
+        "result": ANSWERED,
+        "status": result.status,
+        "sha256": result.sha256,
+        "packed_sha256": result.packed_sha256,
+        "coordinates": list(result.source.coordinates),
+        "steps": result.source.model.steps,
+        "time_of_step": None if time is None else number(time[0]),
+        "time_unit": None if time is None else time[1],
+        "plain": result.plain,
+        "notes": pack.notes(result.source),
+        "guards": [guard_of(one, guard, result) for one, guard in result.guards],
+        "directions": [direction_of(one, result) for one in result.ordered],
+    }
+
+
+def change_of(name: str, change: Change, comparable: bool) -> dict[str, object]:
+    return {
+        f"old_{name}": literal(change.old, change.places),
+        f"new_{name}": literal(change.new, change.places),
+        f"{name}_change": literal(change.difference, change.places) if comparable else None,
+    }
+
+
+def direction_change(change: DirectionChange) -> dict[str, object]:
+    swept = [one and one.direction for one in (change.old, change.new)]
+    steps = [None if one is None or not one.bounds else one.peak for one in swept]
+    return {
+        "name": change.any.direction.name,
+        "unit": change.any.direction.unit_name,
+        **change_of("bound", change.bound, change.comparable),
+        "old_step": steps[0],
+        "new_step": steps[1],
+    }
+
+
+def guard_change(change: GuardChange) -> dict[str, object]:
+    one, guard = change.any
+    said = [pair and pair[1].said for pair in (change.old, change.new)]
+    return {
+        "name": guard.label,
+        "direction": one.direction.name,
+        "unit": one.direction.unit_name,
+        "old_verdict": said[0] and said[0].word,
+        "new_verdict": said[1] and said[1].word,
+        "old_step": said[0] and said[0].step,
+        "new_step": said[1] and said[1].step,
+        **change_of("margin", change.margin, change.direction.comparable),
+    }
+
+
+def as_json(results: Sequence[Result], status: int, found: Changes | None = None) -> str:
+    """All that is told of some models; of two, with what changed."""
+    told_: dict[str, object] = {
+        "format": FORMAT,
+        "format_version": FORMAT_VERSION,
+        "program_version": program.version(),
+        "status": status,
+        "models": [model_of(result) for result in results],
+    }
+    if found is not None:
+        told_["changes"] = {
+            "old": found.old.name,
+            "new": found.new.name,
+            "directions": [direction_change(change) for change in found.directions],
+            "guards": [guard_change(change) for change in found.guards],
+        }
+    return encoded(told_) + "\n"
+
+
+# CSV: a row for each guard, and one for each direction without a guard
+
+COLUMNS = (
+    "model", "result", "direction", "unit", "factor", "bound", "bound_step", "bound_time", "slack",
+    "growth_step", "largest_as_written", "most_above_bound", "guard", "level", "verdict",
+    "verdict_step", "verdict_time", "margin_least", "margin_most", "reached_as_written_step",
+    "time_unit", "message",
+)
+CHANGE_COLUMNS = (
+    "direction", "guard", "unit", "old_bound", "new_bound", "bound_change", "old_margin",
+    "new_margin", "margin_change", "old_verdict", "new_verdict", "old_step", "new_step",
+)
+
+
+def csv_text(columns: Sequence[str], rows: Sequence[Mapping[str, object]]) -> str:
+    out = io.StringIO()
+    writer = csv.DictWriter(out, columns, lineterminator="\n")
+    writer.writeheader()
+    writer.writerows(rows)
+    return out.getvalue()
+
+
+def direction_cells(one: Figures, report: Report) -> dict[str, object]:
+    found = direction_of(one, report)
+    peak, written = found["peak"] or {}, found["as_written"] or {}
+    return {
+        "model": report.name,
+        "result": ANSWERED,
+        "direction": found["name"],
+        "unit": one.direction.unit_name,
+        "factor": found["factor"],
+        "bound": peak.get("bound"),
+        "bound_step": peak.get("step"),
+        "bound_time": peak.get("time"),
+        "slack": peak.get("slack"),
+        "growth_step": found["growth_step"],
+        "largest_as_written": written.get("largest"),
+        "most_above_bound": written.get("most_above_bound"),
+        "time_unit": None if report.source.time is None else report.source.time[1],
+    }
+
+
+def guard_cells(one: Figures, guard: Guard, report: Report) -> dict[str, object]:
+    found = guard_of(one, guard, report)
+    same = {name: found[name] for name in ("level", "verdict", "margin_least", "margin_most",
+                                           "reached_as_written_step")}
+    cells = {"guard": guard.label, "verdict_step": found["step"], "verdict_time": found["time"]}
+    return {**direction_cells(one, report), **same, **cells}
+
+
+def as_csv(results: Sequence[Result]) -> str:
+    rows: list[Mapping[str, object]] = []
+    for result in results:
+        if isinstance(result, Failed):
+            rows.append({"model": result.name, "result": result_of(result),
+                         "message": result.message})
+            continue
+        rows += [guard_cells(one, guard, result) for one, guard in result.guards]
+        unguarded = (one for one in result.ordered if not one.direction.guards)
+        rows += [direction_cells(one, result) for one in unguarded]
+    return csv_text(COLUMNS, rows)
+
+
+def changes_as_csv(found: Changes) -> str:
+    """A row for each direction, then one for each guard."""
+    rows = []
+    for change in found.directions:
+        cells = direction_change(change)
+        rows.append({"direction": cells.pop("name"), **cells})
+    for change in found.guards:
+        cells = guard_change(change)
+        rows.append({"guard": cells.pop("name"), **cells})
+    return csv_text(CHANGE_COLUMNS, rows)

@@ -1,0 +1,249 @@
+"""The report of one model: what the program says of it, sharpened, with the matrix as written.
+
+In order: what a model comes to; decimals of a direction; guards and directions by urgency; making a
+report. Figures are fractions in the units of the text (`answers`).
+"""
+
+from __future__ import annotations
+
+import hashlib
+from dataclasses import dataclass, replace
+from fractions import Fraction
+from functools import cached_property
+from typing import Callable, Sequence
+
+import exact
+import files
+import pack
+import refusal
+from answers import Direction, Guard, Written, directions_of
+from layout import HEAD, MATRIX_UNIT, Model, Vector
+from listings import CLEAR, GROWTH, HIT, UNKNOWN, Growth, Listing, Refusal, Sweep
+from quantities import places_for, places_to, rounded_down, rounded_up
+from textform import Source
+
+from . import program, sharpen
+
+# The statuses of `report`, and which of two is told: a model that has no answer before one that has.
+ALL_CLEAR, REFUSED, NOT_RUN, NOT_CLEAR = 0, 1, 2, 3
+WORST_LAST = (ALL_CLEAR, NOT_CLEAR, REFUSED, NOT_RUN)
+
+# What is said of a guard, the most urgent first. A guard that the stored matrix leaves clear, and
+# that the matrix as written reaches, stands right behind those that are hit.
+REACHED_AS_WRITTEN = "REACHED AS WRITTEN"
+URGENCY = (HIT, REACHED_AS_WRITTEN, GROWTH, UNKNOWN, CLEAR)
+
+
+@dataclass(frozen=True)
+class Input:
+    """The bytes of a model under its name; `source` is that of a text."""
+
+    name: str
+    data: bytes
+    source: Source | None = None
+
+    @property
+    def packed(self) -> bytes:
+        return self.data if self.source is None else self.source.data
+
+
+@dataclass(frozen=True)
+class Failed:
+    """A model without an answer: what is told of it, and the status that it makes."""
+
+    name: str
+    said: str  # a few words
+    message: str
+    status: int
+    data: bytes | None = None
+
+
+@dataclass(frozen=True)
+class Figures:
+    """A direction with the decimals that its figures are told with, all rounded outward."""
+
+    direction: Direction
+
+    @cached_property
+    def places(self) -> int:
+        """As many as tell a tenth of the slack and of each margin; fewer where that is exact."""
+        one = self.direction
+        if isinstance(one.swept, Growth):
+            return places_to(Fraction(1, one.counts))
+        finest = Fraction(1, one.factor * one.counts)
+        slacks = [bound - low for bound, low in zip(one.bounds, one.lows)]
+        margins = [end for guard in one.guards for end in one.margin(guard)]
+        sizes = [slacks[one.peak] or finest, *map(abs, filter(None, margins))]
+        peak = [one.largest_bound, one.lows[one.peak], *margins]
+        every = [*one.bounds, *one.lows]
+        return max(places_for(peak, min(sizes)), places_for(every, max(slacks) or finest))
+
+    def bound(self, step: int) -> Fraction:
+        return rounded_up(self.direction.bounds[step], self.places)
+
+    def slack(self, step: int) -> Fraction:
+        """What lies between the bound as told and a value that some run comes to."""
+        return self.bound(step) - rounded_down(self.direction.lows[step], self.places)
+
+    def margin(self, guard: Guard) -> tuple[Fraction, Fraction]:
+        """As `Direction.margin`: the lower end rounded down, the upper one up."""
+        least, most = self.direction.margin(guard)
+        return rounded_down(least, self.places), rounded_up(most, self.places)
+
+    def written(self, step: int) -> Fraction:
+        """The exact value of the matrix as written, rounded up."""
+        return self.direction.written.up(step, self.direction.counts, self.places)
+
+    @cached_property
+    def above(self) -> dict[int, Fraction]:
+        """The steps at which that value is above the bound, with the difference rounded up."""
+        one = self.direction
+        if one.written is None or isinstance(one.swept, Growth):
+            return {}
+        return {
+            step: one.written.up(step, one.counts, self.places, bound)
+            for step, bound in enumerate(one.bounds)
+            if one.written.passes(step, one.counts * bound)
+        }
+
+    @property
+    def most_above(self) -> int | None:
+        """The first step at which that difference is largest."""
+        return max(self.above, key=lambda step: (self.above[step], -step), default=None)
+
+    @cached_property
+    def reached(self) -> dict[int, int | None]:
+        """Of each guard the first step at which the matrix as written reaches the level."""
+        written = self.direction.written
+        return {
+            guard.number: None if written is None else written.reached(guard.level)
+            for guard in self.direction.guards
+        }
+
+    def reached_as_written(self, guard: Guard) -> int | None:
+        return self.reached[guard.number]
+
+    def word(self, guard: Guard) -> str:
+        """The verdict's word, or that the level is reached by the matrix as written alone."""
+        if guard.said.word == CLEAR and self.reached_as_written(guard) is not None:
+            return REACHED_AS_WRITTEN
+        return guard.said.word
+
+    def urgency(self, guard: Guard) -> tuple[int, Fraction]:
+        """What guards are ordered by: the verdict, then the margin as a share of all bounds."""
+        word, one = self.word(guard), self.direction
+        if isinstance(one.swept, Growth):
+            return URGENCY.index(word), Fraction(0)
+        span = one.largest_bound - min(one.lows)
+        margin = one.margin(guard)[1 if word == HIT else 0]
+        return URGENCY.index(word), margin / (span or 1)
+
+
+@dataclass(frozen=True)
+class Report:
+    """A model that was answered; `plain` where no direction was multiplied."""
+
+    name: str
+    data: bytes
+    source: Source
+    directions: tuple[Direction, ...]
+    plain: bool = False
+
+    @cached_property
+    def figures(self) -> tuple[Figures, ...]:
+        return tuple(map(Figures, self.directions))
+
+    @cached_property
+    def guards(self) -> list[tuple[Figures, Guard]]:
+        """All guards, the most urgent first."""
+        found = [(one, guard) for one in self.figures for guard in one.direction.guards]
+        return sorted(found, key=lambda pair: (*pair[0].urgency(pair[1]), pair[1].number))
+
+    @cached_property
+    def ordered(self) -> list[Figures]:
+        """The directions, the one with the most urgent guard first; without guards, at the end."""
+        order = list(dict.fromkeys(one.direction.number for one, _ in self.guards))
+        order += [one.number for one in self.directions if one.number not in order]
+        return [self.figures[number] for number in order]
+
+    @property
+    def rounded(self) -> bool:
+        """Whether the matrix that was swept is another than the one as written."""
+        return bool(self.source.rounded)
+
+    @property
+    def passed_as_written(self) -> list[Figures]:
+        """The directions with a bound that the matrix as written passes."""
+        return [one for one in self.ordered if one.above]
+
+    @property
+    def packed(self) -> bool:
+        """Whether the model was given as a packed file, which has no names and units."""
+        return self.data[:1] == bytes([HEAD])
+
+    @property
+    def status(self) -> int:
+        words = {one.word(guard) for one, guard in self.guards}
+        return ALL_CLEAR if words <= {CLEAR} else NOT_CLEAR
+
+    @property
+    def sha256(self) -> str:
+        return hashlib.sha256(self.data).hexdigest()
+
+    @property
+    def packed_sha256(self) -> str:
+        return hashlib.sha256(self.source.data).hexdigest()
+
+    @property
+    def text(self) -> str:
+        """The model as a text: as it was given, or unpacked."""
+        if self.packed:
+            return pack.write_text(self.source)
+        return files.decoded(self.data, self.name)[0]
+
+
+Result = Report | Failed
+
+
+def worst(statuses: Sequence[int]) -> int:
+    return max(statuses, key=WORST_LAST.index, default=ALL_CLEAR)
+
+
+def written_values(source: Source) -> list[Written]:
+    """The exact largest values of the matrix as it was written; none where it wasn't rounded."""
+    if not source.rounded:
+        return []
+    scaled = [list(map(Fraction, entries)) for entries in source.model.matrix]
+    for entry in source.rounded:
+        scaled[entry.row][entry.column] = entry.scaled
+    matrix = [[entry / MATRIX_UNIT for entry in entries] for entries in scaled]
+    unit, values = exact.unrounded_values(source.model, matrix)
+    return [Written(unit, tuple(each)) for each in values]
+
+
+Reply = Callable[[bytes, str], Listing | Refusal]  # what a program says of a file, with its name
+
+
+def report_of(given: Input, plain: bool = False, reply: Reply = program.reply) -> Result:
+    """The report of a model, or why it has none."""
+    told = reply(given.packed, given.name)
+    if isinstance(told, Refusal):
+        said = f"refused {told.number} at {told.offset}"
+        message = refusal.message(given.name, given.packed)
+        message = message if given.data else f"report: {given.name} is empty"
+        return Failed(given.name, said, message, REFUSED, given.data)
+    source = given.source or pack.read_source(given.data, given.name)
+
+    def listing(model: Model) -> Listing:
+        return program.accepted(reply(replace(source, model=model).data, given.name), given.name)
+
+    def swept(directions: Sequence[Vector]) -> Sequence[Sweep | Growth]:
+        tried = replace(source.model, directions=tuple(directions), guards=())
+        return listing(tried).directions
+
+    factors = [1] * len(source.directions)
+    if not plain:
+        factors = sharpen.largest_factors(source.model.directions, swept)
+        told = listing(sharpen.multiplied(source.model, factors))
+    directions = directions_of(told, source, factors, written_values(source))
+    return Report(given.name, given.data, source, directions, plain)

@@ -1,0 +1,155 @@
+"""The tables of a report as rows of words, for the terminal and for the page."""
+
+from __future__ import annotations
+
+from dataclasses import dataclass
+from typing import Sequence
+
+from listings import Growth
+from quantities import told
+
+from . import words
+from .changes import Change, Changes
+from .reports import WORST_LAST, Failed, Figures, Report, Result
+
+
+@dataclass(frozen=True)
+class Table:
+    """Headings and rows; the columns in `right` end flush."""
+
+    heads: tuple[str, ...]
+    rows: list[list[str]]
+    right: tuple[int, ...] = ()
+
+
+def guards(report: Report) -> Table:
+    """A row for each guard, the most urgent first."""
+    heads = ("guard", "reached where", "verdict", "margin")
+    rows = []
+    for one, guard in report.guards:
+        cells = [
+            guard.label,
+            words.condition(one.direction, guard, report),
+            words.verdict(one, guard, report),
+            words.margin(one, guard),
+        ]
+        rows.append(cells + [words.as_written(one, guard, report)] * report.rounded)
+    return Table(heads + ("reached as written",) * report.rounded, rows)
+
+
+def directions(report: Report) -> Table:
+    """A row for each direction: its largest bound."""
+    rows = []
+    for one in report.ordered:
+        direction = one.direction
+        if isinstance(direction.swept, Growth):
+            rows.append([direction.name, "none", "", "", "", words.growth(direction, report)])
+            continue
+        rows.append([
+            direction.name,
+            words.quantity(one.bound(direction.peak), one),
+            words.at_step(direction.peak, report),
+            words.quantity(one.slack(direction.peak), one),
+            str(direction.factor),
+            words.claim(one, report),
+        ])
+    heads = ("direction", "largest bound", "at step", "slack", "factor", "so in every run")
+    return Table(heads, rows, right=(1, 3, 4))
+
+
+def written(report: Report) -> Table:
+    """A row for each direction: its largest value by the matrix as written."""
+    rows = []
+    for one in report.ordered:
+        peak = one.direction.written.peak
+        rows.append([
+            one.direction.name,
+            words.quantity(one.written(peak), one),
+            words.at_step(peak, report),
+            words.above(one, report),
+        ])
+    return Table(("direction", "largest as written", "at step", "above its bound"), rows, right=(1,))
+
+
+def urgent_first(results: Sequence[Result]) -> list[Result]:
+    """Those without an answer first, then by the most urgent guard; without guards, at the end."""
+
+    def key(result: Result) -> tuple:
+        if isinstance(result, Failed):
+            return (0, -WORST_LAST.index(result.status))
+        if not result.guards:
+            return (2,)
+        one, guard = result.guards[0]
+        return (1, *one.urgency(guard))
+
+    return sorted(results, key=key)
+
+
+def models(results: Sequence[Result]) -> Table:
+    """A row for each model, with its most urgent guard."""
+    rows = []
+    for result in urgent_first(results):
+        if isinstance(result, Failed):
+            rows.append([result.name, result.said, "", "", "", ""])
+            continue
+        urgent = ["", "", ""]
+        if result.guards:
+            one, guard = result.guards[0]
+            urgent = [
+                f"{guard.label}: {words.condition(one.direction, guard, result)}",
+                words.verdict(one, guard, result),
+                words.margin(one, guard),
+            ]
+        passed = len(result.passed_as_written)
+        above = f"above {passed} bound{'s' if passed > 1 else ''}" if passed else ""
+        rows.append([result.name, words.verdict_counts(result), *urgent, above])
+    heads = ("model", "guards", "most urgent", "verdict", "margin", "as written")
+    return Table(heads, rows)
+
+
+# Two models side by side
+
+
+def told_change(change: Change, comparable: bool) -> list[str]:
+    """A figure before and now, and the difference with its sign."""
+    cells = ["" if one is None else told(one, change.places) for one in (change.old, change.new)]
+    difference = change.difference
+    if difference is None or not comparable:
+        return [*cells, ""]
+    sign = "+" if difference > 0 else ""
+    return [*cells, f"{sign}{told(difference, change.places)}" if difference else "same"]
+
+
+def changed_guards(found: Changes) -> Table:
+    """Of each guard the verdict and the level minus the largest bound, before and now."""
+    rows = []
+    for change in found.guards:
+        sides = (change.old, found.old), (change.new, found.new)
+        said = ["not there" if pair is None else words.verdict(*pair, report)
+                for pair, report in sides]
+        figures = told_change(change.margin, change.direction.comparable)
+        one, guard = change.any
+        rows.append([guard.label, *said, *figures, one.direction.unit_name])
+    heads = ("guard", "verdict was", "is", "level - bound was", "is", "change", "unit")
+    return Table(heads, rows, right=(3, 4, 5))
+
+
+def changed_directions(found: Changes) -> Table:
+    """Of each direction the largest bound and its step, before and now."""
+    rows = []
+    for change in found.directions:
+        sides = (change.old, found.old), (change.new, found.new)
+        steps = [peak_step(one, report) for one, report in sides]
+        one = change.any.direction
+        figures = told_change(change.bound, change.comparable)
+        rows.append([one.name, *figures, one.unit_name, *steps])
+    heads = ("direction", "largest bound was", "is", "change", "unit", "at step was", "is")
+    return Table(heads, rows, right=(1, 2, 3))
+
+
+def peak_step(one: Figures | None, report: Report) -> str:
+    if one is None:
+        return "not there"
+    if isinstance(one.direction.swept, Growth):
+        return words.growth(one.direction, report)
+    return words.at_step(one.direction.peak, report)
