@@ -244,7 +244,8 @@ class Printed(unittest.TestCase):
                 SHOWN.open(FOLDER / f"{page}.html")
                 told = SHOWN.printed()
                 sizes = re.findall(rb"/MediaBox \[0 0 ([\d.]+) ([\d.]+)\]", told)
-                self.assertEqual({(round(float(x)), round(float(y))) for x, y in sizes}, {(595, 842)})
+                found = {(round(float(x)), round(float(y))) for x, y in sizes}
+                self.assertEqual(found, {(595, 842)})
                 count = len(re.findall(rb"/Type /Page\b", told))
                 self.assertTrue(least <= count <= most, count)
 

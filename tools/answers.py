@@ -37,8 +37,8 @@ class Guard:
 class Written:
     """The exact largest values of the matrix as it was written, before its entries were rounded.
 
-    That of step k is numerators[k] / unit^k, in counts. It is no Fraction: to reduce numbers of many
-    thousand digits takes longer than all else.
+    That of step k is numerators[k] / unit^k, in counts. It is no Fraction: to reduce numbers of
+    many thousand digits takes longer than all else.
     """
 
     unit: int

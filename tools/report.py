@@ -15,15 +15,16 @@ are taken, but for a packed file that its text beside it packs to. Several model
 
 Bounds, slacks and verdicts are those of the proved program envelope, which ./run builds where it is
 missing or older than its sources. Each direction is multiplied by the largest whole number, its
-factor, that the limit of its entries and the growth of the arithmetic allow, and its levels too: the
-runs are the same, and the slack shrinks by about that factor. Figures are divided by it again and
-rounded outward, so that each follows from a proved one. Where entries were rounded (~, fitted), the
-exact largest values of the matrix as written are told too, with a warning where one passes a bound.
+factor, that the limit of its entries and the growth of the arithmetic allow, and its levels too:
+the runs are the same, and the slack shrinks by about that factor. Figures are divided by it again
+and rounded outward, so that each follows from a proved one. Where entries were rounded (~, fitted),
+the exact largest values of the matrix as written are told too, with a warning where one passes a
+bound.
 
 The status is
   0  where every guard is CLEAR,
   1  where a model is refused; standard error says why,
-  2  where a model could not be read, the program could not be built or run, or the command is wrong,
+  2  where a model could not be read, the program not be built or run, or the command is wrong,
   3  where some guard isn't CLEAR, or is reached by the matrix as written;
 of several the first in the order 2, 1, 3, 0.
 """

@@ -1,8 +1,8 @@
 """A report as JSON and as CSV, with names that stay.
 
 Figures are in the direction's unit and rounded outward. They are decimal numbers, written out, and
-whoever needs them exact reads them as decimals. `proved` has the whole numbers that the program gave
-for the direction times its factor.
+whoever needs them exact reads them as decimals. `proved` has the whole numbers that the program
+gave for the direction times its factor. docs/REPORT.md tells all names.
 """
 
 from __future__ import annotations
@@ -47,7 +47,7 @@ def encoded(value: object, indent: str = "") -> str:
         return str(value)
     inner = indent + "  "
     if isinstance(value, Mapping) and value:
-        rows = [f"{inner}{json.dumps(name)}: {encoded(part, inner)}" for name, part in value.items()]
+        rows = [f'{inner}"{name}": {encoded(part, inner)}' for name, part in value.items()]
         return "{\n" + ",\n".join(rows) + f"\n{indent}}}"
     if isinstance(value, (list, tuple)) and any(isinstance(part, Mapping) for part in value):
         rows = [inner + encoded(part, inner) for part in value]

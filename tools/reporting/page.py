@@ -12,7 +12,7 @@ from listings import CLEAR, GROWTH, HIT, UNKNOWN, Growth
 
 from . import program, tables, words
 from .changes import Changes
-from .reports import REACHED_AS_WRITTEN, Failed, Report, Result
+from .reports import Failed, Report, Result
 from .tables import Table
 
 STYLE = """
@@ -80,7 +80,8 @@ TESTED = (
 )
 ASSUMED = (
     "The model fits the printer: its sets hold every start and every input, and its matrix, as"
-    " stored, moves the state. Nothing is said of what happens between two steps, or after the last.",
+    " stored, moves the state. Nothing is said of what happens between two steps, or after the"
+    " last.",
     "The checker of the toolchain, the compiler, the processor, and that the program's input and"
     " output calls move the bytes.",
 )
@@ -125,10 +126,11 @@ def bullets(items: Iterable[str]) -> str:
 
 def counts(report: Report) -> str:
     """How many guards have which verdict, marked."""
-    return ", ".join(
-        f'{number} <span class="{word.split()[0]}">{escape(word)}</span>'
-        for number, _, word in (part.partition(" ") for part in words.verdict_counts(report).split(", "))
-    ) if report.guards else "no guard"
+    return re.sub(
+        r"(HIT|REACHED AS WRITTEN|GROWTH|UNKNOWN|CLEAR)",
+        lambda word: f'<span class="{word[0].split()[0]}">{word[0]}</span>',
+        words.verdict_counts(report),
+    )
 
 
 def proved_rows(report: Report) -> Table:
@@ -177,7 +179,8 @@ def section(report: Report, anchor: str) -> str:
         table_of(tables.guards(report)),
         "<h3>Largest bounds</h3>",
         table_of(tables.directions(report)),
-        f"<h3>The matrix as written</h3>\n{table_of(tables.written(report))}" if report.rounded else "",
+        "<h3>The matrix as written</h3>" if report.rounded else "",
+        table_of(tables.written(report)),
         bullets(map(escape, pack.notes(report.source))) if pack.notes(report.source) else "",
         "<h3>Charts</h3>",
         pictures(report),

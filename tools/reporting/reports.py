@@ -24,7 +24,7 @@ from textform import Source
 
 from . import program, sharpen
 
-# The statuses of `report`, and which of two is told: a model that has no answer before one that has.
+# The statuses of `report`, and which of several is told: the last of these.
 ALL_CLEAR, REFUSED, NOT_RUN, NOT_CLEAR = 0, 1, 2, 3
 WORST_LAST = (ALL_CLEAR, NOT_CLEAR, REFUSED, NOT_RUN)
 

@@ -58,9 +58,9 @@ def directions(report: Report) -> Table:
 
 
 def written(report: Report) -> Table:
-    """A row for each direction: its largest value by the matrix as written."""
+    """A row for each direction: its largest value by the matrix as written, where that differs."""
     rows = []
-    for one in report.ordered:
+    for one in report.ordered if report.rounded else ():
         peak = one.direction.written.peak
         rows.append([
             one.direction.name,
@@ -68,7 +68,8 @@ def written(report: Report) -> Table:
             words.at_step(peak, report),
             words.above(one, report),
         ])
-    return Table(("direction", "largest as written", "at step", "above its bound"), rows, right=(1,))
+    heads = ("direction", "largest as written", "at step", "above its bound")
+    return Table(heads, rows, right=(1,))
 
 
 def urgent_first(results: Sequence[Result]) -> list[Result]:

@@ -64,7 +64,7 @@ def whole(report: Report, colours: bool = False) -> str:
         f"{report.name}: {summary(report)}",
         *lines_of(tables.guards(report), colours),
         *lines_of(tables.directions(report)),
-        *(lines_of(tables.written(report)) if report.rounded else ()),
+        *lines_of(tables.written(report)),
         "",
         *warnings([report]),
         *(f"note: {note}" for note in pack.notes(report.source)),

@@ -13,7 +13,7 @@ from .reports import REACHED_AS_WRITTEN, URGENCY, Figures, Report
 # What a report rests on, as a text ends with it.
 RESTS_ON = (
     "Bounds, slacks and verdicts are the proved program's, for each direction times its factor.",
-    "Scaling, outward rounding, values as written and this layout are by tools: tested, not proved.",
+    "Scaling, outward rounding, values as written and the layout are by tools: tested, not proved.",
 )
 
 
@@ -65,10 +65,6 @@ def claim(figures: Figures, report: Report) -> str:
     bound = figures.bound(one.peak)
     value = quantity(-bound if turned(one) else bound, figures)
     return compared(one, value, 1, report)
-
-
-def level(direction: Direction, guard: Guard) -> str:
-    return in_unit(exactly(direction.level(guard)), direction)
 
 
 def condition(direction: Direction, guard: Guard, report: Report) -> str:

@@ -23,10 +23,11 @@ import files
 import listings
 import models
 import pack
+import quantities
 from layout import MAX_DIRECTION_ENTRY, MAX_DIRECTIONS, MAX_LEVEL, MIN_LEVEL, encode
 from listings import Growth, Refusal, Sweep, Verdict
 from reporting import batch, changes, data, inputs, page, reports, sharpen, tables, terminal, words
-from reporting.reports import ALL_CLEAR, NOT_CLEAR, NOT_RUN, REFUSED, Failed, Input, Report
+from reporting.reports import ALL_CLEAR, NOT_CLEAR, NOT_RUN, REFUSED, Failed, Input
 
 MODEL = """\
 coordinates value
@@ -117,7 +118,8 @@ class Factors(unittest.TestCase):
 
     def test_a_level_at_the_end_has_its_own_verdict(self):
         for plain in (False, True):
-            told = report(text("direction d 1", f"guard d {MAX_LEVEL}", f"guard d {MIN_LEVEL}"), plain)
+            levels = f"guard d {MAX_LEVEL}", f"guard d {MIN_LEVEL}"
+            told = report(text("direction d 1", *levels), plain)
             said = {guard.level: guard.said for _, guard in told.guards}
             self.assertEqual(said, {MAX_LEVEL: Verdict("CLEAR"), MIN_LEVEL: Verdict("HIT", 0)})
 
@@ -153,18 +155,18 @@ class Reports(unittest.TestCase):
         (one,) = told.figures
         self.assertEqual(one.direction.bounds, (0, 1, Fraction(3, 2), Fraction(7, 4)))
         self.assertEqual((one.places, one.bound(3), one.slack(3)), (2, Fraction(7, 4), 0))
-        self.assertEqual([(str(guard.said), words.margin(one, guard)) for _, guard in told.guards], [
-            ("HIT 1", "passed by 0.75 counts"), ("CLEAR", "clear by 0.25 counts"),
-            ("CLEAR", "clear by 1.25 counts"),
-        ])
+        said = [(str(guard.said), words.margin(one, guard)) for _, guard in told.guards]
+        self.assertEqual(said, [("HIT 1", "passed by 0.75 counts"), ("CLEAR", "clear by 0.25 counts"),
+                                ("CLEAR", "clear by 1.25 counts")])
         self.assertEqual(told.status, NOT_CLEAR)
 
     def test_without_a_factor_it_is_the_listing(self):
         told = example("verdicts", plain=True)
         (one,) = told.figures
-        self.assertEqual([str(guard.said) for _, guard in told.guards], ["HIT 1", "UNKNOWN 2", "CLEAR"])
-        margins = [words.margin(one, guard) for _, guard in told.guards]
-        self.assertEqual(margins, ["reached", "between 1 short and 0 counts past", "clear by 1 count"])
+        said = [(str(guard.said), words.margin(one, guard)) for _, guard in told.guards]
+        between = "between 1 short and 0 counts past"
+        self.assertEqual(said, [("HIT 1", "reached"), ("UNKNOWN 2", between),
+                                ("CLEAR", "clear by 1 count")])
 
     def test_statuses(self):
         for rows, status in (
@@ -280,7 +282,7 @@ class Written(unittest.TestCase):
         told = report(content)
         value = Fraction(*(0.1).as_integer_ratio())
         one = told.figures[0]
-        self.assertEqual(one.written(1), Fraction(-(-1000 * value * 10**one.places // 1), 10**one.places))
+        self.assertEqual(one.written(1), quantities.rounded_up(1000 * value, one.places))
         packed = reports.report_of(Input("file", told.source.data), reply=exactly)
         self.assertEqual(packed.figures[0].direction.written, one.direction.written)
 
@@ -327,7 +329,8 @@ class Texts(unittest.TestCase):
         told = [report(text("direction d 1", f"guard d {level}"), name=f"{level}.model")
                 for level in (9, 1, 2)]
         told += [report(text("direction d 1"), name="none.model"),
-                 Failed("bad.bin", "refused 3 at 4", "", REFUSED), Failed("gone", "is not there", "", NOT_RUN)]
+                 Failed("bad.bin", "refused 3 at 4", "", REFUSED),
+                 Failed("gone", "is not there", "", NOT_RUN)]
         rows = tables.models(told).rows
         self.assertEqual([row[0] for row in rows],
                          ["gone", "bad.bin", "1.model", "2.model", "9.model", "none.model"])
@@ -394,6 +397,23 @@ class Data(unittest.TestCase):
         self.assertEqual([(row["direction"], row["guard"]) for row in rows],
                          [("d", "guard 0"), ("e", "")])
 
+    def test_the_document_tells_every_name(self):
+        told = (examples.FOLDER.parent / "docs" / "REPORT.md").read_text(encoding="utf-8")
+        names = {name for row in re.findall(r"`(\w+)`", told) for name in [row]}
+        old = report(text("direction d 1", "guard d 2", more=1))
+        found = changes.changes(old, self.told[0])
+        whole = json.loads(data.as_json([*self.told, old], 1, found))
+
+        def keys(value):
+            if isinstance(value, dict):
+                yield from value
+            for part in value.values() if isinstance(value, dict) else value:
+                if isinstance(part, (dict, list)):
+                    yield from keys(part)
+
+        self.assertEqual(set(keys(whole)) - names, set())
+        self.assertEqual({*data.COLUMNS, *data.CHANGE_COLUMNS} - names, set())
+
     def test_lists_of_numbers_stand_in_one_row(self):
         encoded = data.encoded({"a": [1, 2], "b": [], "c": {}, "d": [{"e": None}], "f": "ä\"",
                                 "g": data.Literal("0.10"), "h": True})
@@ -413,7 +433,8 @@ class Against(unittest.TestCase):
         rows = "direction d 1", "unit d V", "guard d 2 low", "guard d 5 high"
         found = self.compared(text(*rows), text(*rows, more=2))
         (direction,) = found.directions
-        self.assertEqual((direction.bound.old, direction.bound.new), (Fraction("1.75"), Fraction("3.5")))
+        bounds = direction.bound.old, direction.bound.new
+        self.assertEqual(bounds, (Fraction("1.75"), Fraction("3.5")))
         self.assertEqual(direction.bound.difference, Fraction("1.75"))
         told = {change.any[1].name: change for change in found.guards}
         self.assertEqual([str(pair[1].said) for pair in (told["low"].old, told["low"].new)],
@@ -446,7 +467,8 @@ class Against(unittest.TestCase):
     def test_a_packed_file_takes_the_names_of_the_text(self):
         content = (examples.FOLDER / "rail.model").read_text(encoding="utf-8")
         packed = reports.report_of(Input("rail.bin", pack.parse(content).data), reply=exactly)
-        for found in (changes.changes(packed, report(content)), changes.changes(report(content), packed)):
+        for pair in ((packed, report(content)), (report(content), packed)):
+            found = changes.changes(*pair)
             self.assertEqual({row[5] for row in tables.changed_guards(found).rows}, {"same"})
             self.assertIn("fades", [row[0] for row in tables.changed_guards(found).rows])
         other = reports.report_of(Input("x", pack.parse(text("direction d 2")).data), reply=exactly)
