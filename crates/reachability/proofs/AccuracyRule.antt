@@ -100,6 +100,10 @@ module _ (m : Model) (facts : ModelFacts m) where
       let a = attaining x k in
       record { above = value-le x k h; attained = (1, a .0, a .1 ∙ sym (one-times (exactAt x k))) }
 
+  -- Runs 7, of every direction, stored in the model or not
+  pub largest-there : (x : ℕ → ℤ) (k : ℕ) → k ≤ m .steps → (v : ℤ) × Largest m x k v
+  largest-there x k h = (exactAt x k, largest-is x k h)
+
   -- ---- bounds and slacks
 
   module _ (d : ℕ) where
@@ -220,7 +224,7 @@ module _ (m : Model) (facts : ModelFacts m) where
   -- ---- the rule
 
   pub rule-of-facts : AccuracyRule m
-  rule-of-facts = record { accurate = λ d. record { bounds = no-run-passes d; slacks = some-run-within d; exact = λ k h. (exactAt (direction m d) k, largest-is (direction m d) k h) }; verdicts = verdict-holds }
+  rule-of-facts = record { accurate = λ d. record { bounds = no-run-passes d; slacks = some-run-within d; exact = largest-there (direction m d) }; verdicts = verdict-holds }
 
 -- Accuracy 1: the rule, whole.
 pub accuracy-rule : (m : Model) → accepted m ≡ true → AccuracyRule m

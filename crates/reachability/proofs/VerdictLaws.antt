@@ -27,6 +27,10 @@ reaches-false-le level x f = le! (v x) (v level) (omega (arith, le? (v x ⊕ # 1
 pub reaches-mono : (level x y : ℤ) → reaches level x ≡ true → x ⩽ y → reaches level y ≡ true
 reaches-mono level x y t h = leZ-of-⩽ (⩽-trans (reaches-le level x t) h)
 
+-- a level at or below one that is reached
+pub reaches-lower : (lower higher x : ℤ) → lower ⩽ higher → reaches higher x ≡ true → reaches lower x ≡ true
+reaches-lower lower higher x h t = leZ-of-⩽ (⩽-trans h (reaches-le higher x t))
+
 -- level and value over a common denominator
 pub reaches-scale : (p : ℕ) (level x : ℤ) → 1 ≤ p → reaches level x ≡ true → reaches (pos p *ℤ level) (pos p *ℤ x) ≡ true
 reaches-scale p level x l t = leZ-of-⩽ (⩽-scale p (reaches-le level x t))
