@@ -12,7 +12,7 @@ import math
 from dataclasses import dataclass
 from fractions import Fraction
 from functools import cached_property
-from typing import Sequence
+from typing import Mapping, Sequence
 
 from layout import Vector
 from listings import Growth, Listing, Sweep, Verdict
@@ -71,11 +71,25 @@ class Written:
                 largest, peak = value, step
         return peak
 
-    def up(self, step: int, counts: int, places: int, less: Fraction = Fraction(0)) -> Fraction:
-        """The value in units of so many counts, minus `less`, rounded up to these decimals."""
+    def minus(self, step: int, counts: int, less: Fraction) -> tuple[int, int]:
+        """The value in units of so many counts, minus `less`: numerator and denominator."""
         below = counts * self.denominators[step]
         above = self.numerators[step] * less.denominator - less.numerator * below
-        return Fraction(-(-above * 10**places // (below * less.denominator)), 10**places)
+        return above, below * less.denominator
+
+    def up(self, step: int, counts: int, places: int, less: Fraction = Fraction(0)) -> Fraction:
+        """The same, rounded up to these decimals."""
+        above, below = self.minus(step, counts, less)
+        return Fraction(-(-above * 10**places // below), 10**places)
+
+    def farthest(self, bounds: Mapping[int, Fraction], counts: int) -> int | None:
+        """Of steps with their bounds the first at which the value is the most above the bound."""
+        found, most = None, (0, 1)
+        for step, bound in bounds.items():
+            above, below = self.minus(step, counts, bound)
+            if found is None or above * most[1] > most[0] * below:
+                found, most = step, (above, below)
+        return found
 
 
 @dataclass(frozen=True)

@@ -49,9 +49,18 @@ EXAMPLES = """examples:
   ./report examples/rail.model --against examples/rail.bin"""
 
 
+def tell(message: str) -> None:
+    """Say something on standard error, where that can be written."""
+    try:
+        if sys.stderr is not None:
+            print(message, file=sys.stderr, flush=True)
+    except OSError:
+        sys.stderr = None  # nothing more goes there, not even at exit
+
+
 class Parser(argparse.ArgumentParser):
     def error(self, message: str) -> NoReturn:
-        self.exit(NOT_RUN, f"report: {message} (./report --help tells more)\n")
+        raise files.AccessFailure(f"{message} (./report --help tells more)")
 
 
 def whole_number(word: str) -> int:
@@ -64,7 +73,7 @@ def options_of(arguments: Sequence[str]) -> argparse.Namespace:
     """The options and the models."""
     raw = argparse.RawDescriptionHelpFormatter
     parser = Parser(prog="./report", description=__doc__, epilog=EXAMPLES, usage=argparse.SUPPRESS,
-                    formatter_class=raw, allow_abbrev=False)
+                    formatter_class=raw, allow_abbrev=False, add_help=False)
     parser.add_argument("models", metavar="MODEL", nargs="*", help=argparse.SUPPRESS)
     form = parser.add_mutually_exclusive_group()
     form.add_argument("--json", action="store_true", help="JSON in place of the text")
@@ -75,10 +84,13 @@ def options_of(arguments: Sequence[str]) -> argparse.Namespace:
     parser.add_argument("--against", metavar="OLD", help="what changed from the model OLD")
     parser.add_argument("--jobs", metavar="N", type=whole_number, default=program.cores(),
                         help="how many models at once (as many as there are cores)")
+    parser.add_argument("--help", action="store_true", help="tell this")
     parser.add_argument("--version", action="store_true", help="tell the version")
     options = parser.parse_args(arguments)
-    if options.version:
-        return options
+    if options.help or options.version:
+        told = parser.format_help() if options.help else f"Pepperscarp {program.version()}\n"
+        files.write_bytes(None, told.encode("utf-8"))
+        sys.exit(0)
     if not options.models:
         parser.error("name a MODEL")
     if options.against is not None and len(options.models) != 1:
@@ -89,7 +101,7 @@ def options_of(arguments: Sequence[str]) -> argparse.Namespace:
 def tell_failures(results: Sequence[Result]) -> None:
     for result in results:
         if isinstance(result, Failed):
-            print(result.message, file=sys.stderr)
+            tell(result.message)
 
 
 def answered(words: Sequence[str], options: argparse.Namespace) -> list[Result]:
@@ -129,9 +141,6 @@ def text_of(
 
 def run(arguments: Sequence[str]) -> int:
     options = options_of(arguments)
-    if options.version:
-        files.write_bytes(None, f"Pepperscarp {program.version()}\n".encode("ascii"))
-        return 0
     words = options.models + [options.against] * (options.against is not None)
     results = answered(words, options)
     tell_failures(results)
@@ -152,12 +161,12 @@ def main() -> int:
     try:
         return run(sys.argv[1:])
     except files.Failure as failure:
-        print(f"report: {failure}", file=sys.stderr)
+        tell(f"report: {failure}")
     except KeyboardInterrupt:
         return 128 + signal.SIGINT
     except Exception as error:
         said = f"{type(error).__name__}: {error}"
-        print(f"report: a fault of the tool, please tell us: {said}", file=sys.stderr)
+        tell(f"report: a fault of the tool, please tell us: {said}")
     return NOT_RUN
 
 

@@ -2,11 +2,13 @@
 
 from __future__ import annotations
 
+import multiprocessing
+import os
 import shutil
 import signal
 import sys
 from concurrent.futures import ProcessPoolExecutor, as_completed
-from typing import Sequence
+from typing import Iterator, NoReturn, Sequence
 
 import files
 
@@ -54,30 +56,42 @@ def result_of(given: Input, plain: bool) -> Result:
         return Failed(given.name, "could not be run", message, NOT_RUN)
 
 
-def ignore_interrupts() -> None:
-    signal.signal(signal.SIGINT, signal.SIG_IGN)
+def stop(progress: Progress) -> NoReturn:
+    """End at once, with all processes: to wait for a pool may take for ever, and nothing is written."""
+    for child in multiprocessing.active_children():
+        child.kill()
+    progress.end()
+    os._exit(128 + signal.SIGINT)
+
+
+def results_at_once(
+    given: Sequence[Input], plain: bool, jobs: int, progress: Progress
+) -> Iterator[tuple[int, Result]]:
+    """Each result with its place, as it comes, by so many processes.
+
+    An interrupt is held back while these are made, so that none is missed that is just there; they
+    themselves get none, and are ended from here.
+    """
+    before = signal.signal(signal.SIGINT, lambda *_: stop(progress))
+    with ProcessPoolExecutor(jobs, multiprocessing.get_context("fork")) as pool:
+        signal.pthread_sigmask(signal.SIG_BLOCK, {signal.SIGINT})
+        places = {pool.submit(result_of, one, plain): place for place, one in enumerate(given)}
+        signal.pthread_sigmask(signal.SIG_UNBLOCK, {signal.SIGINT})
+        for done in as_completed(places):
+            yield places[done], done.result()
+    signal.signal(signal.SIGINT, before)
 
 
 def results_of(given: Sequence[Input | Failed], plain: bool, jobs: int) -> list[Result]:
     """The reports of models, in their order; those that have failed already stay as they are."""
-    found: list[Result | None] = [one if isinstance(one, Failed) else None for one in given]
-    todo = [place for place, one in enumerate(found) if one is None]
+    todo = [one for one in given if isinstance(one, Input)]
     progress = Progress(len(todo))
-    try:
-        if jobs == 1 or len(todo) < 2:
-            for place in todo:
-                found[place] = result_of(given[place], plain)
-                progress.step(given[place].name)
-            return found
-        with ProcessPoolExecutor(min(jobs, len(todo)), initializer=ignore_interrupts) as pool:
-            try:
-                places = {pool.submit(result_of, given[place], plain): place for place in todo}
-                for done in as_completed(places):
-                    found[places[done]] = done.result()
-                    progress.step(given[places[done]].name)
-            except KeyboardInterrupt:
-                pool.shutdown(wait=False, cancel_futures=True)
-                raise
-    finally:
-        progress.end()
-    return found
+    found: dict[int, Result] = {}
+    one_by_one = ((place, result_of(one, plain)) for place, one in enumerate(todo))
+    jobs = min(jobs, len(todo))
+    for place, result in results_at_once(todo, plain, jobs, progress) if jobs > 1 else one_by_one:
+        found[place] = result
+        progress.step(result.name)
+    progress.end()
+    results = iter(found[place] for place in range(len(todo)))
+    return [one if isinstance(one, Failed) else next(results) for one in given]

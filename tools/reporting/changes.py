@@ -58,11 +58,15 @@ class DirectionChange:
         return self.new or self.old
 
     @property
+    def units(self) -> list[str]:
+        """The units of the two, one where they are in the same."""
+        there = [one.direction.unit_name for one in (self.old, self.new) if one is not None]
+        return list(dict.fromkeys(there))
+
+    @property
     def comparable(self) -> bool:
-        """Whether the two are in one unit."""
-        if self.old is None or self.new is None:
-            return False
-        return self.old.direction.unit_name == self.new.direction.unit_name
+        """Whether both are there, in one unit."""
+        return self.old is not None and self.new is not None and len(self.units) == 1
 
     @property
     def places(self) -> int:

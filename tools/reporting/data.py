@@ -171,29 +171,41 @@ def change_of(name: str, change: Change, comparable: bool) -> dict[str, object]:
     }
 
 
+def both(name: str, values: Mapping[str, object]) -> dict[str, object]:
+    """What was and what is; None for what isn't there."""
+    return {f"{when}_{name}": values.get(when) for when in ("old", "new")}
+
+
+def units_of(change: DirectionChange) -> dict[str, object]:
+    """The units of the two, None for counts."""
+    there = {"old": change.old, "new": change.new}
+    units = {when: one.direction.unit for when, one in there.items() if one is not None}
+    return both("unit", {when: unit and unit[0] for when, unit in units.items()})
+
+
 def direction_change(change: DirectionChange) -> dict[str, object]:
-    swept = [one and one.direction for one in (change.old, change.new)]
-    steps = [None if one is None or not one.bounds else one.peak for one in swept]
+    sides = {"old": change.old, "new": change.new}
+    swept = {when: one.direction for when, one in sides.items() if one is not None}
     return {
         "name": change.any.direction.name,
-        "unit": change.any.direction.unit_name,
+        **units_of(change),
         **change_of("bound", change.bound, change.comparable),
-        "old_step": steps[0],
-        "new_step": steps[1],
+        **both("step", {when: one.peak if one.bounds else None for when, one in swept.items()}),
     }
 
 
 def guard_change(change: GuardChange) -> dict[str, object]:
     one, guard = change.any
-    said = [pair and pair[1].said for pair in (change.old, change.new)]
+    sides = {"old": change.old, "new": change.new}
+    there = {when: pair for when, pair in sides.items() if pair is not None}
     return {
-        "name": guard.label,
+        "name": guard.name,
         "direction": one.direction.name,
-        "unit": one.direction.unit_name,
-        "old_verdict": said[0] and said[0].word,
-        "new_verdict": said[1] and said[1].word,
-        "old_step": said[0] and said[0].step,
-        "new_step": said[1] and said[1].step,
+        **units_of(change.direction),
+        **both("number", {when: guard.number for when, (_, guard) in there.items()}),
+        **both("verdict", {when: guard.said.word for when, (_, guard) in there.items()}),
+        **both("step", {when: guard.said.step for when, (_, guard) in there.items()}),
+        **both("clear", {when: one.word(guard) == CLEAR for when, (one, guard) in there.items()}),
         **change_of("margin", change.margin, change.direction.comparable),
     }
 
@@ -223,20 +235,25 @@ COLUMNS = (
     "model", "result", "direction", "unit", "factor", "bound", "bound_step", "bound_time", "slack",
     "growth_step", "largest_as_written", "most_above_bound", "guard", "level", "verdict",
     "verdict_step", "verdict_time", "margin_least", "margin_most", "reached_as_written_step",
-    "time_unit", "message",
+    "clear", "time_unit", "message",
 )
 CHANGE_COLUMNS = (
-    "direction", "guard", "unit", "old_bound", "new_bound", "bound_change", "old_margin",
-    "new_margin", "margin_change", "old_verdict", "new_verdict", "old_step", "new_step",
+    "direction", "guard", "old_unit", "new_unit", "old_bound", "new_bound", "bound_change",
+    "old_margin", "new_margin", "margin_change", "old_verdict", "new_verdict", "old_step",
+    "new_step", "old_clear", "new_clear",
 )
 
 
 def csv_text(columns: Sequence[str], rows: Sequence[Mapping[str, object]]) -> str:
     out = io.StringIO()
-    writer = csv.DictWriter(out, columns, lineterminator="\n")
+    writer = csv.DictWriter(out, columns, lineterminator="\n", extrasaction="ignore")
     writer.writeheader()
     writer.writerows(rows)
     return out.getvalue()
+
+
+def yes_or_no(value: object) -> str | None:
+    return None if value is None else "yes" if value else "no"
 
 
 def direction_cells(one: Figures, report: Report) -> dict[str, object]:
@@ -263,7 +280,8 @@ def guard_cells(one: Figures, guard: Guard, report: Report) -> dict[str, object]
     found = guard_of(one, guard, report)
     same = {name: found[name] for name in ("level", "verdict", "margin_least", "margin_most",
                                            "reached_as_written_step")}
-    cells = {"guard": guard.label, "verdict_step": found["step"], "verdict_time": found["time"]}
+    cells = {"guard": guard.label, "verdict_step": found["step"], "verdict_time": found["time"],
+             "clear": yes_or_no(found["clear"])}
     return {**direction_cells(one, report), **same, **cells}
 
 
@@ -282,11 +300,11 @@ def as_csv(results: Sequence[Result]) -> str:
 
 def changes_as_csv(found: Changes) -> str:
     """A row for each direction, then one for each guard."""
-    rows = []
+    rows: list[dict[str, object]] = []
     for change in found.directions:
-        cells = direction_change(change)
-        rows.append({"direction": cells.pop("name"), **cells})
+        rows.append({**direction_change(change), "direction": change.any.direction.name})
     for change in found.guards:
         cells = guard_change(change)
-        rows.append({"guard": cells.pop("name"), **cells})
+        clear = both("clear", {when: yes_or_no(cells[f"{when}_clear"]) for when in ("old", "new")})
+        rows.append({**cells, **clear, "guard": change.any[1].label})
     return csv_text(CHANGE_COLUMNS, rows)

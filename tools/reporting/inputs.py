@@ -27,7 +27,7 @@ def unread(name: str, said: str) -> Failed:
 
 
 def in_folder(folder: str) -> list[str]:
-    """The models in a folder and those below it, but for hidden ones."""
+    """The models in a folder and those below it, but for hidden ones and what is no file."""
     found = []
     for place, folders, names in os.walk(folder):
         folders[:] = sorted(name for name in folders if not name.startswith("."))
@@ -36,7 +36,7 @@ def in_folder(folder: str) -> list[str]:
             for name in sorted(names)
             if name.endswith(ENDINGS) and not name.startswith(".")
         ]
-    return found
+    return [path for path in found if os.path.isfile(path) or not os.path.exists(path)]
 
 
 def model_of(word: str) -> Input | Failed:

@@ -25,11 +25,17 @@ def version() -> str:
 
 def ready() -> None:
     """See to it that the program is there and not older than its sources."""
+    pipes = {"stdin": subprocess.PIPE, "stdout": subprocess.DEVNULL}
     try:
-        done = subprocess.run([RUN, "--quiet", "-"], input=SMALL, stdout=subprocess.DEVNULL)
+        with subprocess.Popen([RUN, "--quiet", "-"], **pipes) as run:
+            try:
+                run.communicate(SMALL)
+            except BaseException:
+                run.terminate()  # and not killed: it ends what it has started
+                raise
     except OSError as error:
         raise files.AccessFailure(f"{RUN} can't be run: {error.strerror}") from None
-    if done.returncode:
+    if run.returncode:
         raise files.AccessFailure("the program is not ready, so nothing could be run")
 
 

@@ -106,10 +106,12 @@ class Figures:
             if one.written.passes(step, one.counts * bound)
         }
 
-    @property
+    @cached_property
     def most_above(self) -> int | None:
         """The first step at which that difference is largest."""
-        return max(self.above, key=lambda step: (self.above[step], -step), default=None)
+        one = self.direction
+        bounds = {step: one.bounds[step] for step in self.above}
+        return one.written.farthest(bounds, one.counts) if bounds else None
 
     @cached_property
     def reached(self) -> dict[int, int | None]:

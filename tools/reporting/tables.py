@@ -129,8 +129,7 @@ def changed_guards(found: Changes) -> Table:
         said = ["not there" if pair is None else words.verdict(*pair, report)
                 for pair, report in sides]
         figures = told_change(change.margin, change.direction.comparable)
-        one, guard = change.any
-        rows.append([guard.label, *said, *figures, one.direction.unit_name])
+        rows.append([change.any[1].label, *said, *figures, ", ".join(change.direction.units)])
     heads = ("guard", "verdict was", "is", "level - bound was", "is", "change", "unit")
     return Table(heads, rows, right=(3, 4, 5))
 
@@ -141,9 +140,8 @@ def changed_directions(found: Changes) -> Table:
     for change in found.directions:
         sides = (change.old, found.old), (change.new, found.new)
         steps = [peak_step(one, report) for one, report in sides]
-        one = change.any.direction
         figures = told_change(change.bound, change.comparable)
-        rows.append([one.name, *figures, one.unit_name, *steps])
+        rows.append([change.any.direction.name, *figures, ", ".join(change.units), *steps])
     heads = ("direction", "largest bound was", "is", "change", "unit", "at step was", "is")
     return Table(heads, rows, right=(1, 2, 3))
 

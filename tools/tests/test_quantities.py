@@ -157,6 +157,11 @@ class AsWritten(unittest.TestCase):
                 self.assertEqual(written.passes(step, other), value > other)
                 expected = quantities.rounded_up(value / counts - other, places)
                 self.assertEqual(written.up(step, counts, places, other), expected)
+            bounds = {step: Fraction(rng.randint(-9, 9), 3) for step in rng.sample(range(6), 3)}
+            above = {step: values[step] / 4 - bound for step, bound in bounds.items()}
+            most = next(step for step in bounds if above[step] == max(above.values()))
+            self.assertEqual(written.farthest(bounds, 4), most)
+            self.assertIsNone(written.farthest({}, 4))
             for level in range(-6, 7):
                 reached = (step for step, value in enumerate(values) if value >= level)
                 self.assertEqual(written.reached(level), next(reached, None))

@@ -7,6 +7,7 @@ What `./report` prints is tested from outside in `tests/report.py`, and the page
 import csv
 import io
 import json
+import os
 import random
 import re
 import unittest
@@ -570,6 +571,7 @@ class Inputs(FolderTest):
         for name in ("b.model", "a.bin", "sub/c.model", ".hidden.model", ".git/d.model", "x.txt"):
             self.write(name, text("direction d 1"))
         (self.folder / "a.bin").write_bytes(pack.parse(text("direction d 2")).data)
+        os.mkfifo(self.folder / "pipe.model")
         expected = [str(self.folder / name) for name in ("a.bin", "b.model", "sub/c.model")]
         self.assertEqual(self.names(self.folder), expected)
 
