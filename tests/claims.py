@@ -266,6 +266,7 @@ def in_json(text: bytes) -> Any:
 
 
 NUMBER = r"-?\d{1,3}(?:,\d{3})*(?:\.\d+)?"
+FIGURE = rf"{NUMBER}|-?\d\.\d\de\d+"  # a huge one is told by three digits
 PLACE = rf"(\d+)(?: \(({NUMBER}) (\S+)\))?"
 HEADING = re.compile(
     rf"(.*): (\d) coordinates?, steps 0 to (\d+)(?: \(({NUMBER}) (\S+)\))?: (.*)", re.DOTALL
@@ -342,6 +343,36 @@ def check_bound(
     must(0 <= low - (bound - slack) < bound.last, "slack", slack, float(low), *told)
 
 
+def terms_of(left: str) -> dict[str, Fraction]:
+    """A sum such as `-rail + 0.5 set.point`: what each coordinate is multiplied by."""
+    found: dict[str, Fraction] = {}
+    number = r"\d+(?:\.\d+)?(?:/\d+)?"
+    for sign, factor, name in re.findall(rf"([+-]?)(?:({number}) )?([^\s+-]\S*)",
+                                         re.sub(r" ([+-]) ", r" \1", left)):
+        must(name not in found, "twice", left)
+        found[name] = Fraction(factor or 1) * (-1 if sign == "-" else 1)
+    return found
+
+
+def expected_terms(case: Case, number: int) -> dict[str, Fraction] | None:
+    """What coordinates in their units are multiplied by; None where the text doesn't tell it."""
+    entries, (name, counts) = case.model.directions[number], case.unit(number)
+    of = {
+        coordinate: (entry, unit)
+        for coordinate, entry, unit in zip(case.source.coordinates, entries,
+                                           case.source.coordinate_units)
+        if entry
+    }
+    if not name:
+        return {coordinate: Fraction(entry) for coordinate, (entry, _) in of.items()}
+    if all(unit is not None and unit[0] == name for _, unit in of.values()):
+        # entry * (counts of the coordinate), in the direction's unit
+        return {key: Fraction(entry * unit[1], counts) for key, (entry, unit) in of.items()}
+    if all(unit is None and abs(entry) == 1 for entry, unit in of.values()):
+        return {coordinate: Fraction(entry) for coordinate, (entry, _) in of.items()}
+    return None
+
+
 def check_claim(
     case: Case, number: int, told: str, value: Fraction | None, exactly: bool
 ) -> Printed | None:
@@ -352,18 +383,14 @@ def check_claim(
     left, sign, figure, unit = matched(rf"(.*) ([≤≥]) ({NUMBER}(?:/{NUMBER})?) (\S+)", told)
     name, _ = case.unit(number)
     check_unit(unit, name, figure)
-    words = re.sub(r" ([+-]) ", r" \1", left).split(" ")
-    coefficients = dict.fromkeys(case.source.coordinates, 0)
-    # A term is a name, or a number and a name; its sign is before either.
-    terms = re.findall(r"([+-]?)(?:(\d[\d,]*) )?([^\s+-]\S*)", " ".join(words))
-    for minus, count, coordinate in terms:
-        must(coefficients[coordinate] == 0, "twice", told)
-        size = int(count.replace(",", "")) if count else 1
-        coefficients[coordinate] = -size if minus == "-" else size
-    shown = tuple(coefficients.values())
-    entries = case.model.directions[number]
-    turned = shown == tuple(-entry for entry in entries)
-    must(turned or shown == entries, "another direction", told, entries)
+    expected, turned = expected_terms(case, number), False
+    if expected is None:
+        must(left == case.source.directions[number], "no name", told)
+    else:
+        shown = terms_of(left)
+        turned = shown == {key: -factor for key, factor in expected.items()}
+        must(turned or shown == expected, "another direction", told, expected)
+        must(turned == (max(expected.values()) < 0), "turned", told)
     # `≤` of the direction is `≥` of the one that is turned round.
     must(sign == ("≤≥" if not exactly else "≥≤")[turned], "the wrong way", told)
     if exactly:
@@ -492,6 +519,25 @@ def check_accuracy(answer: Answer, guard: int) -> None:
         must(max(values) < level, guard, said)
 
 
+def check_above_largest(answer: Answer, number: int, told: Printed | None) -> None:
+    """By how much the largest value as written passes the largest bound, where it does."""
+    if isinstance(answer.listing.directions[number], Growth):
+        must(told is None, "no bound", told)
+        return
+    counts = answer.case.unit(number)[1]
+    more = max(answer.case.written[number]) / counts - max(answer.bounds(number))
+    must((told is None) == (more <= 0), "above the largest bound", told, float(more))
+    if told is not None:
+        check_rounded_up(told, more, "above the largest bound")
+
+
+def check_written_margin(answer: Answer, guard: int, told: Printed | None) -> None:
+    case, (number, level) = answer.case, answer.case.model.guards[guard]
+    must((told is None) == (case.written is None), "as written")
+    if told is not None:
+        check_rounded_down(told, (level - max(case.written[number])) / case.unit(number)[1], told)
+
+
 # JSON
 
 
@@ -507,6 +553,7 @@ def check_json_written(answer: Answer, number: int, told: dict[str, Any]) -> Non
     must(step == values.index(max(values)), "step as written", step)
     must(told.pop("time") == case.time(step), "time")
     above = answer.above(number)
+    check_above_largest(answer, number, told.pop("above_largest_bound"))
     must(told.pop("steps_above_bound") == list(above), "steps above", above)
     most, step = told.pop("most_above_bound"), told.pop("most_above_bound_step")
     if above:
@@ -579,6 +626,7 @@ def check_json_guard(answer: Answer, told: dict[str, Any]) -> int:
     reached, step = told.pop("reached_as_written"), answer.reached(number, level)
     must(reached == (None if case.written is None else step is not None), "as written", reached)
     must(told.pop("reached_as_written_step") == step, "as written", step)
+    check_written_margin(answer, guard, told.pop("margin_as_written"))
     least, most = told.pop("margin_least"), told.pop("margin_most")
     if said.word == GROWTH:
         must(least is None and most is None, "no margin")
@@ -678,9 +726,11 @@ def check_csv_row(answer: Answer, row: dict[str, str]) -> int | None:
     growth = swept.step if isinstance(swept, Growth) else None
     must(number_or_none("growth_step") == growth, "growth")
     largest, above = number_or_none("largest_as_written"), number_or_none("most_above_bound")
+    largest_above = number_or_none("above_largest_bound")
     if case.written is None:
-        must(largest is None and above is None, "as written")
+        must(largest is None and above is None and largest_above is None, "as written")
     else:
+        check_above_largest(answer, number, largest_above)
         check_rounded_up(largest, max(case.written[number]) / counts, "as written")
         most = max(answer.above(number).values(), default=None)
         must((above is None) == (most is None), "above")
@@ -700,6 +750,7 @@ def check_csv_row(answer: Answer, row: dict[str, str]) -> int | None:
     must(number_or_none("verdict_step") == said.step, "step")
     must(number_or_none("verdict_time") == case.time(said.step), "time")
     must(number_or_none("reached_as_written_step") == answer.reached(number, level), "as written")
+    check_written_margin(answer, guard, number_or_none("margin_as_written"))
     least, most = number_or_none("margin_least"), number_or_none("margin_most")
     if said.word == GROWTH:
         must(least is None and most is None, "no margin")
@@ -760,7 +811,7 @@ def check_text_margin(answer: Answer, guard: int, told: str) -> None:
         check_rounded_up(Printed(past), -answer.margin(guard), told)
         must(-Printed(past) <= truth <= Printed(short), told)
     elif told == "reached":
-        must(truth <= 0 and -low < 1, told)
+        must(truth <= 0 and low == 0, told)
     else:
         figure, unit = matched(rf"passed by ({NUMBER}) (\S+)", told)
         check_unit(unit, name, figure)
@@ -777,17 +828,38 @@ def check_text_guard(answer: Answer, cells: dict[str, str]) -> int:
     level_ = Fraction(level, case.unit(number)[1])
     check_claim(case, number, cells.pop("reached where"), level_, exactly=True)
     check_text_verdict(answer, guard, cells.pop("verdict"))
-    check_text_margin(answer, guard, cells.pop("margin"))
-    must(("reached as written" in cells) == (case.written is not None), "as written")
-    if case.written is not None:
-        told, step = cells.pop("reached as written"), answer.reached(number, level)
-        if step is None:
-            must(told == "no", told)
-        else:
-            must(told.startswith("at step "), told)
-            check_place(case, told.removeprefix("at step "), step)
+    rounded = case.written is not None
+    check_text_margin(answer, guard, cells.pop("margin as stored" if rounded else "margin"))
+    if rounded:
+        check_text_as_written(answer, guard, cells.pop("as written"))
     must(not cells, "more", cells)
     return guard
+
+
+def check_text_as_written(answer: Answer, guard: int, told: str) -> None:
+    """`clear by 5.03 °C`, `passed by 0.26 °C from step 255` or `reached at step 3`."""
+    case, (number, level) = answer.case, answer.case.model.guards[guard]
+    name, counts = case.unit(number)
+    margin = (level - max(case.written[number])) / counts
+    step = answer.reached(number, level)
+    if margin == 0:
+        must(told == f"reached at step {step}", told)
+        return
+    pattern = rf"clear by ({FIGURE}) (\S+)" if step is None else (
+        rf"passed by ({FIGURE}) (\S+) from step {step}")
+    figure, unit = matched(pattern, told)
+    check_unit(unit, name, figure)
+    check_figure(figure, margin if step is None else -margin, step is not None, told)
+
+
+def check_figure(figure: str, value: Fraction, up: bool, told: str) -> None:
+    """A figure that is rounded; a huge one is told by three digits."""
+    if "e" in figure:
+        must(abs(value) >= 10**18, "not huge", told)
+        shown = Fraction(figure)
+        must(0 <= (shown - value) * (1 if up else -1) <= abs(value) / 99, "huge", told)
+    else:
+        (check_rounded_up if up else check_rounded_down)(Printed(figure), value, told)
 
 
 def check_text_direction(answer: Answer, cells: dict[str, str]) -> int:
@@ -795,7 +867,8 @@ def check_text_direction(answer: Answer, cells: dict[str, str]) -> int:
     number = case.source.directions.index(cells.pop("direction"))
     name, counts = case.unit(number)
     swept = answer.listing.directions[number]
-    claim = cells.pop("so in every run")
+    rounded = case.written is not None
+    claim = cells.pop("so in every run as stored" if rounded else "so in every run")
     bound, slack = cells.pop("largest bound"), cells.pop("slack")
     place, factor = cells.pop("at step"), cells.pop("factor")
     must(not cells, "more", cells)
@@ -823,9 +896,9 @@ def check_text_written(answer: Answer, cells: dict[str, str]) -> int:
     number = case.source.directions.index(cells.pop("direction"))
     name, counts = case.unit(number)
     values = [value / counts for value in case.written[number]]
-    figure, unit = matched(rf"({NUMBER}) (\S+)", cells.pop("largest as written"))
+    figure, unit = matched(rf"({FIGURE}) (\S+)", cells.pop("largest as written"))
     check_unit(unit, name, figure)
-    check_rounded_up(Printed(figure), max(values), "as written")
+    check_figure(figure, max(values), True, "as written")
     check_place(case, cells.pop("at step"), values.index(max(values)))
     told, above = cells.pop("above its bound"), answer.above(number)
     must(not cells, "more", cells)
@@ -866,11 +939,26 @@ def check_text_model(answer: Answer, section: Section) -> None:
         passed = {name for number, name in enumerate(names) if answer.above(number)}
     must(len(warnings) == bool(passed), "warnings", warnings)
     for row in warnings:
-        (listed_,) = matched(r"WARNING: as written, (.*) can pass the bound, .*rounded", row)
-        must(set(listed_.split(", ")) == passed, "warning", row)
+        check_warning(answer, row, passed)
     notes = [row.removeprefix("note: ") for row in section.rest if row.startswith("note: ")]
     must(len(notes) + len(warnings) == len(section.rest), "rows", section.rest)
     check_notes(case, notes)
+
+
+def check_warning(answer: Answer, row: str, passed: set[str]) -> None:
+    """Each direction that passes a bound is named once, and its largest bound with the amount."""
+    (told,) = matched(r"WARNING: as written, (.*); the bounds are those of the stored, rounded matrix",
+                      row)
+    named = []
+    for part in re.split(r", (?=\S+ passes)", told):
+        name, largest, figure, unit = matched(
+            rf"(\S+) passes (?:its largest bound by (({NUMBER}) (\S+))|the bound of some step)", part)
+        number = answer.case.source.directions.index(name)
+        check_above_largest(answer, number, Printed(figure) if largest else None)
+        if largest:
+            check_unit(unit, answer.case.unit(number)[0], figure)
+        named.append(name)
+    must(sorted(named) == sorted(passed), "warning", row)
 
 
 def check_all(cases: list[Case], folder: Path, plain: bool, part: int = 1) -> list[Answer]:

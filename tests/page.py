@@ -19,6 +19,7 @@ import sys
 import tempfile
 import unittest
 import zlib
+from decimal import Decimal
 from pathlib import Path
 
 ROOT = Path(__file__).resolve().parent.parent
@@ -235,6 +236,76 @@ class Pages(unittest.TestCase):
             for made_, kept in ((".html", ".html"), (".text", ".report")):
                 found = (FOLDER / f"{name}{made_}").read_bytes()
                 self.assertEqual(found, (EXAMPLES / f"{name}{kept}").read_bytes(), name)
+
+
+PEAK = re.compile(r"(peak|lowest) (-?[\d,.]+)(?: (\S+))? at step (\d+)")
+GUARD = re.compile(r"(.+): ([≤≥]) (\S+)(?: (?!\()(\S+))?(?: \(off scale\))? "
+                   r"(HIT|UNKNOWN|CLEAR|GROWTH|REACHED as written)(?: (\d+))?(?:, by ([\d,.]+)(?: \S+)?)?")
+
+
+def number(text: str) -> Decimal:
+    return Decimal(text.replace(",", ""))
+
+
+class Charts(unittest.TestCase):
+    """What the charts tell is what the JSON tells."""
+
+    def figures(self, *words: str | Path) -> tuple[list[str], list[dict], list[dict]]:
+        """The texts of a page's charts, whole, and the directions and guards of its model."""
+        made("figures", *words)
+        done = subprocess.run([ROOT / "report", "--json", *words], capture_output=True, cwd=ROOT,
+                              timeout=TIME_LIMIT)
+        (model,) = json.loads(done.stdout, parse_float=Decimal, parse_int=Decimal)["models"]
+        SHOWN.open(FOLDER / "figures.html")
+        told = SHOWN.run("""[...document.querySelectorAll("svg text")].map(node => {
+          const whole = node.querySelector("title");
+          return whole ? whole.textContent : node.textContent; })""")
+        return told, model["directions"], model["guards"]
+
+    def models(self) -> list[Path]:
+        written = FOLDER / "written.model"
+        written.write_text(
+            "coordinates value\nsteps 256\nrow ~0.9999\ninitial box\nlower 0\nupper 0\ninput box\n"
+            "lower 0\nupper 3700\ndirection d 1\nguard d 934900 between\nguard d 960000 above\n"
+        )
+        return [*sorted(EXAMPLES.glob("*.model")), FOLDER / "hard.model", FOLDER / "many.model", written]
+
+    def test_peaks_and_slacks(self) -> None:
+        seen = 0
+        for model in self.models():
+            told, directions, _ = self.figures(model)
+            swept = [one for one in directions if one["peak"] is not None]
+            expected = collections.Counter((abs(one["peak"]["bound"]), one["peak"]["step"]) for one in swept)
+            found = [match for words in told if (match := PEAK.match(words))]
+            with self.subTest(model.name):
+                shown = collections.Counter((abs(number(m[2])), Decimal(m[4])) for m in found)
+                self.assertEqual(shown, expected)
+                slacks = {max(one["slacks"]) for one in swept}
+                for words in told:
+                    if words.startswith("slack up to "):
+                        self.assertIn(number(words.split()[3]), slacks)
+            seen += len(found)
+        self.assertGreater(seen, 25)
+
+    def test_levels_verdicts_and_margins(self) -> None:
+        seen = collections.Counter()
+        for model in self.models():
+            told, _, guards = self.figures(model)
+            by_name = {one["name"] or f"guard {one['number']}": one for one in guards}
+            found = [match for words in told if (match := GUARD.fullmatch(words))]
+            with self.subTest(model.name):
+                self.assertEqual(sorted(m[1] for m in found), sorted(by_name))
+                for name, side, level, _, word, step, margin in (m.groups() for m in found):
+                    one = by_name[name]
+                    sign = -1 if side == "≤" else 1
+                    self.assertEqual(number(level), sign * one["level"])
+                    as_written = one["verdict"] == "CLEAR" and not one["clear"]
+                    self.assertEqual(word, "REACHED as written" if as_written else one["verdict"])
+                    certain = {"CLEAR": one["margin_least"], "HIT": -(one["margin_most"] or 0)}
+                    self.assertEqual(number(margin or "0"), certain.get(word, 0), name)
+                    self.assertEqual(step and Decimal(step), None if as_written else one["step"])
+                    seen[word] += 1
+        self.assertLessEqual({"HIT", "CLEAR", "GROWTH", "REACHED as written"}, set(seen))
 
 
 class Printed(unittest.TestCase):

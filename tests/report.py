@@ -250,7 +250,7 @@ class Written(Folder):
         self.assertGreater(max(above.values()), 500)
         self.assertEqual(len(above), 256)
         done = self.report(case.name)
-        self.assertRegex(done.stdout.decode(), r"\nWARNING: as written, largest can pass the bound")
+        self.assertRegex(done.stdout.decode(), r"\nWARNING: as written, largest passes ")
         self.assertRegex(done.stdout.decode(), r"at 256 steps, by up to 1,\d{3}(\.\d+)? counts at 256\n")
         # Its largest bound is at the start, and is not passed; without guards nothing is reached.
         self.assertEqual((done.returncode, max(case.written[0])), (0, 1_048_576))
@@ -268,7 +268,7 @@ class Written(Folder):
         self.assertEqual([answer.word(0), answer.word(1)], [AS_WRITTEN, CLEAR])
         done = self.report(case.name)
         self.assertEqual(done.returncode, 3)
-        self.assertRegex(done.stdout.decode(), rf"\nbetween .* {AS_WRITTEN} .* at step \d+\n")
+        self.assertRegex(done.stdout.decode(), rf"\nbetween .* {AS_WRITTEN} .* from step \d+\n")
         self.assertRegex(lines(done.stdout)[0], ": 1 REACHED AS WRITTEN, 1 CLEAR$")
         # In a row of several, too.
         self.put("other.model", NO_GUARD)
@@ -297,7 +297,8 @@ class Written(Folder):
         self.put("fitted.model", STILL.replace("row 0.5", "fitted 0.5"))
         names = "still.model", "marked.model", "fitted.model"
         (_, as_text), (_, as_json) = self.reports(["--full", *names], ["--json", *names])
-        self.assertNotIn("reached as written", as_text.stdout.decode())
+        told = as_text.stdout.decode()
+        self.assertEqual(told.count("as written"), told.count("values as written and the layout"))
         self.assertNotIn("WARNING", as_text.stdout.decode())
         for model in in_json(as_json.stdout)["models"]:
             self.assertIsNone(model["directions"][0]["as_written"])
@@ -878,8 +879,8 @@ guard gone 5 only-old
         for one in changes["directions"]:
             before, now = old_directions.get(one["name"]), new_directions.get(one["name"])
             self.compare(one, "bound", before and before["peak"]["bound"], now and now["peak"]["bound"])
-            self.assertEqual(one["old_step"], before and before["peak"]["step"])
-            self.assertEqual(one["new_step"], now and now["peak"]["step"])
+            self.assertEqual(one["old_bound_step"], before and before["peak"]["step"])
+            self.assertEqual(one["new_bound_step"], now and now["peak"]["step"])
         self.assertEqual(len(changes["guards"]), len({*new_guards, *old_guards}))
         for one in changes["guards"]:
             name = one["name"] or "guard 1"
@@ -887,7 +888,8 @@ guard gone 5 only-old
             self.compare(one, "margin", before and before["margin_least"], now and now["margin_least"])
             for end, guard in (("old", before), ("new", now)):
                 self.assertEqual(one[f"{end}_verdict"], guard and guard["verdict"])
-                self.assertEqual(one[f"{end}_step"], guard and guard["step"])
+                self.assertEqual(one[f"{end}_verdict_step"], guard and guard["step"])
+                self.assertEqual(one[f"{end}_level"], guard and guard["level"])
         self.assertTrue(any(one["bound_change"] for one in changes["directions"]))
         self.assertTrue(any(one["margin_change"] for one in changes["guards"]))
 
@@ -908,13 +910,16 @@ guard gone 5 only-old
 
         for one in changes["directions"]:
             row = by_name[one["name"], ""]
-            for column in ("old_bound", "new_bound", "bound_change", "old_step", "new_step"):
+            for column in ("old_bound", "new_bound", "bound_change", "old_bound_step",
+                           "new_bound_step"):
                 same(row[column], one[column])
-            units = [one[key] or "" for key in ("old_unit", "new_unit")]
+            units = ["" if one[f"{end}_bound"] is None else one[f"{end}_unit"] or "counts"
+                     for end in ("old", "new")]
             self.assertEqual([row["old_unit"], row["new_unit"]], units)
         for one in changes["guards"]:
             row = by_name[one["direction"], one["name"] or "guard 1"]
-            for column in ("old_margin", "new_margin", "margin_change", "old_step", "new_step"):
+            for column in ("old_margin", "new_margin", "margin_change", "old_verdict_step",
+                           "new_verdict_step", "old_level", "new_level"):
                 same(row[column], one[column])
             self.assertEqual((row["old_verdict"], row["new_verdict"]),
                              (one["old_verdict"] or "", one["new_verdict"] or ""))
@@ -942,7 +947,7 @@ guard gone 5 only-old
             figures = [Printed(number) for number in numbers]
             for value in told:
                 self.assertIn(value, figures, row)
-            self.assertEqual("  same  " in row, difference == 0, row)
+            self.assertEqual(bool(re.search(r"  same(  |$)", row)), difference == 0, row)
 
     def test_what_is_in_one_model_only_is_told(self) -> None:
         new, old = self.both()
@@ -987,7 +992,7 @@ guard gone 5 only-old
             self.assertEqual((one["old_unit"], one["new_unit"]), ("°C", "mV"))
             self.assertEqual(one[f"old_{what}"] * 16, one[f"new_{what}"])
             self.assertIsNone(one[f"{what}_change"])
-        self.assertRegex(self.report(*words).stdout.decode(), r"\nlargest .* °C, mV ")
+        self.assertRegex(self.report(*words).stdout.decode(), r"\nlargest .* not comparable +°C → mV ")
 
     def test_a_guard_that_is_reached_as_written_is_not_clear(self) -> None:
         level = math.floor(max(Case("", FED.encode()).written[0]))
@@ -1026,13 +1031,15 @@ class Names(Folder):
     """The keys of JSON and the columns of CSV stay."""
 
     COLUMNS = (
-        "model,result,direction,unit,factor,bound,bound_step,bound_time,slack,growth_step,largest_as_written,"
-        "most_above_bound,guard,level,verdict,verdict_step,verdict_time,margin_least,margin_most,"
-        "reached_as_written_step,clear,time_unit,message"
+        "model,result,direction,unit,factor,bound,bound_step,bound_time,slack,growth_step,"
+        "largest_as_written,above_largest_bound,most_above_bound,guard,level,verdict,verdict_step,"
+        "verdict_time,margin_least,margin_most,margin_as_written,reached_as_written_step,clear,"
+        "time_unit,message"
     )
     CHANGE_COLUMNS = (
-        "direction,guard,old_unit,new_unit,old_bound,new_bound,bound_change,old_margin,new_margin,"
-        "margin_change,old_verdict,new_verdict,old_step,new_step,old_clear,new_clear"
+        "direction,guard,old_unit,new_unit,old_bound,new_bound,bound_change,old_bound_step,"
+        "new_bound_step,old_level,new_level,old_margin,new_margin,margin_change,old_verdict,"
+        "new_verdict,old_verdict_step,new_verdict_step,old_clear,new_clear"
     )
     KEYS = {
         "": "format format_version program_version status models changes",
@@ -1040,17 +1047,19 @@ class Names(Folder):
         " notes guards directions",
         "refused": "name result status said message",
         "guards": "name number direction level level_counts verdict step time margin_least margin_most"
-        " reached_as_written reached_as_written_step clear",
+        " margin_as_written reached_as_written reached_as_written_step clear",
         "directions": "name number entries unit counts_per_unit factor growth_step peak as_written bounds"
         " slacks proved",
         "peak": "step time bound slack",
-        "as_written": "step time largest steps_above_bound most_above_bound most_above_bound_step values",
+        "as_written": "step time largest above_largest_bound steps_above_bound most_above_bound"
+        " most_above_bound_step values",
         "proved": "spare bounds slacks",
         "changes": "old new directions guards",
-        "changed directions": "name old_unit new_unit old_bound new_bound bound_change old_step"
-        " new_step",
-        "changed guards": "name direction old_unit new_unit old_number new_number old_verdict"
-        " new_verdict old_step new_step old_clear new_clear old_margin new_margin margin_change",
+        "changed directions": "name old_unit new_unit old_bound new_bound bound_change"
+        " old_bound_step new_bound_step",
+        "changed guards": "name direction old_unit new_unit old_number new_number old_level"
+        " new_level old_verdict new_verdict old_verdict_step new_verdict_step old_clear new_clear"
+        " old_margin new_margin margin_change",
     }
 
     def test_the_columns_of_csv(self) -> None:
@@ -1266,14 +1275,15 @@ class Checks(unittest.TestCase):
                         check_csv_model(answer, wrong)
                     found[column] += 1
         columns = {"factor", "bound", "bound_step", "bound_time", "slack", "largest_as_written", "level", "verdict_step",
-                   "verdict_time", "margin_least", "margin_most", "reached_as_written_step"}
+                   "verdict_time", "margin_least", "margin_most", "margin_as_written",
+                   "reached_as_written_step"}
         self.assertEqual(set(found), columns)
 
     def test_a_claim_that_is_wrong_is_found(self) -> None:
         for number, told, good in (
             (0, "rail ≥ 21,504 mV", True), (0, "rail ≥ 21,516 mV", False), (0, "rail ≤ 21,504 mV", False),
-            (0, "current ≥ 21,504 mV", False), (0, "rail ≥ 21,504 mA", False), (0, "-rail ≤ -21,504 mV", True),
-            (0, "-rail ≤ -21,600 mV", False), (1, "rail ≤ 24,640 mV", True), (1, "rail ≤ 24,639 mV", False),
+            (0, "current ≥ 21,504 mV", False), (0, "rail ≥ 21,504 mA", False), (0, "-rail ≤ -21,504 mV", False),
+            (0, "lowest ≤ -21,504 mV", False), (1, "rail ≤ 24,640 mV", True), (1, "rail ≤ 24,639 mV", False),
             (1, "2 rail ≤ 60,000 mV", False), (1, "rail + current ≤ 60,000 mV", False),
         ):
             with self.subTest(told):

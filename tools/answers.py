@@ -3,7 +3,10 @@
 A direction may be multiplied by a whole number, its *factor*, before it is swept, and the levels of
 its guards with it: the runs are the same ones, and bound and slack are then divided by the factor.
 So everything here is a fraction, in the direction's unit where the text names one and otherwise in
-counts. Nothing is rounded here (`quantities`), and nothing is run (`reporting`).
+counts. Nothing is run here (`reporting`).
+
+In order: guards; values of a matrix as it was written; directions, with nothing rounded; their
+figures as they are told, rounded outward; the directions of a model, and pairs of them.
 """
 
 from __future__ import annotations
@@ -15,7 +18,8 @@ from functools import cached_property
 from typing import Mapping, Sequence
 
 from layout import Vector
-from listings import Growth, Listing, Sweep, Verdict
+from listings import CLEAR, GROWTH, HIT, UNKNOWN, Growth, Listing, Sweep, Verdict
+from quantities import exactly, places_for, places_to, rounded_down, rounded_up
 from textform import Source, Unit
 
 
@@ -104,6 +108,9 @@ class Direction:
     unit: Unit | None = None
     guards: tuple[Guard, ...] = ()
     written: Written | None = None  # only where the matrix was rounded
+    # What the coordinates, in the unit that figures are in, are multiplied by; None where the text
+    # doesn't tell it.
+    coefficients: tuple[Fraction, ...] | None = None
 
     @property
     def counts(self) -> int:
@@ -156,6 +163,116 @@ class Direction:
         return level - self.largest_bound, level - self.largest_low
 
 
+# What is said of a guard, the most urgent first. A guard that the stored matrix leaves clear, and
+# that the matrix as written reaches, stands right behind those that are hit.
+REACHED_AS_WRITTEN = "REACHED AS WRITTEN"
+URGENCY = (HIT, REACHED_AS_WRITTEN, GROWTH, UNKNOWN, CLEAR)
+
+
+@dataclass(frozen=True)
+class Figures:
+    """A direction with the decimals that its figures are told with, all rounded outward."""
+
+    direction: Direction
+
+    @cached_property
+    def places(self) -> int:
+        """As many as tell a tenth of the slack and of each margin; fewer where that is exact.
+
+        Where there is no slack, a count of the multiplied direction stands for ten of it.
+        """
+        one = self.direction
+        if isinstance(one.swept, Growth):
+            return places_to(Fraction(1, one.counts))
+        finest = Fraction(1, 10 * one.factor * one.counts)
+        slacks = [bound - low for bound, low in zip(one.bounds, one.lows)]
+        margins = [end for guard in one.guards for end in one.margin(guard)]
+        sizes = [slacks[one.peak] or finest, *map(abs, filter(None, margins))]
+        peak = [one.largest_bound, one.lows[one.peak], *margins]
+        every = [*one.bounds, *one.lows]
+        return max(places_for(peak, min(sizes)), places_for(every, max(slacks) or finest))
+
+    def bound(self, step: int) -> Fraction:
+        return rounded_up(self.direction.bounds[step], self.places)
+
+    def slack(self, step: int) -> Fraction:
+        """What lies between the bound as told and a value that some run comes to."""
+        return self.bound(step) - rounded_down(self.direction.lows[step], self.places)
+
+    def margin(self, guard: Guard) -> tuple[Fraction, Fraction]:
+        """As `Direction.margin`: the lower end rounded down, the upper one up."""
+        least, most = self.direction.margin(guard)
+        return rounded_down(least, self.places), rounded_up(most, self.places)
+
+    @property
+    def largest_slack(self) -> Fraction:
+        return max(self.slack(step) for step in range(len(self.direction.bounds)))
+
+    def written(self, step: int) -> Fraction:
+        """The exact value of the matrix as written, rounded up."""
+        return self.direction.written.up(step, self.direction.counts, self.places)
+
+    @cached_property
+    def above(self) -> dict[int, Fraction]:
+        """The steps at which that value is above the bound, with the difference rounded up."""
+        one = self.direction
+        if one.written is None or isinstance(one.swept, Growth):
+            return {}
+        return {
+            step: one.written.up(step, one.counts, self.places, bound)
+            for step, bound in enumerate(one.bounds)
+            if one.written.passes(step, one.counts * bound)
+        }
+
+    @cached_property
+    def most_above(self) -> int | None:
+        """The first step at which that difference is largest."""
+        one = self.direction
+        bounds = {step: one.bounds[step] for step in self.above}
+        return one.written.farthest(bounds, one.counts) if bounds else None
+
+    @cached_property
+    def above_largest(self) -> Fraction | None:
+        """By how much the largest value as written is above the largest bound, rounded up."""
+        one = self.direction
+        if not self.above or not one.written.passes(one.written.peak, one.counts * one.largest_bound):
+            return None
+        return one.written.up(one.written.peak, one.counts, self.places, one.largest_bound)
+
+    def written_margin(self, guard: Guard) -> Fraction:
+        """The level minus the largest value as written, rounded down."""
+        one = self.direction
+        level = one.level(guard)
+        return -one.written.up(one.written.peak, one.counts, self.places, level)
+
+    @cached_property
+    def reached(self) -> dict[int, int | None]:
+        """Of each guard the first step at which the matrix as written reaches the level."""
+        written = self.direction.written
+        return {
+            guard.number: None if written is None else written.reached(guard.level)
+            for guard in self.direction.guards
+        }
+
+    def reached_as_written(self, guard: Guard) -> int | None:
+        return self.reached[guard.number]
+
+    def word(self, guard: Guard) -> str:
+        """The verdict's word, or that the level is reached by the matrix as written alone."""
+        if guard.said.word == CLEAR and self.reached_as_written(guard) is not None:
+            return REACHED_AS_WRITTEN
+        return guard.said.word
+
+    def urgency(self, guard: Guard) -> tuple[int, Fraction]:
+        """What guards are ordered by: the verdict, then the margin as a share of all bounds."""
+        word, one = self.word(guard), self.direction
+        if isinstance(one.swept, Growth):
+            return URGENCY.index(word), Fraction(0)
+        span = one.largest_bound - min(one.lows)
+        margin = one.margin(guard)[1 if word == HIT else 0]
+        return URGENCY.index(word), margin / (span or 1)
+
+
 def directions_of(
     listing: Listing,
     source: Source,
@@ -178,9 +295,28 @@ def directions_of(
             units[number],
             tuple(guards[number]),
             written[number] if written else None,
+            coefficients(source, number),
         )
         for number, name in enumerate(source.directions)
     )
+
+
+def coefficients(source: Source, number: int) -> tuple[Fraction, ...] | None:
+    """Of a direction in its unit, by the coordinates in theirs; None where that isn't known.
+
+    In counts these are its entries. Where all coordinates that count have the unit of the direction,
+    their counts and its own make up for each other. Where none of them has a unit, a sum or
+    difference of single coordinates is in their counts.
+    """
+    entries, unit = source.model.directions[number], source.direction_units[number]
+    if unit is None:
+        return tuple(map(Fraction, entries))
+    units = [one for one, entry in zip(source.coordinate_units, entries) if entry]
+    if all(one is not None and one[0] == unit[0] for one in units):
+        counts = [1 if one is None else one[1] for one in source.coordinate_units]
+        return tuple(Fraction(entry * each, unit[1]) for entry, each in zip(entries, counts))
+    alone = not any(units) and max(map(abs, entries)) == 1
+    return tuple(map(Fraction, entries)) if alone else None
 
 
 def scale(direction: Direction) -> Fraction:
@@ -199,12 +335,12 @@ def opposite(one: Direction, other: Direction) -> bool:
     return primitive(one.entries) == turned and same_unit
 
 
-def expression(entries: Sequence[int], names: Sequence[str]) -> str:
-    """A direction as a sum over the coordinates: `-rail + 2 sink`."""
+def expression(factors: Sequence[int | Fraction], names: Sequence[str]) -> str:
+    """A sum over the coordinates: `-rail + 2 sink`."""
     told = ""
-    for entry, name in zip(entries, names):
-        if entry:
-            sign = "-" if entry < 0 else "+" if told else ""
-            factor = "" if abs(entry) == 1 else f"{abs(entry)} "
-            told += f" {sign} {factor}{name}" if told else f"{sign}{factor}{name}"
+    for factor, name in zip(factors, names):
+        if factor:
+            sign = "-" if factor < 0 else "+" if told else ""
+            times = "" if abs(factor) == 1 else f"{exactly(Fraction(abs(factor)), grouped=False)} "
+            told += f" {sign} {times}{name}" if told else f"{sign}{times}{name}"
     return told

@@ -6,7 +6,9 @@
 Each direction has a panel: its bound and its bound - slack over the steps, and the slack by itself
 below. Where two directions are the highest and the lowest of the same they share a panel, which
 shows the tube between them. The largest bound is marked and told, and of each guard how far its
-level is from the largest value, as far as that is certain; all of this is rounded outward.
+level is from the largest value, as far as that is certain; all of this is rounded outward, with the
+decimals of `answers.Figures`. Where the matrix as it was written passes a bound, its values are
+drawn too.
 
 A listing has numbers only, so the names, the guard levels, the units and the time of a step come
 from the model where one is given (its text, or packed without units and time). Line styles differ,
@@ -32,7 +34,7 @@ import files
 import listings
 import pack
 import quantities
-from answers import Direction, Guard
+from answers import REACHED_AS_WRITTEN, Direction, Figures, Guard
 from listings import CLEAR, GROWTH, HIT, UNKNOWN, Growth, Listing, Refusal, Verdict
 from svg import Scale, cut, element, fitted, path, segment, spread, text, ticks, width, wrapped
 
@@ -64,7 +66,9 @@ GUARD_STYLE = {
     UNKNOWN: ("#8a5a00", "6 4"),
     CLEAR: ("#17692b", "2 3"),
     GROWTH: ("#555555", "2 3"),
+    REACHED_AS_WRITTEN: ("#b00020", "1 4 7 4"),
 }
+REACHED = "REACHED as written"  # the verdict as it is told where only the matrix as written does so
 
 
 # Strokes and marks
@@ -87,12 +91,17 @@ def guard_stroke(word: str) -> dict[str, object]:
     return {"stroke": colour, "stroke_width": 1.5, "stroke_dasharray": dashes}
 
 
+def written_stroke() -> dict[str, object]:
+    """The stroke of values as written."""
+    return {"fill": "none", "stroke": "#b00020", "stroke_width": 1.2, "stroke_dasharray": "1 2"}
+
+
 def guard_mark(word: str, x: float, y: float) -> str:
-    """A full circle for HIT, an open one for UNKNOWN, nothing for CLEAR."""
-    if word not in (HIT, UNKNOWN):
+    """A full circle for what is reached, an open one for UNKNOWN, nothing for CLEAR."""
+    if word not in (HIT, UNKNOWN, REACHED_AS_WRITTEN):
         return ""
     colour = GUARD_STYLE[word][0]
-    fill = colour if word == HIT else "#ffffff"
+    fill = "#ffffff" if word == UNKNOWN else colour
     stroke = {"stroke": colour, "stroke_width": 2}
     return element("circle", cx=float(x), cy=float(y), r=5, fill=fill, **stroke)
 
@@ -127,6 +136,10 @@ class Curve:
         return -value if self.turned else value
 
     @cached_property
+    def figures(self) -> Figures:
+        return Figures(self.direction)
+
+    @cached_property
     def bounds(self) -> list[Fraction]:
         return [self.placed(value) for value in self.direction.bounds]
 
@@ -142,31 +155,34 @@ class Curve:
     def level(self, guard: Guard) -> Fraction:
         return self.placed(self.direction.level(guard))
 
-    def margin(self, guard: Guard) -> Fraction | None:
-        """How far the level certainly is from the largest value; None where nothing is certain.
+    @cached_property
+    def written(self) -> list[Fraction]:
+        """The values of the matrix as written, where they pass a bound."""
+        steps = range(len(self.bounds)) if self.figures.above else ()
+        return [self.placed(self.figures.written(step)) for step in steps]
+
+    def amount(self, value: Fraction) -> str:
+        """A figure with its unit, where that has a name."""
+        number = quantities.told(value, self.figures.places)
+        return number if self.direction.unit is None else f"{number} {self.direction.unit_name}"
+
+    @property
+    def peak_told(self) -> str:
+        """The largest bound, of a turned one the lowest value, rounded outward."""
+        return self.amount(self.placed(self.figures.bound(self.direction.peak)))
+
+    @property
+    def slack_told(self) -> str:
+        return self.amount(self.figures.largest_slack)
+
+    def margin_told(self, guard: Guard) -> str:
+        """How far the level certainly is from the largest value; nothing where it isn't certain.
 
         Of a CLEAR guard how far above it, of one that is HIT how far below it.
         """
-        if guard.said.word not in (HIT, CLEAR):
-            return None
-        least, most = self.direction.margin(guard)
-        return least if guard.said.word == CLEAR else -most
-
-    def amount(self, number: str) -> str:
-        """A number with its unit, where that has a name."""
-        return number if self.direction.unit is None else f"{number} {self.direction.unit_name}"
-
-    def peak_told(self, places: int) -> str:
-        """The largest bound, of a turned one the lowest value, rounded outward."""
-        rounded = quantities.told_down if self.turned else quantities.told_up
-        return self.amount(rounded(self.bounds[self.direction.peak], places))
-
-    def margin_told(self, guard: Guard, places: int) -> str:
-        """The margin, rounded down to at most so many places; nothing where it is none or zero."""
-        margin = self.margin(guard)
-        if not margin:
-            return ""
-        return f", by {self.amount(quantities.told_down(margin, min(places, digits(margin))))}"
+        least, most = self.figures.margin(guard)
+        margin = {CLEAR: least, HIT: -most}.get(self.figures.word(guard))
+        return f", by {self.amount(margin)}" if margin else ""
 
 
 @dataclass(frozen=True)
@@ -224,7 +240,8 @@ class Panel:
 
         It has the room of one count at the least.
         """
-        values = [value for curve in self.curves for value in (*curve.bounds, *curve.lows)]
+        values = [value for curve in self.curves
+                  for value in (*curve.bounds, *curve.lows, *curve.written)]
         low, high = min(values), max(values)
         count = self.curves[0].direction.figure(1)
         near = max(high - low, count)
@@ -245,27 +262,23 @@ class Panel:
         whole = all(curve.direction.counts * curve.direction.factor == 1 for curve in self.curves)
         return ticks(*self.span, self.height // TICK_SPACE, 1 if whole else 0)
 
-    @property
-    def largest_slack(self) -> Fraction:
-        return max(slack for curve in self.curves for slack in curve.slacks)
-
     @cached_property
-    def places(self) -> int:
-        """The decimals of peaks and margins: those of the axis, and two digits of each margin."""
-        low, high = self.span
-        found = [curve.margin(guard) for curve, guard in self.guards]
-        margins = [margin for margin in found if margin]
-        peaks = [curve.direction.largest_bound for curve in self.curves]
-        return quantities.places_for([*peaks, *margins], min([(high - low) / 100, *margins]))
+    def slacks(self) -> dict[Fraction, str]:
+        """The numbers of the strip: zero, and the largest slack as it is told."""
+        curve = max(self.curves, key=lambda curve: max(curve.slacks))
+        largest = quantities.told(curve.figures.largest_slack, curve.figures.places)
+        return {Fraction(0): "0"} | ({max(curve.slacks): largest} if any(curve.slacks) else {})
 
     def label(self, curve: Curve, guard: Guard) -> Label:
         """`resets: ≤ 21,000 mV CLEAR, by 489 mV`, with `(off scale)` behind a level that is."""
         level, margin = curve.level(guard), ""
-        told = f"{'≤' if curve.turned else '≥'} {curve.amount(quantities.exactly(level))}"
+        unit = "" if curve.direction.unit is None else f" {curve.direction.unit_name}"
+        told = f"{'≤' if curve.turned else '≥'} {quantities.exactly(level)}{unit}"
         if self.growth is None:
-            margin = curve.margin_told(guard, self.places)
+            margin = curve.margin_told(guard)
             told += "" if self.span[0] <= level <= self.span[1] else " (off scale)"
-        return Label(guard.label, told, str(guard.said), margin)
+        said = REACHED if curve.figures.word(guard) == REACHED_AS_WRITTEN else str(guard.said)
+        return Label(guard.label, told, said, margin)
 
     @property
     def note(self) -> str:
@@ -279,20 +292,10 @@ class Panel:
         return ", ".join(dict.fromkeys(notes))
 
 
-def digits(value: Fraction) -> int:
-    """Decimals that tell a positive value exactly, or else three of its digits."""
-    return quantities.places_for([value], value / 10)
-
-
 def numbers(values: Sequence[Fraction]) -> list[str]:
     """Decimals, all with as many places as they need."""
     places = max(quantities.exact_places(value) for value in values)
     return [quantities.told(value, places) for value in values]
-
-
-def slack_told(slack: Fraction) -> str:
-    """A slack, rounded up where it has more than three digits."""
-    return quantities.told_up(slack, digits(slack) if slack else 0)
 
 
 # Panels and pages
@@ -324,7 +327,9 @@ def panels(directions: Sequence[Direction]) -> list[Group]:
 def panel_of(group: Group, coordinates: Sequence[str]) -> Panel:
     """A panel with its heading: `hottest = element`, of a tube `highest, lowest: rail`."""
     names = ", ".join(direction.name for direction in group)
-    told = answers.expression(group[0].entries, coordinates)
+    told = answers.expression(group[0].coefficients or (), coordinates)
+    if len(group) > 1 and not told:
+        return Panel(names, tuple(map(Curve, group, (False, True))))
     if len(group) > 1:
         return Panel(f"{names}: {told}", tuple(map(Curve, group, (False, True))))
     return Panel(names if told in ("", names) else f"{names} = {told}", (Curve(group[0]),))
@@ -358,7 +363,7 @@ def page_of(shown: Sequence[Panel], time: Time | None = None) -> Page:
     """Margins that hold the widest number on the left and the widest guard label on the right."""
     swept = [panel for panel in shown if panel.growth is None]
     told = [number for panel in swept for number in numbers(panel.values)]
-    told += [slack_told(panel.largest_slack) for panel in swept]
+    told += [number for panel in swept for number in panel.slacks.values()]
     labels = [panel.label(*pair).width for panel in shown for pair in panel.guards]
     left = max(LEFT, TURNED_LABEL + math.ceil(max(map(width, told), default=0)) + TICK_GAP)
     least = RIGHT_MARGIN - LEADER - LABEL_SPACE - MARGIN
@@ -388,16 +393,19 @@ def peak_row(page: Page, y: float, panel: Panel, curve: Curve) -> Iterable[str]:
     In a tube, which has two lines of slacks, the largest slack and its stroke stand on the right.
     """
     start, end = page.left + 2 * DIAMOND + 6, float(page.right)
+    what, value = "lowest " if curve.turned else "peak ", curve.peak_told
+    told = start + width(what) + width(value, bold=True)
     if panel.tube:
-        slack = f"slack up to {curve.amount(slack_told(max(curve.slacks)))}"
-        yield segment(end - SAMPLE, y - 4, end, y - 4, **slack_stroke(curve.turned))
-        yield text(end - SAMPLE - 6, y, slack, text_anchor="end")
-        end -= SAMPLE + 6 + width(slack) + LABEL_SPACE
+        end -= SAMPLE + 6
+        yield segment(end + 6, y - 4, page.right, y - 4, **slack_stroke(curve.turned))
+        slack = f"slack up to {curve.slack_told}"
+        shown = cut(slack, end - told - LABEL_SPACE)
+        yield text(end, y, shown, whole=slack, text_anchor="end")
+        end -= width(shown) + LABEL_SPACE
     step = curve.direction.peak
     time = "" if page.time is None else f" ({page.time_at(step)} {page.time[1]})"
-    what, value = "lowest " if curve.turned else "peak ", curve.peak_told(panel.places)
     behind = f" at step {step}{time}"
-    room = end - start - width(what) - width(value, bold=True)
+    room = end - told
     yield peak_mark(page.left + DIAMOND, y - 4)
     yield text(start, y, what, bold=value, behind=cut(behind, room), whole=what + value + behind)
 
@@ -415,7 +423,9 @@ def guard_parts(page: Page, panel: Panel, x: Scale, y: Scale, bottom: float) -> 
     labels = spread(places, y.end + 4, bottom, LABEL_SPACE)
     end, marks = page.right + LEADER, []
     for (curve, guard), level, place, label in zip(panel.guards, levels, places, labels):
-        word, step = guard.said.word, guard.said.step
+        word, step = curve.figures.word(guard), guard.said.step
+        if word == REACHED_AS_WRITTEN:
+            step = curve.figures.reached_as_written(guard)
         colour = GUARD_STYLE[word][0]
         if y.shows(level):
             yield segment(page.left, place, page.right, place, **guard_stroke(word))
@@ -440,7 +450,8 @@ def peak_parts(curve: Curve, x: Scale, y: Scale) -> Iterable[str]:
     place = y(curve.bounds[step])
     seen = abs(y(curve.placed(direction.largest_low)) - place) > LEAST_ARROW
     words = (CLEAR,) if seen else (CLEAR, HIT)
-    levels = [curve.level(guard) for guard in direction.guards if guard.said.word in words]
+    levels = [curve.level(guard) for guard in direction.guards
+              if curve.figures.word(guard) in words]
     places = [y(level) for level in levels if y.shows(level)]
     far = [each for each in places if abs(each - place) >= DIAMOND + LEAST_ARROW]
     if far:
@@ -498,6 +509,8 @@ def curve_parts(curve: Curve, x: Scale, y: Scale) -> Iterable[str]:
     yield path(bounds + lows[::-1], closed=True, fill=BAND)
     yield path(bounds, **bound_stroke(lower=False))
     yield path(lows, **bound_stroke(lower=True))
+    if curve.written:
+        yield path(points(x, y, curve.written), **written_stroke())
     if len(bounds) <= 41:
         for place_x, place_y in bounds:
             yield element("circle", cx=place_x, cy=place_y, r=2.5, fill=INK)
@@ -522,8 +535,7 @@ def sweep_panel(page: Page, top: float, panel: Panel) -> tuple[list[str], float]
     bottom = strip_top + STRIP_HEIGHT
     x = Scale(0, len(panel.curves[0].bounds) - 1, page.left, page.right)
     y = Scale(*panel.span, strip_top - STRIP_GAP, top)
-    largest = panel.largest_slack
-    strip = Scale(0, Fraction(115, 100) * (largest or 1), bottom, strip_top)
+    strip = Scale(0, Fraction(115, 100) * (max(panel.slacks) or 1), bottom, strip_top)
     parts: list[str] = []
     if panel.tube:
         upper, lower = (points(x, y, curve.bounds) for curve in panel.curves)
@@ -533,8 +545,7 @@ def sweep_panel(page: Page, top: float, panel: Panel) -> tuple[list[str], float]
         parts.append(segment(*across, stroke=FAINT, stroke_width=1))
     parts += step_axis(page, x, y, bottom)
     parts += value_axis(page, y, zip(panel.values, numbers(panel.values)), panel.unit_name)
-    slacks = {value: slack_told(value) for value in (Fraction(0), largest)}
-    parts += value_axis(page, strip, slacks.items(), "slack")
+    parts += value_axis(page, strip, panel.slacks.items(), "slack")
     for curve in panel.curves:
         parts += curve_parts(curve, x, y)
     parts += strip_parts(panel, x, strip)
@@ -575,8 +586,15 @@ def panel_parts(page: Page, top: float, panel: Panel) -> tuple[list[str], float]
     return parts + below, end
 
 
-def legend(page: Page, y: float, with_levels: bool) -> tuple[list[str], float]:
-    """What the strokes and marks mean, and where the last row is."""
+def legend(
+    page: Page, y: float, with_levels: bool, directions: Sequence[Direction] = ()
+) -> tuple[list[str], float]:
+    """What the strokes and marks mean, and where the last row is.
+
+    Strokes of the matrix as written are told only where these directions have one.
+    """
+    figures = [Figures(one) for one in directions]
+    words = {one.word(guard) for one in figures for guard in one.direction.guards}
     parts: list[str] = []
     x = float(page.left)
 
@@ -587,13 +605,16 @@ def legend(page: Page, y: float, with_levels: bool) -> tuple[list[str], float]:
 
     for lower, name in ((False, "bound"), (True, "bound - slack")):
         item(name, SAMPLE, segment(x, y, x + SAMPLE, y, **bound_stroke(lower)))
+    if any(one.above for one in figures):
+        item("as written", SAMPLE, segment(x, y, x + SAMPLE, y, **written_stroke()))
     item("peak: the largest bound", 2 * DIAMOND, peak_mark(x + DIAMOND, y))
     if with_levels:
         item("margin: how far a level is from the peak", 8, *arrow(x + 4, y - 9, y + 9))
         x, y = float(page.left), y + LEGEND_ROW
-        for word in (HIT, UNKNOWN, CLEAR):
+        told = {HIT: HIT, UNKNOWN: UNKNOWN, CLEAR: CLEAR}
+        for word, name in (told | {word: REACHED for word in words & {REACHED_AS_WRITTEN}}).items():
             line = segment(x, y, x + SAMPLE, y, **guard_stroke(word))
-            item(f"guard level, {word}", SAMPLE, line, guard_mark(word, x + SAMPLE / 2, y))
+            item(f"guard level, {name}", SAMPLE, line, guard_mark(word, x + SAMPLE / 2, y))
     return parts, y
 
 
@@ -640,7 +661,7 @@ def draw(
     n = len(coordinates)
     size = f"{n} coordinate{'s' if n > 1 else ''}, steps 0 to {steps}"
     parts, more = heading(page, 30, title, 18, size)
-    below, top = legend(page, 58 + more, with_levels)
+    below, top = legend(page, 58 + more, with_levels, directions)
     parts += below
     top += 26
     for panel in shown:
@@ -664,10 +685,10 @@ def draw_panel(group: Group, coordinates: Sequence[str], time: Time | None = Non
     return draw_panels([group], coordinates, time)[0]
 
 
-def draw_legend(with_levels: bool = True) -> str:
-    """The picture of the legend alone."""
+def draw_legend(with_levels: bool = True, directions: Sequence[Direction] = ()) -> str:
+    """The picture of the legend alone, for these directions."""
     page = page_of([])
-    parts, bottom = legend(page, 16, with_levels)
+    parts, bottom = legend(page, 16, with_levels, directions)
     return picture(page, parts, bottom + 16)
 
 

@@ -64,6 +64,15 @@ def told_down(value: Fraction, places: int, grouped: bool = True) -> str:
     return told(rounded_down(value, places), places, grouped)
 
 
+def about(value: Fraction, up: bool) -> str:
+    """Three digits of a large value and its power of ten, rounded up or down: `3.81e45`."""
+    power = len(str(abs(value.numerator) // value.denominator)) - 1
+    digits = (math.ceil if up else math.floor)(value / Fraction(10) ** (power - 2))
+    if abs(digits) == 1000:
+        digits, power = digits // 10, power + 1
+    return f"{digits / 100:.2f}e{power}"
+
+
 def exactly(value: Fraction, grouped: bool = True) -> str:
     """The value itself: a decimal without trailing zeros, or a fraction where it is none."""
     places = exact_places(value)

@@ -11,7 +11,8 @@ the text names, and in counts where it names none.
 
 A MODEL is a text (python3 tools/pack.py --help shows the form) or a packed file; it may be a pipe,
 and - is standard input. Of a folder all texts (*.model) and packed files (*.bin) in it and below it
-are taken, but for a packed file that its text beside it packs to. Several models have a row each.
+are taken, but for a packed file that its text beside it packs to, and for linked folders. Several
+models have a row each.
 
 Bounds, slacks and verdicts are those of the proved program envelope, which ./run builds where it is
 missing or older than its sources. Each direction is multiplied by the largest whole number, its
@@ -149,11 +150,11 @@ def run(arguments: Sequence[str]) -> int:
     counted = [one.status for one in results if one is results[0] or isinstance(one, Failed)]
     status = worst([one.status for one in results] if options.against is None else counted)
     told = text_of(results, found, status, options)
+    if options.html is not None:
+        files.write_bytes(options.html, page.page(results, found).encode("utf-8"))
     # Only now: a program that leaves a part of its input unread would end this one too.
     signal.signal(signal.SIGPIPE, signal.SIG_DFL)
     files.write_bytes(None, told.encode("utf-8"))
-    if options.html is not None:
-        files.write_bytes(options.html, page.page(results, found).encode("utf-8"))
     return status
 
 

@@ -8,6 +8,7 @@ import shutil
 import signal
 import sys
 from concurrent.futures import ProcessPoolExecutor, as_completed
+from concurrent.futures.process import BrokenProcessPool
 from typing import Iterator, NoReturn, Sequence
 
 import files
@@ -44,16 +45,19 @@ class Progress:
             sys.stderr.flush()
 
 
+def failed(name: str, reason: str) -> Failed:
+    return Failed(name, "could not be run", f"report: {name}: {reason}", NOT_RUN)
+
+
 def result_of(given: Input, plain: bool) -> Result:
     """The report of a model; whatever goes wrong with it is told and stops no other."""
     try:
         return report_of(given, plain)
     except files.Failure as failure:
-        return Failed(given.name, "could not be run", f"report: {failure}", NOT_RUN)
+        return failed(given.name, str(failure))
     except Exception as error:
         said = f"{type(error).__name__}: {error}"
-        message = f"report: {given.name}: a fault of the tool, please tell us: {said}"
-        return Failed(given.name, "could not be run", message, NOT_RUN)
+        return failed(given.name, f"a fault of the tool, please tell us: {said}")
 
 
 def stop(progress: Progress) -> NoReturn:
@@ -78,7 +82,11 @@ def results_at_once(
         places = {pool.submit(result_of, one, plain): place for place, one in enumerate(given)}
         signal.pthread_sigmask(signal.SIG_UNBLOCK, {signal.SIGINT})
         for done in as_completed(places):
-            yield places[done], done.result()
+            place = places[done]
+            try:
+                yield place, done.result()
+            except BrokenProcessPool:
+                yield place, failed(given[place].name, "its process was ended")
     signal.signal(signal.SIGINT, before)
 
 

@@ -10,10 +10,9 @@ from dataclasses import dataclass, replace
 from fractions import Fraction
 from typing import Callable, Hashable, Iterable, TypeVar
 
-from answers import Guard
-from listings import Growth
+from answers import Direction, Figures, Guard
 
-from .reports import Figures, Report
+from .reports import Report
 
 Part = TypeVar("Part")
 GuardFigures = tuple[Figures, Guard]
@@ -37,24 +36,29 @@ def paired(
 
 @dataclass(frozen=True)
 class Change:
-    """A figure before and now, each with its decimals; None where there is none."""
+    """A figure before and now as told, with its decimals; None where there is none."""
 
     old: Fraction | None
     new: Fraction | None
     places: int
+    comparable: bool = False  # of one quantity, in one unit
+    same: bool = False  # and equal, before any rounding
 
     @property
     def difference(self) -> Fraction | None:
-        return None if self.old is None or self.new is None else self.new - self.old
+        if self.old is None or self.new is None or not self.comparable:
+            return None
+        return self.new - self.old
 
 
 @dataclass(frozen=True)
 class DirectionChange:
     old: Figures | None
     new: Figures | None
+    comparable: bool  # whether both are there, and are the same direction in the same unit
 
     @property
-    def any(self) -> Figures:
+    def either(self) -> Figures:
         return self.new or self.old
 
     @property
@@ -63,38 +67,42 @@ class DirectionChange:
         there = [one.direction.unit_name for one in (self.old, self.new) if one is not None]
         return list(dict.fromkeys(there))
 
-    @property
-    def comparable(self) -> bool:
-        """Whether both are there, in one unit."""
-        return self.old is not None and self.new is not None and len(self.units) == 1
-
-    @property
-    def places(self) -> int:
-        return max(one.places for one in (self.old, self.new) if one is not None)
+    def change(
+        self, told: Callable[[Figures], Fraction], exact: Callable[[Direction], Fraction]
+    ) -> Change:
+        """The change of a figure that is told so, and is exactly so."""
+        old, new = (one if one is not None and one.direction.bounds else None
+                    for one in (self.old, self.new))
+        places = max((one.places for one in (old, new) if one is not None), default=0)
+        values = [None if one is None else told(one) for one in (old, new)]
+        both = self.comparable and old is not None and new is not None
+        same = both and exact(old.direction) == exact(new.direction)
+        return Change(*values, places, self.comparable, same)
 
     @property
     def bound(self) -> Change:
-        """The largest bound, as it is told."""
-        return Change(*(largest_bound(one) for one in (self.old, self.new)), self.places)
+        """The largest bound."""
+        return self.change(lambda one: one.bound(one.direction.peak), lambda one: one.largest_bound)
 
 
 @dataclass(frozen=True)
 class GuardChange:
     old: GuardFigures | None
     new: GuardFigures | None
+    direction: DirectionChange
 
     @property
-    def any(self) -> GuardFigures:
+    def either(self) -> GuardFigures:
         return self.new or self.old
-
-    @property
-    def direction(self) -> DirectionChange:
-        return DirectionChange(*(one and one[0] for one in (self.old, self.new)))
 
     @property
     def margin(self) -> Change:
         """How far the largest bound stays below the level; below 0 where it doesn't."""
-        return Change(*(least_margin(one) for one in (self.old, self.new)), self.direction.places)
+        guards = {id(one.direction): guard for one, guard in filter(None, (self.old, self.new))}
+        return self.direction.change(
+            lambda one: one.margin(guards[id(one.direction)])[0],
+            lambda one: one.margin(guards[id(one)])[0],
+        )
 
 
 @dataclass(frozen=True)
@@ -103,18 +111,6 @@ class Changes:
     new: Report
     directions: list[DirectionChange]
     guards: list[GuardChange]
-
-
-def largest_bound(figures: Figures | None) -> Fraction | None:
-    if figures is None or isinstance(figures.direction.swept, Growth):
-        return None
-    return figures.bound(figures.direction.peak)
-
-
-def least_margin(pair: GuardFigures | None) -> Fraction | None:
-    if pair is None or isinstance(pair[0].direction.swept, Growth):
-        return None
-    return pair[0].margin(pair[1])[0]
 
 
 def named_like(report: Report, other: Report) -> Report:
@@ -154,19 +150,32 @@ def changes(old: Report, new: Report) -> Changes:
     # The name of a direction in the new report, so that guards on the same one can be told.
     names = {id(o): n.direction.name for o, n in directions if o is not None and n is not None}
 
-    def on(pair: GuardFigures) -> str:
+    def watched(pair: GuardFigures) -> str:
         return names.get(id(pair[0]), pair[0].direction.name)
 
     guards = paired(
         old.guards, new.guards,
         (
             lambda pair: pair[1].name,
-            lambda pair: (on(pair), pair[0].direction.level(pair[1])),
-            lambda pair: on(pair) if pair[1].name is None else None,
+            lambda pair: (watched(pair), pair[0].direction.level(pair[1])),
+            lambda pair: watched(pair) if pair[1].name is None else None,
         ),
     )
+
+    def between(before: Figures | None, now: Figures | None) -> DirectionChange:
+        there = before is not None and now is not None
+        same = there and quantity(before, old) == quantity(now, new)
+        return DirectionChange(before, now, same)
+
     return Changes(
         old, new,
-        [DirectionChange(*pair) for pair in directions],
-        [GuardChange(*pair) for pair in guards],
+        [between(*pair) for pair in directions],
+        [GuardChange(*pair, between(*(side and side[0] for side in pair))) for pair in guards],
     )
+
+
+def quantity(figures: Figures, report: Report) -> tuple[str, dict[str, Fraction]]:
+    """What a direction is: its unit, and of each coordinate by name how much of it makes one."""
+    one = figures.direction
+    entries = zip(report.source.coordinates, one.entries)
+    return one.unit_name, {name: Fraction(entry, one.counts) for name, entry in entries if entry}

@@ -14,36 +14,36 @@ from fractions import Fraction
 from typing import Mapping, Sequence
 
 import pack
-from answers import Guard
+from answers import Figures, Guard
 from listings import CLEAR, Growth
 from quantities import exactly, told
 
 from . import program
 from .changes import Change, Changes, DirectionChange, GuardChange
-from .reports import Failed, Figures, Report, Result
+from .reports import Failed, Report, Result
 
 FORMAT = "pepperscarp-report"
 FORMAT_VERSION = 1
 ANSWERED, REFUSED, NOT_RUN = "answered", "refused", "not run"
 
 
-class Literal(str):
+class Numeral(str):
     """A number as it is to be written."""
 
 
-def literal(value: Fraction | None, places: int) -> Literal | None:
-    return None if value is None else Literal(told(value, places, grouped=False))
+def numeral(value: Fraction | None, places: int) -> Numeral | None:
+    return None if value is None else Numeral(told(value, places, grouped=False))
 
 
-def number(value: Fraction) -> Literal | str:
+def number(value: Fraction) -> Numeral | str:
     """A number that is told exactly; a fraction that is no decimal is a text."""
     written = exactly(value, grouped=False)
-    return written if "/" in written else Literal(written)
+    return written if "/" in written else Numeral(written)
 
 
 def encoded(value: object, indent: str = "") -> str:
     """JSON, with a row for each name, and lists of numbers in one row."""
-    if isinstance(value, Literal):
+    if isinstance(value, Numeral):
         return str(value)
     inner = indent + "  "
     if isinstance(value, Mapping) and value:
@@ -57,7 +57,7 @@ def encoded(value: object, indent: str = "") -> str:
     return json.dumps(value, ensure_ascii=False)
 
 
-def time_of(step: int | None, report: Report) -> Literal | str | None:
+def time_of(step: int | None, report: Report) -> Numeral | str | None:
     if step is None or report.source.time is None:
         return None
     return number(step * report.source.time[0])
@@ -70,8 +70,8 @@ def peak_of(one: Figures, report: Report) -> dict[str, object] | None:
     return {
         "step": direction.peak,
         "time": time_of(direction.peak, report),
-        "bound": literal(one.bound(direction.peak), one.places),
-        "slack": literal(one.slack(direction.peak), one.places),
+        "bound": numeral(one.bound(direction.peak), one.places),
+        "slack": numeral(one.slack(direction.peak), one.places),
     }
 
 
@@ -83,11 +83,12 @@ def written_of(one: Figures, report: Report) -> dict[str, object] | None:
     return {
         "step": written.peak,
         "time": time_of(written.peak, report),
-        "largest": literal(one.written(written.peak), one.places),
+        "largest": numeral(one.written(written.peak), one.places),
+        "above_largest_bound": numeral(one.above_largest, one.places),
         "steps_above_bound": list(one.above),
-        "most_above_bound": literal(one.above.get(one.most_above), one.places),
+        "most_above_bound": numeral(one.above.get(one.most_above), one.places),
         "most_above_bound_step": one.most_above,
-        "values": [literal(one.written(step), one.places) for step in steps],
+        "values": [numeral(one.written(step), one.places) for step in steps],
     }
 
 
@@ -106,8 +107,8 @@ def direction_of(one: Figures, report: Report) -> dict[str, object]:
         "growth_step": swept.step if grown else None,
         "peak": peak_of(one, report),
         "as_written": written_of(one, report),
-        "bounds": [literal(one.bound(step), one.places) for step in steps],
-        "slacks": [literal(one.slack(step), one.places) for step in steps],
+        "bounds": [numeral(one.bound(step), one.places) for step in steps],
+        "slacks": [numeral(one.slack(step), one.places) for step in steps],
         "proved": None if grown else {
             "spare": swept.spare, "bounds": list(swept.bounds), "slacks": list(swept.slacks)
         },
@@ -117,7 +118,7 @@ def direction_of(one: Figures, report: Report) -> dict[str, object]:
 def guard_of(one: Figures, guard: Guard, report: Report) -> dict[str, object]:
     grown = isinstance(one.direction.swept, Growth)
     least, most = (None, None) if grown else one.margin(guard)
-    reached = one.reached_as_written(guard)
+    rounded, reached = one.direction.written is not None, one.reached_as_written(guard)
     return {
         "name": guard.name,
         "number": guard.number,
@@ -127,9 +128,10 @@ def guard_of(one: Figures, guard: Guard, report: Report) -> dict[str, object]:
         "verdict": guard.said.word,
         "step": guard.said.step,
         "time": time_of(guard.said.step, report),
-        "margin_least": literal(least, one.places),
-        "margin_most": literal(most, one.places),
-        "reached_as_written": None if one.direction.written is None else reached is not None,
+        "margin_least": numeral(least, one.places),
+        "margin_most": numeral(most, one.places),
+        "margin_as_written": numeral(one.written_margin(guard) if rounded else None, one.places),
+        "reached_as_written": reached is not None if rounded else None,
         "reached_as_written_step": reached,
         "clear": one.word(guard) == CLEAR,
     }
@@ -163,11 +165,11 @@ def model_of(result: Result) -> dict[str, object]:
     }
 
 
-def change_of(name: str, change: Change, comparable: bool) -> dict[str, object]:
+def change_of(name: str, change: Change) -> dict[str, object]:
     return {
-        f"old_{name}": literal(change.old, change.places),
-        f"new_{name}": literal(change.new, change.places),
-        f"{name}_change": literal(change.difference, change.places) if comparable else None,
+        f"old_{name}": numeral(change.old, change.places),
+        f"new_{name}": numeral(change.new, change.places),
+        f"{name}_change": numeral(change.difference, change.places),
     }
 
 
@@ -185,34 +187,37 @@ def units_of(change: DirectionChange) -> dict[str, object]:
 
 def direction_change(change: DirectionChange) -> dict[str, object]:
     sides = {"old": change.old, "new": change.new}
-    swept = {when: one.direction for when, one in sides.items() if one is not None}
+    there = {when: one.direction for when, one in sides.items() if one is not None}
+    peaks = {when: one.peak if one.bounds else None for when, one in there.items()}
     return {
-        "name": change.any.direction.name,
+        "name": change.either.direction.name,
         **units_of(change),
-        **change_of("bound", change.bound, change.comparable),
-        **both("step", {when: one.peak if one.bounds else None for when, one in swept.items()}),
+        **change_of("bound", change.bound),
+        **both("bound_step", peaks),
     }
 
 
 def guard_change(change: GuardChange) -> dict[str, object]:
-    one, guard = change.any
+    one, guard = change.either
     sides = {"old": change.old, "new": change.new}
     there = {when: pair for when, pair in sides.items() if pair is not None}
+    levels = {when: number(one.direction.level(guard)) for when, (one, guard) in there.items()}
     return {
         "name": guard.name,
         "direction": one.direction.name,
         **units_of(change.direction),
         **both("number", {when: guard.number for when, (_, guard) in there.items()}),
+        **both("level", levels),
         **both("verdict", {when: guard.said.word for when, (_, guard) in there.items()}),
-        **both("step", {when: guard.said.step for when, (_, guard) in there.items()}),
+        **both("verdict_step", {when: guard.said.step for when, (_, guard) in there.items()}),
         **both("clear", {when: one.word(guard) == CLEAR for when, (one, guard) in there.items()}),
-        **change_of("margin", change.margin, change.direction.comparable),
+        **change_of("margin", change.margin),
     }
 
 
 def as_json(results: Sequence[Result], status: int, found: Changes | None = None) -> str:
     """All that is told of some models; of two, with what changed."""
-    told_: dict[str, object] = {
+    whole: dict[str, object] = {
         "format": FORMAT,
         "format_version": FORMAT_VERSION,
         "program_version": program.version(),
@@ -220,27 +225,28 @@ def as_json(results: Sequence[Result], status: int, found: Changes | None = None
         "models": [model_of(result) for result in results],
     }
     if found is not None:
-        told_["changes"] = {
+        whole["changes"] = {
             "old": found.old.name,
             "new": found.new.name,
             "directions": [direction_change(change) for change in found.directions],
             "guards": [guard_change(change) for change in found.guards],
         }
-    return encoded(told_) + "\n"
+    return encoded(whole) + "\n"
 
 
 # CSV: a row for each guard, and one for each direction without a guard
 
 COLUMNS = (
     "model", "result", "direction", "unit", "factor", "bound", "bound_step", "bound_time", "slack",
-    "growth_step", "largest_as_written", "most_above_bound", "guard", "level", "verdict",
-    "verdict_step", "verdict_time", "margin_least", "margin_most", "reached_as_written_step",
-    "clear", "time_unit", "message",
+    "growth_step", "largest_as_written", "above_largest_bound", "most_above_bound", "guard", "level", "verdict",
+    "verdict_step", "verdict_time", "margin_least", "margin_most", "margin_as_written",
+    "reached_as_written_step", "clear", "time_unit", "message",
 )
 CHANGE_COLUMNS = (
     "direction", "guard", "old_unit", "new_unit", "old_bound", "new_bound", "bound_change",
-    "old_margin", "new_margin", "margin_change", "old_verdict", "new_verdict", "old_step",
-    "new_step", "old_clear", "new_clear",
+    "old_bound_step", "new_bound_step", "old_level", "new_level", "old_margin", "new_margin",
+    "margin_change", "old_verdict", "new_verdict", "old_verdict_step", "new_verdict_step",
+    "old_clear", "new_clear",
 )
 
 
@@ -271,6 +277,7 @@ def direction_cells(one: Figures, report: Report) -> dict[str, object]:
         "slack": peak.get("slack"),
         "growth_step": found["growth_step"],
         "largest_as_written": written.get("largest"),
+        "above_largest_bound": written.get("above_largest_bound"),
         "most_above_bound": written.get("most_above_bound"),
         "time_unit": None if report.source.time is None else report.source.time[1],
     }
@@ -279,7 +286,7 @@ def direction_cells(one: Figures, report: Report) -> dict[str, object]:
 def guard_cells(one: Figures, guard: Guard, report: Report) -> dict[str, object]:
     found = guard_of(one, guard, report)
     same = {name: found[name] for name in ("level", "verdict", "margin_least", "margin_most",
-                                           "reached_as_written_step")}
+                                           "margin_as_written", "reached_as_written_step")}
     cells = {"guard": guard.label, "verdict_step": found["step"], "verdict_time": found["time"],
              "clear": yes_or_no(found["clear"])}
     return {**direction_cells(one, report), **same, **cells}
@@ -301,10 +308,18 @@ def as_csv(results: Sequence[Result]) -> str:
 def changes_as_csv(found: Changes) -> str:
     """A row for each direction, then one for each guard."""
     rows: list[dict[str, object]] = []
+
+    def cells(told: dict[str, object], change: DirectionChange) -> dict[str, object]:
+        """As in JSON, but for units and what is yes or no."""
+        there = {"old": change.old, "new": change.new}
+        units = {when: one.direction.unit_name for when, one in there.items() if one is not None}
+        clear = {when: yes_or_no(told.get(f"{when}_clear")) for when in there}
+        return {**told, **both("unit", units), **both("clear", clear)}
+
     for change in found.directions:
-        rows.append({**direction_change(change), "direction": change.any.direction.name})
+        told = cells(direction_change(change), change)
+        rows.append({**told, "direction": change.either.direction.name})
     for change in found.guards:
-        cells = guard_change(change)
-        clear = both("clear", {when: yes_or_no(cells[f"{when}_clear"]) for when in ("old", "new")})
-        rows.append({**cells, **clear, "guard": change.any[1].label})
+        told = cells(guard_change(change), change.direction)
+        rows.append({**told, "guard": change.either[1].label})
     return csv_text(CHANGE_COLUMNS, rows)

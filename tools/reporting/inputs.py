@@ -26,17 +26,25 @@ def unread(name: str, said: str) -> Failed:
     return Failed(name, said, f"report: {name} {said}", NOT_RUN)
 
 
-def in_folder(folder: str) -> list[str]:
-    """The models in a folder and those below it, but for hidden ones and what is no file."""
-    found = []
-    for place, folders, names in os.walk(folder):
+def in_folder(folder: str) -> tuple[list[str], list[Failed]]:
+    """The models in a folder and those below it, but for hidden ones and what is no file.
+
+    Beside them the folders that can't be read. Links to folders are not followed.
+    """
+    found: list[str] = []
+    failed: list[Failed] = []
+
+    def unreadable(error: OSError) -> None:
+        failed.append(unread(shown(error.filename), "is a folder that can't be read"))
+
+    for place, folders, names in os.walk(folder, onerror=unreadable):
         folders[:] = sorted(name for name in folders if not name.startswith("."))
         found += [
             os.path.join(place, name)
             for name in sorted(names)
             if name.endswith(ENDINGS) and not name.startswith(".")
         ]
-    return [path for path in found if os.path.isfile(path) or not os.path.exists(path)]
+    return [path for path in found if os.path.isfile(path) or not os.path.exists(path)], failed
 
 
 def model_of(word: str) -> Input | Failed:
@@ -86,9 +94,9 @@ def models_of(words: Sequence[str]) -> list[Input | Failed]:
         if not word:
             given.append(Failed(word, "is no model", "report: an empty name is no model", NOT_RUN))
         elif word != "-" and os.path.isdir(word):
-            found = in_folder(word)
-            given += without_copies([model_of(path) for path in found])
-            if not found:
+            found, failed = in_folder(word)
+            given += [*without_copies([model_of(path) for path in found]), *failed]
+            if not found and not failed:
                 told = " or ".join("*" + ending for ending in ENDINGS)
                 given.append(unread(shown(word), f"is a folder without a model ({told})"))
         else:

@@ -162,7 +162,7 @@ def pictures(report: Report) -> str:
     """A legend, and a picture for each direction, or for the highest and lowest of the same."""
     groups = chart.panels([one.direction for one in report.ordered])
     drawn = chart.draw_panels(groups, report.source.coordinates, report.source.time)
-    legend = chart.draw_legend(with_levels=bool(report.guards)).strip()
+    legend = chart.draw_legend(bool(report.guards), report.directions).strip()
     figures = "\n".join(f"<figure>{picture.strip()}</figure>" for picture in drawn)
     return f'<figure class="legend">{legend}</figure>\n{figures}'
 

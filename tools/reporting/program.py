@@ -41,7 +41,7 @@ def ready() -> None:
 
 def reply(data: bytes, name: str) -> Listing | Refusal:
     """What the program says of a packed model."""
-    failed = f"the program did not end well on {name}"
+    failed = "the program did not end well on it"
     try:
         done = subprocess.run([PROGRAM], input=data, capture_output=True, timeout=TIME_LIMIT)
     except OSError as error:
@@ -53,14 +53,14 @@ def reply(data: bytes, name: str) -> Listing | Refusal:
     try:
         return listings.parse(done.stdout.decode("ascii"), name)
     except (files.Failure, UnicodeDecodeError):
-        raise files.AccessFailure(f"the program wrote no reply to {name}") from None
+        raise files.AccessFailure("the program wrote no reply to it") from None
 
 
-def accepted(told: Listing | Refusal, name: str) -> Listing:
+def accepted(told: Listing | Refusal) -> Listing:
     """The listing of what was made of a model that the program accepts."""
     if isinstance(told, Refusal):
         said = f"refused {told.number} at {told.offset}"
-        raise files.AccessFailure(f"the program accepts {name}, and not what is made of it: {said}")
+        raise files.AccessFailure(f"the program accepts it, and not what is made of it: {said}")
     return told
 
 

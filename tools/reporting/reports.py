@@ -1,7 +1,7 @@
 """The report of one model: what the program says of it, sharpened, with the matrix as written.
 
-In order: what a model comes to; decimals of a direction; guards and directions by urgency; making a
-report. Figures are fractions in the units of the text (`answers`).
+In order: what a model comes to; guards and directions by urgency; making a report. Figures are
+fractions in the units of the text (`answers`).
 """
 
 from __future__ import annotations
@@ -16,10 +16,9 @@ import exact
 import files
 import pack
 import refusal
-from answers import Direction, Guard, Written, directions_of
+from answers import Direction, Figures, Guard, Written, directions_of
 from layout import HEAD, MATRIX_UNIT, Model, Vector
-from listings import CLEAR, GROWTH, HIT, UNKNOWN, Growth, Listing, Refusal, Sweep
-from quantities import places_for, places_to, rounded_down, rounded_up
+from listings import CLEAR, Growth, Listing, Refusal, Sweep
 from textform import Source
 
 from . import program, sharpen
@@ -27,11 +26,6 @@ from . import program, sharpen
 # The statuses of `report`, and which of several is told: the last of these.
 ALL_CLEAR, REFUSED, NOT_RUN, NOT_CLEAR = 0, 1, 2, 3
 WORST_LAST = (ALL_CLEAR, NOT_CLEAR, REFUSED, NOT_RUN)
-
-# What is said of a guard, the most urgent first. A guard that the stored matrix leaves clear, and
-# that the matrix as written reaches, stands right behind those that are hit.
-REACHED_AS_WRITTEN = "REACHED AS WRITTEN"
-URGENCY = (HIT, REACHED_AS_WRITTEN, GROWTH, UNKNOWN, CLEAR)
 
 
 @dataclass(frozen=True)
@@ -56,89 +50,6 @@ class Failed:
     message: str
     status: int
     data: bytes | None = None
-
-
-@dataclass(frozen=True)
-class Figures:
-    """A direction with the decimals that its figures are told with, all rounded outward."""
-
-    direction: Direction
-
-    @cached_property
-    def places(self) -> int:
-        """As many as tell a tenth of the slack and of each margin; fewer where that is exact."""
-        one = self.direction
-        if isinstance(one.swept, Growth):
-            return places_to(Fraction(1, one.counts))
-        finest = Fraction(1, one.factor * one.counts)
-        slacks = [bound - low for bound, low in zip(one.bounds, one.lows)]
-        margins = [end for guard in one.guards for end in one.margin(guard)]
-        sizes = [slacks[one.peak] or finest, *map(abs, filter(None, margins))]
-        peak = [one.largest_bound, one.lows[one.peak], *margins]
-        every = [*one.bounds, *one.lows]
-        return max(places_for(peak, min(sizes)), places_for(every, max(slacks) or finest))
-
-    def bound(self, step: int) -> Fraction:
-        return rounded_up(self.direction.bounds[step], self.places)
-
-    def slack(self, step: int) -> Fraction:
-        """What lies between the bound as told and a value that some run comes to."""
-        return self.bound(step) - rounded_down(self.direction.lows[step], self.places)
-
-    def margin(self, guard: Guard) -> tuple[Fraction, Fraction]:
-        """As `Direction.margin`: the lower end rounded down, the upper one up."""
-        least, most = self.direction.margin(guard)
-        return rounded_down(least, self.places), rounded_up(most, self.places)
-
-    def written(self, step: int) -> Fraction:
-        """The exact value of the matrix as written, rounded up."""
-        return self.direction.written.up(step, self.direction.counts, self.places)
-
-    @cached_property
-    def above(self) -> dict[int, Fraction]:
-        """The steps at which that value is above the bound, with the difference rounded up."""
-        one = self.direction
-        if one.written is None or isinstance(one.swept, Growth):
-            return {}
-        return {
-            step: one.written.up(step, one.counts, self.places, bound)
-            for step, bound in enumerate(one.bounds)
-            if one.written.passes(step, one.counts * bound)
-        }
-
-    @cached_property
-    def most_above(self) -> int | None:
-        """The first step at which that difference is largest."""
-        one = self.direction
-        bounds = {step: one.bounds[step] for step in self.above}
-        return one.written.farthest(bounds, one.counts) if bounds else None
-
-    @cached_property
-    def reached(self) -> dict[int, int | None]:
-        """Of each guard the first step at which the matrix as written reaches the level."""
-        written = self.direction.written
-        return {
-            guard.number: None if written is None else written.reached(guard.level)
-            for guard in self.direction.guards
-        }
-
-    def reached_as_written(self, guard: Guard) -> int | None:
-        return self.reached[guard.number]
-
-    def word(self, guard: Guard) -> str:
-        """The verdict's word, or that the level is reached by the matrix as written alone."""
-        if guard.said.word == CLEAR and self.reached_as_written(guard) is not None:
-            return REACHED_AS_WRITTEN
-        return guard.said.word
-
-    def urgency(self, guard: Guard) -> tuple[int, Fraction]:
-        """What guards are ordered by: the verdict, then the margin as a share of all bounds."""
-        word, one = self.word(guard), self.direction
-        if isinstance(one.swept, Growth):
-            return URGENCY.index(word), Fraction(0)
-        span = one.largest_bound - min(one.lows)
-        margin = one.margin(guard)[1 if word == HIT else 0]
-        return URGENCY.index(word), margin / (span or 1)
 
 
 @dataclass(frozen=True)
@@ -194,7 +105,8 @@ class Report:
 
     @property
     def packed_sha256(self) -> str:
-        return hashlib.sha256(self.source.data).hexdigest()
+        """That of the packed file, which is the file as given or made from its text."""
+        return self.sha256 if self.packed else hashlib.sha256(self.source.data).hexdigest()
 
     @property
     def text(self) -> str:
@@ -237,12 +149,15 @@ def report_of(given: Input, plain: bool = False, reply: Reply = program.reply) -
     source = given.source or pack.read_source(given.data, given.name)
 
     def listing(model: Model) -> Listing:
-        return program.accepted(reply(replace(source, model=model).data, given.name), given.name)
+        return program.accepted(reply(replace(source, model=model).data, given.name))
 
     def swept(directions: Sequence[Vector]) -> Sequence[Sweep | Growth]:
         tried = replace(source.model, directions=tuple(directions), guards=())
         return listing(tried).directions
 
+    # A packed file was read a second time: what is multiplied has to be what the program has read.
+    if listing(source.model) != told:
+        raise files.AccessFailure("it is another model to the program than to the tools")
     factors = [1] * len(source.directions)
     if not plain:
         factors = sharpen.largest_factors(source.model.directions, swept)

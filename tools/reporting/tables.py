@@ -5,12 +5,13 @@ from __future__ import annotations
 from dataclasses import dataclass
 from typing import Sequence
 
+from answers import Figures
 from listings import Growth
-from quantities import told
+from quantities import exactly, told
 
 from . import words
-from .changes import Change, Changes
-from .reports import WORST_LAST, Failed, Figures, Report, Result
+from .changes import Change, Changes, GuardChange
+from .reports import WORST_LAST, Failed, Report, Result
 
 
 @dataclass(frozen=True)
@@ -25,6 +26,8 @@ class Table:
 def guards(report: Report) -> Table:
     """A row for each guard, the most urgent first."""
     heads = ("guard", "reached where", "verdict", "margin")
+    if report.rounded:
+        heads = (*heads[:3], "margin as stored", "as written")
     rows = []
     for one, guard in report.guards:
         cells = [
@@ -33,8 +36,8 @@ def guards(report: Report) -> Table:
             words.verdict(one, guard, report),
             words.margin(one, guard),
         ]
-        rows.append(cells + [words.as_written(one, guard, report)] * report.rounded)
-    return Table(heads + ("reached as written",) * report.rounded, rows)
+        rows.append(cells + ([words.as_written(one, guard)] if report.rounded else []))
+    return Table(heads, rows)
 
 
 def directions(report: Report) -> Table:
@@ -53,7 +56,8 @@ def directions(report: Report) -> Table:
             str(direction.factor),
             words.claim(one, report),
         ])
-    heads = ("direction", "largest bound", "at step", "slack", "factor", "so in every run")
+    claim = "so in every run as stored" if report.rounded else "so in every run"
+    heads = ("direction", "largest bound", "at step", "slack", "factor", claim)
     return Table(heads, rows, right=(1, 3, 4))
 
 
@@ -64,7 +68,7 @@ def written(report: Report) -> Table:
         peak = one.direction.written.peak
         rows.append([
             one.direction.name,
-            words.quantity(one.written(peak), one),
+            words.written_quantity(one.written(peak), one),
             words.at_step(peak, report),
             words.above(one, report),
         ])
@@ -111,14 +115,23 @@ def models(results: Sequence[Result]) -> Table:
 # Two models side by side
 
 
-def told_change(change: Change, comparable: bool) -> list[str]:
+def told_change(change: Change) -> list[str]:
     """A figure before and now, and the difference with its sign."""
     cells = ["" if one is None else told(one, change.places) for one in (change.old, change.new)]
-    difference = change.difference
-    if difference is None or not comparable:
-        return [*cells, ""]
-    sign = "+" if difference > 0 else ""
-    return [*cells, f"{sign}{told(difference, change.places)}" if difference else "same"]
+    if change.same:
+        return [*cells, "same"]
+    if change.difference is None:
+        return [*cells, "" if None in (change.old, change.new) else "not comparable"]
+    sign = "+" if change.difference > 0 else ""
+    return [*cells, f"{sign}{told(change.difference, change.places)}"]
+
+
+def told_level(change: GuardChange) -> str:
+    """The level, or the old one and the new one."""
+    pairs = [pair for pair in (change.old, change.new) if pair is not None]
+    levels = [words.in_unit(exactly(one.direction.level(guard)), one.direction)
+              for one, guard in pairs]
+    return " → ".join(dict.fromkeys(levels))
 
 
 def changed_guards(found: Changes) -> Table:
@@ -128,10 +141,10 @@ def changed_guards(found: Changes) -> Table:
         sides = (change.old, found.old), (change.new, found.new)
         said = ["not there" if pair is None else words.verdict(*pair, report)
                 for pair, report in sides]
-        figures = told_change(change.margin, change.direction.comparable)
-        rows.append([change.any[1].label, *said, *figures, ", ".join(change.direction.units)])
-    heads = ("guard", "verdict was", "is", "level - bound was", "is", "change", "unit")
-    return Table(heads, rows, right=(3, 4, 5))
+        name = change.either[1].label
+        rows.append([name, told_level(change), *said, *told_change(change.margin)])
+    heads = ("guard", "level", "verdict was", "is", "level - bound was", "is", "change")
+    return Table(heads, rows, right=(4, 5, 6))
 
 
 def changed_directions(found: Changes) -> Table:
@@ -140,8 +153,8 @@ def changed_directions(found: Changes) -> Table:
     for change in found.directions:
         sides = (change.old, found.old), (change.new, found.new)
         steps = [peak_step(one, report) for one, report in sides]
-        figures = told_change(change.bound, change.comparable)
-        rows.append([change.any.direction.name, *figures, ", ".join(change.units), *steps])
+        figures, units = told_change(change.bound), " → ".join(change.units)
+        rows.append([change.either.direction.name, *figures, units, *steps])
     heads = ("direction", "largest bound was", "is", "change", "unit", "at step was", "is")
     return Table(heads, rows, right=(1, 2, 3))
 

@@ -6,11 +6,12 @@ import re
 from typing import Sequence
 
 import pack
+from answers import REACHED_AS_WRITTEN
 from listings import CLEAR, GROWTH, HIT, UNKNOWN
 
 from . import tables, words
 from .changes import Changes
-from .reports import REACHED_AS_WRITTEN, Report, Result
+from .reports import Report, Result
 from .tables import Table
 
 GAP = "  "

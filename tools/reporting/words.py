@@ -4,11 +4,13 @@ from __future__ import annotations
 
 from fractions import Fraction
 
-from answers import Direction, Guard, expression
+from answers import REACHED_AS_WRITTEN, URGENCY, Direction, Figures, Guard, expression
 from listings import GROWTH, HIT, UNKNOWN, Growth
-from quantities import exactly, told
+from quantities import about, exactly, told
 
-from .reports import REACHED_AS_WRITTEN, URGENCY, Figures, Report
+from .reports import Report
+
+MOST_DIGITS = 18  # of a figure before the point; beyond that it is told by its first digits
 
 # What a report rests on, as a text ends with it.
 RESTS_ON = (
@@ -32,6 +34,13 @@ def quantity(value: Fraction, figures: Figures) -> str:
     return in_unit(told(value, figures.places), figures.direction)
 
 
+def written_quantity(value: Fraction, figures: Figures, up: bool = True) -> str:
+    """The same of a value as written: a huge one, as growth has, is told by its first digits."""
+    if abs(value) < 10**MOST_DIGITS:
+        return quantity(value, figures)
+    return in_unit(about(value, up), figures.direction)
+
+
 def at_time(step: int, report: Report) -> str:
     """The time of a step; nothing where the text gives none."""
     if report.source.time is None:
@@ -47,16 +56,17 @@ def at_step(step: int, report: Report) -> str:
 
 
 def turned(direction: Direction) -> bool:
-    """Whether a direction is turned round, so that its largest value is a lowest one."""
-    return max(direction.entries) <= 0
+    """Whether a direction is told turned round, since its largest value is a lowest one."""
+    return direction.coefficients is not None and max(direction.coefficients) <= 0
 
 
-def compared(direction: Direction, value: str, sign: int, report: Report) -> str:
-    """The direction's expression with the value on its other side; `sign` is 1 for at most."""
-    entries = direction.entries
-    if turned(direction):
-        entries, sign = tuple(-entry for entry in entries), -sign
-    return f"{expression(entries, report.source.coordinates)} {'≤' if sign > 0 else '≥'} {value}"
+def left_side(direction: Direction, report: Report) -> str:
+    """What is compared: the coordinates, or the direction by its name where that can't be told."""
+    if direction.coefficients is None:
+        return direction.name
+    sign = -1 if turned(direction) else 1
+    factors = [sign * factor for factor in direction.coefficients]
+    return expression(factors, report.source.coordinates)
 
 
 def claim(figures: Figures, report: Report) -> str:
@@ -64,14 +74,14 @@ def claim(figures: Figures, report: Report) -> str:
     one = figures.direction
     bound = figures.bound(one.peak)
     value = quantity(-bound if turned(one) else bound, figures)
-    return compared(one, value, 1, report)
+    return f"{left_side(one, report)} {'≥' if turned(one) else '≤'} {value}"
 
 
 def condition(direction: Direction, guard: Guard, report: Report) -> str:
     """Where a guard is reached: `rail ≤ 21,000 mV`."""
-    value = direction.level(guard)
-    value = -value if turned(direction) else value
-    return compared(direction, in_unit(exactly(value), direction), -1, report)
+    level = direction.level(guard)
+    value = in_unit(exactly(-level if turned(direction) else level), direction)
+    return f"{left_side(direction, report)} {'≤' if turned(direction) else '≥'} {value}"
 
 
 def verdict(figures: Figures, guard: Guard, report: Report) -> str:
@@ -127,17 +137,27 @@ def above(figures: Figures, report: Report) -> str:
 
 
 def warning(report: Report) -> str | None:
-    """Which bounds the matrix as written passes."""
-    passed = [one.direction.name for one in report.passed_as_written]
-    if not passed:
+    """Which bounds the matrix as written passes: the largest one, or only that of some step."""
+    parts = [
+        f"{one.direction.name} passes its largest bound by {quantity(one.above_largest, one)}"
+        for one in report.passed_as_written
+        if one.above_largest is not None
+    ]
+    parts += [
+        f"{one.direction.name} passes the bound of some step"
+        for one in report.passed_as_written
+        if one.above_largest is None
+    ]
+    if not parts:
         return None
-    return (
-        f"as written, {', '.join(passed)} can pass the bound, which is that of the stored matrix,"
-        " whose entries were rounded"
-    )
+    return f"as written, {', '.join(parts)}; the bounds are those of the stored, rounded matrix"
 
 
-def as_written(figures: Figures, guard: Guard, report: Report) -> str:
-    """Whether the matrix as written reaches the level."""
-    step = figures.reached_as_written(guard)
-    return "no" if step is None else f"at step {at_step(step, report)}"
+def as_written(figures: Figures, guard: Guard) -> str:
+    """The margin by the matrix as written, and where it reaches the level."""
+    step, margin = figures.reached_as_written(guard), figures.written_margin(guard)
+    if step is None:
+        return f"clear by {written_quantity(margin, figures, up=False)}"
+    if not margin:
+        return f"reached at step {step}"
+    return f"passed by {written_quantity(-margin, figures)} from step {step}"

@@ -437,7 +437,8 @@ class Layout(unittest.TestCase):
         name = "W" * 58 + "10"
         level = f"140,737,488,355,328 {WIDE}"
         long_names = drawn(HARD["a tube with sixteen long names and levels"])
-        self.assertIn(f"{name}: ≥ -{level} (off scale) HIT 0, by {level}", titles_of(long_names))
+        told = f"{name}: ≥ -{level} (off scale) HIT 0, by 140,737,488,355,328.0000152 {WIDE}"
+        self.assertIn(told, titles_of(long_names))
         self.assertFalse([words for words in words_of(long_names) if name in words])
 
     def test_short_texts_are_not_cut(self):
@@ -489,9 +490,9 @@ class Units(unittest.TestCase):
     def test_unit_of_more_counts(self):
         words = self.words("unit d °C 16", "guard d -1", "guard d 2", "guard d 3200")
         for expected in (
-            "guard 0: ≥ -0.0625 °C (off scale) HIT 0, by 0.125 °C",
+            "guard 0: ≥ -0.0625 °C (off scale) HIT 0, by 0.1250 °C",
             "guard 1: ≥ 0.125 °C CLEAR, by 0.0625 °C",
-            "guard 2: ≥ 200 °C (off scale) CLEAR, by 199 °C",
+            "guard 2: ≥ 200 °C (off scale) CLEAR, by 199.9375 °C",
             "peak 0.0625 °C at step 0", "°C", "0.06", "0.08", "0.10", "0.12",
         ):
             self.assertIn(expected, words)
@@ -500,8 +501,46 @@ class Units(unittest.TestCase):
     def test_levels_are_told_exactly(self):
         words = self.words("unit d °C 65536", "guard d 65537", "direction e 1", "unit e V 3",
                            "guard e -1000")
-        self.assertIn("guard 0: ≥ 1.0000152587890625 °C (off scale) CLEAR, by 1 °C", words)
-        self.assertIn("guard 1: ≥ -1,000/3 V (off scale) HIT 0, by 333 V", words)
+        told = "guard 0: ≥ 1.0000152587890625 °C (off scale) CLEAR, by 1.0000000 °C"
+        self.assertIn(told, words)
+        self.assertIn("guard 1: ≥ -1,000/3 V (off scale) HIT 0, by 333.666 V", words)
+
+    def test_peak_and_slack_have_the_same_decimals(self):
+        """What is told for a slack is the distance of the ends as told, and not less."""
+        upper = direction([0, Fraction(22914507, 930)], Fraction(21, 930), factor=930,
+                          unit=("mV", 1))
+        lower = direction([0, Fraction(-20009009, 930)], Fraction(23, 930), factor=930,
+                          unit=("mV", 1), entries=(-1,))
+        words = set(Plot(upper, lower).words)
+        self.assertLessEqual({"peak 24,639.255 mV at step 1", "slack up to 0.023 mV"}, words)
+        self.assertLessEqual({"lowest 0.000 mV at step 0", "slack up to 0.026 mV"}, words)
+
+    def test_a_direction_with_a_unit_of_its_own(self):
+        """Its heading has the coordinates only where the text tells how they make up its unit."""
+        for statements, heading in (
+            (("direction d 100", "unit a V", "unit d V 100"), "d = a"),
+            (("unit a V 2", "direction d 100", "unit d V"), "d = 200 a"),
+            (("direction d 100", "unit d V 100"), "d"),
+            (("direction d -1", "unit d V 100"), "d = -a"),
+            (("direction d 100",), "d = 100 a"),
+        ):
+            # A coordinate's unit stands above the directions.
+            ordered = sorted(statements, key=lambda row: not row.startswith("unit a"))
+            self.assertIn(heading, words_of(drawn(model(*ordered))))
+
+    def test_what_only_the_matrix_as_written_reaches(self):
+        written = answers.Written(10, (100, 1105, 12100))  # 100, 110.5, 121
+        one = direction([100, 110, 120], levels=(121, 130))
+        one = dataclasses.replace(one, written=written)
+        plot = Plot(one)
+        self.assertIn("guard 0: ≥ 121 REACHED as written", plot.words)
+        self.assertIn("guard 1: ≥ 130 CLEAR, by 10", plot.words)
+        picture = chart.draw([one], ("a",), 2, "title")
+        self.assertLessEqual({"as written", "guard level, REACHED as written"},
+                             set(words_of(picture)))
+        self.assertIn('stroke-dasharray="1 2"', picture)
+        plain = chart.draw([direction([100, 110, 120], levels=(121,))], ("a",), 2, "title")
+        self.assertFalse({"as written", "guard level, REACHED as written"} & set(words_of(plain)))
 
     def test_unit_of_the_coordinates(self):
         words = words_of(drawn(model("direction d 1 -1", "unit a mV 10", "unit b mV 10",
@@ -540,7 +579,7 @@ class Units(unittest.TestCase):
                       "limit: ≥ 25,200 mV CLEAR, by 550 mV",
                       "resets: ≤ 21,000 mV CLEAR, by 504 mV"}),
             ("head", {"°C", "step, and time in ms", "312.5",
-                      "limit: ≥ 280 °C CLEAR, by 23.8 °C"}),
+                      "limit: ≥ 280 °C CLEAR, by 23.875 °C"}),
             ("budget", {"mV", "°C", "counts"}),
         ):
             picture = (examples.FOLDER / f"{name}.svg").read_text(encoding="utf-8")
@@ -723,7 +762,7 @@ class Tubes(PlotTest):
         plot = Plot(upper, lower)
         self.at(plot, plot.lines(BOUND)[0], [2, 4])
         self.at(plot, plot.lines(BOUND)[1], [1, Fraction(1, 2)])
-        self.assertLessEqual({"V", "peak 4.0 V at step 1", "lowest 0.5 V at step 1",
+        self.assertLessEqual({"V", "peak 4 V at step 1", "lowest 0.5 V at step 1",
                               "guard 0: ≤ 0 V CLEAR, by 0.5 V"}, set(plot.words))
 
     def test_guards_of_both_sides(self):
@@ -775,18 +814,18 @@ class Peaks(PlotTest):
         upper = direction([100, 1000], unit=third)
         lower = direction([-100, -1000], unit=third, entries=(-1,))
         words = Plot(upper, lower).words
-        self.assertLessEqual({"peak 333.4 V at step 1", "lowest 33.3 V at step 0"}, set(words))
+        self.assertLessEqual({"peak 333.334 V at step 1", "lowest 33.333 V at step 0"}, set(words))
         below = direction([100, 1000], unit=third, entries=(-1,))
-        self.assertIn("lowest -333.4 V at step 1", Plot(upper, below).words)
+        self.assertIn("lowest -333.334 V at step 1", Plot(upper, below).words)
 
     def test_margins_are_rounded_down(self):
         """The largest value lies between 998/3 and 1000/3."""
         levels = (800, 998, 999, 1000, 1001, 1100)
         words = Plot(direction([100, 1000], slack=2, levels=levels, unit=("V", 3))).words
         for expected in (
-            "guard 0: ≥ 800/3 V HIT 1, by 66 V", "guard 1: ≥ 998/3 V HIT 1",
+            "guard 0: ≥ 800/3 V HIT 1, by 66.00 V", "guard 1: ≥ 998/3 V HIT 1",
             "guard 2: ≥ 333 V UNKNOWN 1", "guard 3: ≥ 1,000/3 V UNKNOWN 1",
-            "guard 4: ≥ 1,001/3 V CLEAR, by 0.33 V", "guard 5: ≥ 1,100/3 V CLEAR, by 33.3 V",
+            "guard 4: ≥ 1,001/3 V CLEAR, by 0.33 V", "guard 5: ≥ 1,100/3 V CLEAR, by 33.33 V",
         ):
             self.assertIn(expected, words)
 
@@ -862,12 +901,12 @@ class Multiplied(PlotTest):
         self.assertEqual([number for number, _, _ in plot.axis(plot.strip)], ["0", "0.002"])
         self.assertIn("factor 1,000", plot.words)
         self.assertFalse([words for words in plot.words if "spare" in words])
-        self.assertIn("peak 24.30 V at step 1", plot.words)
-        self.assertIn("guard 0: ≥ 24 V HIT 1, by 0.29 V", plot.words)
+        self.assertIn("peak 24.300 V at step 1", plot.words)
+        self.assertIn("guard 0: ≥ 24 V HIT 1, by 0.298 V", plot.words)
 
     def test_slacks_are_rounded_up(self):
         for factor, counts, slack, expected in (
-            (1000, 3, 7, "2.34"), (1000, 16, 1, "0.0625"), (8, 1, Fraction(13, 8), "1.63"),
+            (1000, 3, 7, "2.4"), (1000, 16, 1, "0.063"), (8, 1, Fraction(13, 8), "1.7"),
             (1000, 1_000_000_000, Fraction(1, 1000), "0.000000000001"), (1, 1, 12345, "12,345"),
             (1, 1, 0, "0"),
         ):

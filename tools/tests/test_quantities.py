@@ -57,6 +57,15 @@ class Decimals(unittest.TestCase):
         with self.assertRaises(AssertionError):
             quantities.told(Fraction(1, 3), 5)
 
+    def test_large_values_are_rounded_to_one_side(self):
+        for value, up, down in (
+            (10**20, "1.00e20", "1.00e20"), (10**20 + 1, "1.01e20", "1.00e20"),
+            (-(10**20) - 1, "-1.00e20", "-1.01e20"), (999 * 10**18 + 1, "1.00e21", "9.99e20"),
+            (-999_999 * 10**18, "-9.99e23", "-1.00e24"),
+        ):
+            self.assertEqual(quantities.about(Fraction(value), up=True), up)
+            self.assertEqual(quantities.about(Fraction(value), up=False), down)
+
     def test_exactly(self):
         for value, expected in (
             (Fraction(0), "0"), (Fraction(200), "200"), (Fraction(-1, 16), "-0.0625"),

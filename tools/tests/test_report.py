@@ -224,6 +224,26 @@ class Reports(unittest.TestCase):
                     self.assertLessEqual(least, direction.margin(guard)[0])
                     self.assertGreaterEqual(most, direction.margin(guard)[1])
 
+    def test_a_file_that_the_program_reads_otherwise_is_not_multiplied(self):
+        """A program that takes each packed file for another model."""
+        packed, other = (pack.parse(text(f"direction d {x}")).data for x in (1, 2))
+        with self.assertRaises(files.AccessFailure):
+            reports.report_of(
+                Input("file", packed), reply=lambda data, name: exactly(
+                    other if data is packed else data, name)
+            )
+
+    def test_the_digest_of_a_packed_file_is_its_own(self):
+        """Also where a fitted row has a negative zero beyond n, which a text can't hold."""
+        content = text("direction d 1").replace("row 0.5", "fitted 0.5")
+        packed = bytearray(pack.parse(content).data)
+        at = 4 + 2 + 8 + 7  # the sign of the second entry of the first row
+        self.assertEqual((packed[4], packed[at]), (0x03, 0))
+        packed[at] = 0x80
+        told = reports.report_of(Input("file", bytes(packed)), reply=exactly)
+        self.assertEqual(told.packed_sha256, told.sha256)
+        self.assertNotEqual(told.source.data, bytes(packed))
+
     def test_a_refused_file(self):
         for data_, said, message in (
             (b"", "refused 1 at 0", "report: file is empty"),
@@ -253,7 +273,6 @@ class Written(unittest.TestCase):
         self.assertEqual(one.above.keys(), set(range(1, 257)))
         self.assertTrue(value - stored - one.slack(256) <= one.above[256] <= value - stored)
         self.assertGreater(one.above[256], 1_700)
-        self.assertEqual(words.warning(told)[:32], "as written, d can pass the bound")
 
     def test_a_guard_that_only_the_matrix_as_written_reaches(self):
         more = {**self.SLOW, "upper": 0, "more": 100}
@@ -269,7 +288,7 @@ class Written(unittest.TestCase):
         self.assertEqual(step, next(k for k, value in enumerate(values) if value >= level))
         cells = tables.guards(told).rows[0]
         self.assertIn("CLEAR as stored, REACHED as written", cells)
-        self.assertEqual(cells[-1], f"at step {step}")
+        self.assertRegex(cells[-1], f"^passed by .* from step {step}$")
         self.assertIn("1 REACHED AS WRITTEN", terminal.whole(told))
 
     def test_a_true_maximum_of_804_counts_above_the_bound(self):
@@ -291,7 +310,33 @@ class Written(unittest.TestCase):
         told = report(text("direction d 1", "guard d 900", entry="~1.9", steps=40, upper=1))
         self.assertIsInstance(told.directions[0].swept, Growth)
         self.assertEqual(words.above(told.figures[0], told), "no bound")
-        self.assertEqual(tables.guards(told).rows[0][-1], "at step 10")
+        self.assertRegex(tables.guards(told).rows[0][-1], "^passed by .* from step 10$")
+
+    def test_huge_values_are_told_by_their_first_digits(self):
+        told = report(text("direction d 1", "guard d 900", entry="~1.9", steps=256, upper=1))
+        value = told.directions[0].written
+        exactly_ = Fraction(value.numerators[256], value.unit**256)
+        shown = tables.written(told).rows[0][1]
+        self.assertRegex(shown, r"^\d\.\d\de71 counts$")
+        self.assertTrue(exactly_ <= Fraction(shown.split()[0]) < exactly_ * Fraction(101, 100))
+        self.assertLess(max(map(len, terminal.whole(told).splitlines())), 150)
+
+    def test_margins_as_written(self):
+        """Of 100 * 0.1 at step 1 the stored matrix has 10.0006."""
+        content = text("direction d 1", "guard d 99 a", "guard d 100 b", "guard d 101 c", upper=100,
+                       more=0, steps=1).replace("row 0.5", "row ~0.1")
+        cells = {row[0]: row[-1] for row in tables.guards(report(content)).rows}
+        self.assertEqual(cells, {"a": "passed by 1.000 counts from step 0", "b": "reached at step 0",
+                                 "c": "clear by 1.000 counts"})
+        told = json.loads(data.as_json([report(content)], 3))["models"][0]["guards"]
+        self.assertEqual([guard["margin_as_written"] for guard in told], [-1, 0, 1])
+
+    def test_the_warning_tells_which_bound_is_passed(self):
+        told = words.warning(report(text("direction d 1", **self.SLOW)))
+        self.assertTrue(told.startswith("as written, d passes the bound of some step;"), told)
+        more = {**self.SLOW, "upper": 0, "more": 3_700}
+        told = words.warning(report(text("direction d 1", **more)))
+        self.assertRegex(told, r"^as written, d passes its largest bound by 808\.\d+ counts;")
 
 
 class Texts(unittest.TestCase):
@@ -305,6 +350,24 @@ class Texts(unittest.TestCase):
                      "HIT at step 1 (1.25 ms)", "value ≤ -0.0625 °C", "value ≤ 1.75 °C",
                      "value ≥ 0.0000 °C", "3 (3.75 ms)"):
             self.assertIn(part, told)
+
+    def test_a_direction_with_a_unit_of_its_own(self):
+        """The coordinates are told only where the text says how they make up the unit."""
+        for rows, claim, condition in (
+            (["unit value V", "direction d 100", "unit d V 100"], "value ≤ 24 V", "value ≥ 25 V"),
+            (["unit value V 2", "direction d -100", "unit d V 100"], "2 value ≥ 0 V", ""),
+            (["direction d 100", "unit d V 100"], "d ≤ 24 V", "d ≥ 25 V"),
+            (["direction d 1", "unit d V 100"], "value ≤ 0.24 V", "value ≥ 25 V"),
+            (["direction d -100", "unit d V 100"], "d ≤ 0 V", "d ≥ 25 V"),
+            (["unit value V", "direction d 100"], "100 value ≤ 2,400 V", "100 value ≥ 2,500 V"),
+            (["unit value A", "direction d 100", "unit d V 100"], "d ≤ 24 V", "d ≥ 25 V"),
+        ):
+            level = 2500
+            told = report(text(*rows, f"guard d {level}", upper=24, more=0))
+            with self.subTest(rows):
+                found = tables.directions(told).rows[0][-1], tables.guards(told).rows[0][1]
+                self.assertEqual(re.sub(r"\.0+ ", " ", found[0]), claim)
+                self.assertTrue(not condition or found[1] == condition, found)
 
     def test_counts_are_one_or_more(self):
         told = terminal.whole(report(text("direction d 1", "guard d 1", "guard d 2", more=4)))
@@ -417,7 +480,7 @@ class Data(unittest.TestCase):
 
     def test_lists_of_numbers_stand_in_one_row(self):
         encoded = data.encoded({"a": [1, 2], "b": [], "c": {}, "d": [{"e": None}], "f": "ä\"",
-                                "g": data.Literal("0.10"), "h": True})
+                                "g": data.Numeral("0.10"), "h": True})
         self.assertEqual(json.loads(encoded), {"a": [1, 2], "b": [], "c": {}, "d": [{"e": None}],
                                                "f": "ä\"", "g": 0.1, "h": True})
         self.assertIn('"a": [1, 2],', encoded)
@@ -437,12 +500,12 @@ class Against(unittest.TestCase):
         bounds = direction.bound.old, direction.bound.new
         self.assertEqual(bounds, (Fraction("1.75"), Fraction("3.5")))
         self.assertEqual(direction.bound.difference, Fraction("1.75"))
-        told = {change.any[1].name: change for change in found.guards}
+        told = {change.either[1].name: change for change in found.guards}
         self.assertEqual([str(pair[1].said) for pair in (told["low"].old, told["low"].new)],
                          ["CLEAR", "HIT 1"])
         self.assertEqual(told["high"].margin.difference, Fraction("-1.75"))
         cells = {row[0]: row for row in tables.changed_guards(found).rows}
-        self.assertEqual(cells["high"], ["high", "CLEAR", "CLEAR", "3.25", "1.50", "-1.75", "V"])
+        self.assertEqual(cells["high"], ["high", "5 V", "CLEAR", "CLEAR", "3.25", "1.50", "-1.75"])
         self.assertEqual(tables.changed_directions(found).rows,
                          [["d", "1.75", "3.50", "+1.75", "V", "3", "3"]])
 
@@ -452,7 +515,7 @@ class Against(unittest.TestCase):
         pairs = [(c.old and c.old.direction.name, c.new and c.new.direction.name)
                  for c in found.directions]
         self.assertEqual(sorted(pairs, key=str), [("d", "d"), ("e", None), (None, "f")])
-        rows = {row[0]: row[1:3] for row in tables.changed_guards(found).rows}
+        rows = {row[0]: row[2:4] for row in tables.changed_guards(found).rows}
         self.assertEqual(rows, {"new": ["not there", "CLEAR"], "gone": ["CLEAR", "not there"]})
 
     def test_guards_go_together_by_name_then_by_level_then_in_order(self):
@@ -463,18 +526,46 @@ class Against(unittest.TestCase):
 
     def test_other_units_are_not_subtracted(self):
         found = self.compared(text("direction d 1", "unit d mV"), text("direction d 1", "unit d V"))
-        self.assertEqual(tables.changed_directions(found).rows[0][3], "")
+        self.assertEqual(tables.changed_directions(found).rows[0][3:5], ["not comparable", "mV → V"])
+
+    def test_another_direction_of_the_same_name_is_not_subtracted(self):
+        for old, new in (("1", "-1"), ("1", "2")):
+            found = self.compared(text(f"direction d {old}", "guard d 9 a"),
+                                  text(f"direction d {new}", "guard d 9 a"))
+            self.assertEqual(tables.changed_directions(found).rows[0][3], "not comparable")
+            self.assertEqual(tables.changed_guards(found).rows[0][-1], "not comparable")
+        units = "unit value V", "direction d {0}", "unit d V {0}"
+        one, other = (text(*(row.format(x) for row in units)) for x in (1, 100))
+        self.assertEqual(tables.changed_directions(self.compared(one, other)).rows[0][3], "same")
+
+    def test_a_changed_level_is_told(self):
+        found = self.compared(text("direction d 1", "guard d 1 a"),
+                              text("direction d 1", "guard d 3 a"))
+        row = tables.changed_guards(found).rows[0]
+        self.assertEqual(row[:4], ["a", "1 count → 3 counts", "HIT at step 1", "CLEAR"])
+        self.assertEqual(row[-1], "+2.00")
+        cells = json.loads(data.as_json([found.new, found.old], 0, found))["changes"]["guards"][0]
+        self.assertEqual((cells["old_level"], cells["new_level"]), (1, 3))
+
+    def test_same_is_said_of_what_is_equal_and_not_of_what_is_told_alike(self):
+        slack = {"entry": "~0.999", "upper": 1_000_000, "more": 0, "steps": 200}
+        near = {**slack, "lower": 0, "upper": 999_999}
+        found = self.compared(text("direction d -1", **{**slack, "lower": 1}),
+                              text("direction d -1", **{**near, "lower": 1}))
+        self.assertEqual(tables.changed_directions(found).rows[0][3], "same")
+        change = changes.Change(Fraction(1), Fraction(1), 0, comparable=True, same=False)
+        self.assertEqual(tables.told_change(change), ["1", "1", "0"])
 
     def test_a_packed_file_takes_the_names_of_the_text(self):
         content = (examples.FOLDER / "rail.model").read_text(encoding="utf-8")
         packed = reports.report_of(Input("rail.bin", pack.parse(content).data), reply=exactly)
         for pair in ((packed, report(content)), (report(content), packed)):
             found = changes.changes(*pair)
-            self.assertEqual({row[5] for row in tables.changed_guards(found).rows}, {"same"})
+            self.assertEqual({row[-1] for row in tables.changed_guards(found).rows}, {"same"})
             self.assertIn("fades", [row[0] for row in tables.changed_guards(found).rows])
         other = reports.report_of(Input("x", pack.parse(text("direction d 2")).data), reply=exactly)
         found = changes.changes(other, report(text("direction d 1")))
-        self.assertEqual([c.any.direction.name for c in found.directions], ["d", "d0"])
+        self.assertEqual([c.either.direction.name for c in found.directions], ["d", "d0"])
 
     def test_growth_on_one_side(self):
         found = self.compared(text("direction d 1", "guard d 9"),
@@ -604,11 +695,33 @@ class Inputs(FolderTest):
         self.assertEqual(inputs.shown("a\nb\udcffä"), "a\\nb\\udcffä")
         self.assertEqual(inputs.shown("-"), "standard input")
 
+    def test_a_folder_that_can_t_be_read_is_told(self):
+        self.write("a.model", text("direction d 1"))
+        self.write("sub/b.model", text("direction d 1"))
+        before = os.scandir
+
+        def scandir(path):
+            if str(path).endswith("sub"):
+                raise PermissionError(13, "no", str(path))
+            return before(path)
+
+        self.addCleanup(setattr, os, "scandir", before)
+        os.scandir = scandir
+        one, other = inputs.models_of([str(self.folder)])
+        self.assertIsInstance(one, Input)
+        self.assertEqual((other.status, other.said), (NOT_RUN, "is a folder that can't be read"))
+
+    def test_a_process_that_is_ended_is_told(self):
+        self.addCleanup(setattr, batch, "report_of", batch.report_of)
+        batch.report_of = lambda *_: os._exit(1)
+        told = batch.results_of([Input("a", b"\x01"), Input("b", b"\x01")], False, 2)
+        self.assertEqual([one.status for one in told], [NOT_RUN] * 2)
+        self.assertEqual(told[1].message, "report: b: its process was ended")
+
     def test_a_fault_is_told_and_stops_no_other(self):
         given = Input("a", b"\x01")
-        before = batch.report_of
-        self.addCleanup(setattr, batch, "report_of", before)
-        for error, message in ((files.AccessFailure("no room"), "report: no room"),
+        self.addCleanup(setattr, batch, "report_of", batch.report_of)
+        for error, message in ((files.AccessFailure("no room"), "report: a: no room"),
                                (KeyError("x"), "report: a: a fault of the tool")):
             def fail(*_, error=error):
                 raise error
