@@ -24,7 +24,8 @@ def exact_places(value: Fraction) -> int | None:
 
 
 def places_to(least: Fraction) -> int:
-    """The fewest decimals whose last one is at most a tenth of `least`."""
+    """The fewest decimals whose last one is at most a tenth of `least`, which is above 0."""
+    assert least > 0, least
     places = 0
     while Fraction(1, 10**places) > least / 10:
         places += 1
