@@ -234,10 +234,10 @@ class Figures:
     @cached_property
     def above_largest(self) -> Fraction | None:
         """By how much the largest value as written is above the largest bound, rounded up."""
-        one = self.direction
-        if not self.above or not one.written.passes(one.written.peak, one.counts * one.largest_bound):
+        one, bound = self.direction, self.direction.largest_bound if self.above else None
+        if bound is None or not one.written.passes(one.written.peak, one.counts * bound):
             return None
-        return one.written.up(one.written.peak, one.counts, self.places, one.largest_bound)
+        return one.written.up(one.written.peak, one.counts, self.places, bound)
 
     def written_margin(self, guard: Guard) -> Fraction:
         """The level minus the largest value as written, rounded down."""
@@ -304,7 +304,7 @@ def directions_of(
 def coefficients(source: Source, number: int) -> tuple[Fraction, ...] | None:
     """Of a direction in its unit, by the coordinates in theirs; None where that isn't known.
 
-    In counts these are its entries. Where all coordinates that count have the unit of the direction,
+    In counts these are its entries. Where all coordinates in it have the unit of the direction,
     their counts and its own make up for each other. Where none of them has a unit, a sum or
     difference of single coordinates is in their counts.
     """

@@ -61,7 +61,7 @@ def result_of(given: Input, plain: bool) -> Result:
 
 
 def stop(progress: Progress) -> NoReturn:
-    """End at once, with all processes: to wait for a pool may take for ever, and nothing is written."""
+    """End at once, with all processes: to wait for a pool may take for ever."""
     for child in multiprocessing.active_children():
         child.kill()
     progress.end()

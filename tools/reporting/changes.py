@@ -128,7 +128,7 @@ def named_like(report: Report, other: Report) -> Report:
         ),
         directions=tuple(
             replace(
-                one, name=by.name, unit=by.unit,
+                one, name=by.name, unit=by.unit, coefficients=by.coefficients,
                 guards=tuple(replace(guard, name=names[guard.number]) for guard in one.guards),
             )
             for one, by in zip(report.directions, other.directions)

@@ -238,9 +238,9 @@ def as_json(results: Sequence[Result], status: int, found: Changes | None = None
 
 COLUMNS = (
     "model", "result", "direction", "unit", "factor", "bound", "bound_step", "bound_time", "slack",
-    "growth_step", "largest_as_written", "above_largest_bound", "most_above_bound", "guard", "level", "verdict",
-    "verdict_step", "verdict_time", "margin_least", "margin_most", "margin_as_written",
-    "reached_as_written_step", "clear", "time_unit", "message",
+    "growth_step", "largest_as_written", "above_largest_bound", "most_above_bound", "guard",
+    "level", "verdict", "verdict_step", "verdict_time", "margin_least", "margin_most",
+    "margin_as_written", "reached_as_written_step", "clear", "time_unit", "message",
 )
 CHANGE_COLUMNS = (
     "direction", "guard", "old_unit", "new_unit", "old_bound", "new_bound", "bound_change",

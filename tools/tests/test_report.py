@@ -567,6 +567,16 @@ class Against(unittest.TestCase):
         found = changes.changes(other, report(text("direction d 1")))
         self.assertEqual([c.either.direction.name for c in found.directions], ["d", "d0"])
 
+    def test_a_packed_file_is_told_as_the_text_is(self):
+        """Also where a unit of the direction and its entries make up for each other."""
+        content = text("unit value V", "direction d 100", "unit d V 100", "guard d 2500", upper=24)
+        packed = reports.report_of(Input("x.bin", pack.parse(content).data), reply=exactly)
+        found = changes.changes(packed, report(content))
+        for one in (found.old, found.new):
+            self.assertEqual(tables.directions(one).rows, tables.directions(found.new).rows)
+            self.assertEqual(tables.guards(one).rows, tables.guards(found.new).rows)
+        self.assertIn("value ≥ 25 V", tables.guards(found.old).rows[0])
+
     def test_growth_on_one_side(self):
         found = self.compared(text("direction d 1", "guard d 9"),
                               text("direction d 1", "guard d 9", entry="2", steps=40))
