@@ -680,11 +680,6 @@ def draw_panels(
     return [picture(page, *panel_parts(page, 0, panel)) for panel in shown]
 
 
-def draw_panel(group: Group, coordinates: Sequence[str], time: Time | None = None) -> str:
-    """The picture of one panel."""
-    return draw_panels([group], coordinates, time)[0]
-
-
 def draw_legend(with_levels: bool = True, directions: Sequence[Direction] = ()) -> str:
     """The picture of the legend alone, for these directions."""
     page = page_of([])

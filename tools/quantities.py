@@ -57,14 +57,6 @@ def told(value: Fraction, places: int, grouped: bool = True) -> str:
     return f"{sign}{digits}.{rest:0{places}}" if places else f"{sign}{digits}"
 
 
-def told_up(value: Fraction, places: int, grouped: bool = True) -> str:
-    return told(rounded_up(value, places), places, grouped)
-
-
-def told_down(value: Fraction, places: int, grouped: bool = True) -> str:
-    return told(rounded_down(value, places), places, grouped)
-
-
 def about(value: Fraction, up: bool) -> str:
     """Three digits of a large value and its power of ten, rounded up or down: `3.81e45`."""
     power = len(str(abs(value.numerator) // value.denominator)) - 1

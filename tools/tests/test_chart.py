@@ -384,7 +384,8 @@ class Layout(unittest.TestCase):
                 for picture, group in zip(pictures, groups, strict=True):
                     self.check(picture)
                     self.check_marks(picture)
-                    self.check(chart.draw_panel(group, source.coordinates, source.time))
+                    (picture,) = chart.draw_panels([group], source.coordinates, source.time)
+                    self.check(picture)
 
     def test_legend_by_itself(self):
         for with_levels in (True, False):
@@ -600,7 +601,7 @@ class Plot:
     """A panel drawn by itself: its parts, and where a value is by the numbers of its axis."""
 
     def __init__(self, *group, time=None):
-        self.root = ElementTree.fromstring(chart.draw_panel(group, ("a", "b"), time))
+        self.root = ElementTree.fromstring(chart.draw_panels([group], ("a", "b"), time)[0])
         self.words = [shown(node) for node in self.root.iter(NS + "text")]
         _, self.frame, self.strip = map(shape_box, self.root.iter(NS + "rect"))
         self.steps = len(group[0].bounds) - 1

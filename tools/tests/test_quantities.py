@@ -37,10 +37,10 @@ class Decimals(unittest.TestCase):
             ("12345.678", 1, "12,345.6", "12,345.7"), ("5", 0, "5", "5"), ("5", 2, "5.00", "5.00"),
             ("-0.001", 1, "-0.1", "0.0"), ("0.05", 1, "0.0", "0.1"), ("1/7", 3, "0.142", "0.143"),
         ):
-            value = Fraction(value)
-            self.assertEqual(quantities.told_down(value, places), down)
-            self.assertEqual(quantities.told_up(value, places), up)
-        self.assertEqual(quantities.told_up(Fraction("12345.67"), 1, grouped=False), "12345.7")
+            sides = [f(Fraction(value), places)
+                     for f in (quantities.rounded_down, quantities.rounded_up)]
+            self.assertEqual([quantities.told(side, places) for side in sides], [down, up])
+        self.assertEqual(quantities.told(Fraction("12345.7"), 1, grouped=False), "12345.7")
 
     def test_rounding_goes_outward_by_less_than_the_last_decimal(self):
         rng = random.Random(1)

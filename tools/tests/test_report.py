@@ -25,6 +25,7 @@ import listings
 import models
 import pack
 import quantities
+from answers import Direction, Figures
 from layout import MAX_DIRECTION_ENTRY, MAX_DIRECTIONS, MAX_LEVEL, MIN_LEVEL, encode
 from listings import Growth, Refusal, Sweep, Verdict
 from reporting import batch, changes, data, inputs, page, reports, sharpen, tables, terminal, words
@@ -291,8 +292,8 @@ class Written(unittest.TestCase):
         self.assertRegex(cells[-1], f"^passed by .* from step {step}$")
         self.assertIn("1 REACHED AS WRITTEN", terminal.whole(told))
 
-    def test_a_true_maximum_of_804_counts_above_the_bound(self):
-        """Of the kind that a listing says nothing of."""
+    def test_a_true_maximum_far_above_the_bound(self):
+        """Also without a factor: of the kind that a listing says nothing of."""
         told = report(text("direction d 1", **{**self.SLOW, "upper": 0, "more": 3_700}), plain=True)
         (one,) = told.figures
         self.assertGreater(one.above[256], 700)
@@ -548,13 +549,14 @@ class Against(unittest.TestCase):
         self.assertEqual((cells["old_level"], cells["new_level"]), (1, 3))
 
     def test_same_is_said_of_what_is_equal_and_not_of_what_is_told_alike(self):
-        slack = {"entry": "~0.999", "upper": 1_000_000, "more": 0, "steps": 200}
-        near = {**slack, "lower": 0, "upper": 999_999}
-        found = self.compared(text("direction d -1", **{**slack, "lower": 1}),
-                              text("direction d -1", **{**near, "lower": 1}))
-        self.assertEqual(tables.changed_directions(found).rows[0][3], "same")
-        change = changes.Change(Fraction(1), Fraction(1), 0, comparable=True, same=False)
-        self.assertEqual(tables.told_change(change), ["1", "1", "0"])
+        """10,000.001 and 10,000.05 with a slack of 2 are both told as 10,000.1."""
+        one, other = (
+            Figures(Direction(0, "d", (1,), Sweep(0, (bound,), (2_000,)), factor=1_000))
+            for bound in (10_000_001, 10_000_050)
+        )
+        for new, expected in ((one, "same"), (other, "0.0")):
+            change = changes.DirectionChange(one, new, comparable=True).bound
+            self.assertEqual(tables.told_change(change), ["10,000.1", "10,000.1", expected])
 
     def test_a_packed_file_takes_the_names_of_the_text(self):
         content = (examples.FOLDER / "rail.model").read_text(encoding="utf-8")
