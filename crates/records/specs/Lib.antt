@@ -1,3 +1,4 @@
+pub mod Places
 pub mod Kinds
 pub mod Records
 pub mod Numbers
