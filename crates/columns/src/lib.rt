@@ -1,10 +1,11 @@
-// The columns of a body that a model does not use (File 7): whether the entries beyond n of a row, drift, point or direction are zero.
+// The columns of a body that a model does not use (File 7): whether the entries beyond n are zero, of whatever record has entries.
 // Where one is not, the record is refused by 16. No binary64 number is compared: a zero is told by its bits.
 //
-// No public function has a `requires`: any n, kind and bytes get their answer.
+// No public function has a `requires`: any n, layout and bytes get their answer.
 use records::kinds::Layout;
 ghost use mathlib.Core.Path.{_≡_};
-ghost use Prim.Native.Nat.{_≤_, _<_, _^_};
+ghost use Prim.Native.Nat.{_<_};
+ghost use lib.ListN.{length};
 ghost use Rattle.coefficients.specs.Binary64.{isZero};
 ghost use Rattle.columns.specs.Columns.{columnZero, unusedZero};
 
@@ -20,7 +21,7 @@ fn is_zero(bits: u64) -> bool
 
 // Entry i of a body is zero, its entries being of so many bytes from the offset `first` on. A fitted one has either zero.
 fn column_zero(first: usize, width: usize, body: &[u8], i: usize) -> bool
-    requires { ⌜ first < 2 ^ 63 ⌝ }
+    requires { ⌜ first < length (now body) ⌝ }
     requires { ⌜ i < 6 ⌝ }
     ensures { λ b. ⌜ b ≡ columnZero first width (now (body .entry)) i ⌝ }
 {

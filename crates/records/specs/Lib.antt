@@ -3,3 +3,4 @@ pub mod Kinds
 pub mod Records
 pub mod Numbers
 pub mod Order
+pub mod Inner

@@ -24,6 +24,7 @@ use crate::places::ROWS;
 use crate::places::START;
 ghost use mathlib.Core.Path.{_≡_};
 ghost use Rattle.records.specs.Kinds.{bodyLength, layoutOf};
+ghost use Rattle.records.specs.Inner.{KindTable};
 
 // A part of a model, as the table of File 3 has them.
 pub enum Part {
@@ -93,11 +94,18 @@ const KINDS: [Entry; 17] = [
     Entry(0xFF, End, NoPoint, 0, 0, 0, MANY, END),
 ];
 
+// The table. It is made in a function of its own, so that its numbers stand in no other proof.
+fn table() -> [Entry; 17]
+    ensures { λ r. ⌜ KindTable r ⌝ }
+{
+    KINDS
+}
+
 // The body length of a kind, by a search of the table.
 pub(crate) fn body_length(kind: u8) -> BodyLength
     ensures { λ r. ⌜ r ≡ bodyLength kind ⌝ }
 {
-    let table = KINDS;
+    let table = table();
     let mut i: usize = 0;
     while i < 17 {
         let entry = table[i];
@@ -113,7 +121,7 @@ pub(crate) fn body_length(kind: u8) -> BodyLength
 pub fn layout_of(kind: u8) -> Layout
     ensures { λ r. ⌜ r ≡ layoutOf kind ⌝ }
 {
-    let table = KINDS;
+    let table = table();
     let mut i: usize = 0;
     while i < 17 {
         let entry = table[i];

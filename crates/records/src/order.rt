@@ -9,6 +9,7 @@ use crate::places::ROWS;
 use crate::places::START;
 ghost use mathlib.Core.Path.{_≡_};
 ghost use Rattle.records.specs.Order.{mayFollow};
+ghost use Rattle.records.specs.Inner.{OrderTable};
 
 // A place, and a kind that may stand there.
 struct Pair(u8, u8);
@@ -54,11 +55,18 @@ const ORDER: [Pair; 38] = [
     Pair(GUARDS, 0xFF),
 ];
 
+// The table.
+fn table() -> [Pair; 38]
+    ensures { λ r. ⌜ OrderTable r ⌝ }
+{
+    ORDER
+}
+
 // Routines 13. The kind may stand at the place, by a search of the table.
 pub fn may_follow(place: u8, kind: u8) -> bool
     ensures { λ b. ⌜ b ≡ mayFollow place kind ⌝ }
 {
-    let table = ORDER;
+    let table = table();
     let sought = 256 * (place as u16) + (kind as u16);
     let mut i: usize = 0;
     while i < 38 {

@@ -8,7 +8,8 @@ use borrow.Author.Tests.{eq-eqb, ne-eqb, eqb-true, ltb-true}
 use lib.Dec.{eqb, ltb}
 use Rattle.integers.proofs.Booleans.{and-true}
 use Rattle.records.specs.declared.order.Pair.{Pair}
-use Rattle.records.specs.Order.{order, listed, mayFollow}
+use Rattle.records.specs.Order.{listed, mayFollow}
+use Rattle.records.specs.Inner.{pairsIn, OrderTable}
 use Rattle.records.proofs.Search.{lookup, Sought, sought-found, sought-next, sought-none}
 use Rattle.records.proofs.order.may_follow.Statement.{statement}
 use Rattle.records.proofs.order.may_follow.Tie as tie
@@ -24,15 +25,10 @@ same-pair a b place kind h k = elim (ℕ-discrete (packed a b) (packed place kin
     split true p f = ne-eqb b kind (λ q. f (omega (arith, eqb-true a place p, q)))
     split false p f = refl
 
--- the table, as the definition has it
-abbrev pairs : List Pair → List (ℕ × ℕ)
-pairs [] = []
-pairs (e ∷ es) = (e .0, e .1) ∷ pairs es
-
--- its kinds are bytes
-abbrev bytes : List Pair → Bool
+-- kinds are bytes
+abbrev bytes : List (ℕ × ℕ) → Bool
 bytes [] = true
-bytes (e ∷ es) = ltb (e .1) 256 && bytes es
+bytes (p ∷ ps) = ltb (p .1) 256 && bytes ps
 
 or-cond : (a b : Bool) → cond a true b ≡ a || b
 or-cond true b = refl
@@ -41,11 +37,11 @@ or-cond false b = refl
 abbrev same : ℕ → Pair → Bool
 same sought e = eqb (packed (e .0) (e .1)) sought
 
-lookup-listed : (place kind : ℕ) → kind < 256 → (es : List Pair) → bytes es ≡ true → lookup (same (packed place kind)) (λ e. true) false es ≡ listed place kind (pairs es)
+lookup-listed : (place kind : ℕ) → kind < 256 → (es : List Pair) → bytes (pairsIn es) ≡ true → lookup (same (packed place kind)) (λ e. true) false es ≡ listed place kind (pairsIn es)
 unfolding lookup
 lookup-listed place kind h [] t = refl
 lookup-listed place kind h (e ∷ es) t =
-    let both = and-true (ltb (e .1) 256) (bytes es) t in
+    let both = and-true (ltb (e .1) 256) (bytes (pairsIn es)) t in
     or-cond (same (packed place kind) e) (lookup (same (packed place kind)) (λ d. true) false es) ∙ ap₂ _||_ (same-pair (e .0) (e .1) place kind (ltb-true (e .1) 256 (both .0)) h) (lookup-listed place kind h es (both .1))
 
 abbrev Inv-loop : tie.InvT-loop
@@ -54,18 +50,25 @@ Inv-loop place kind table sought i₀ i = Sought (same sought) (λ e. true) fals
 abbrev μ-loop : tie.MeasureT-loop
 μ-loop place kind table sought i₀ i = 38 - i
 
-from-start : (place kind : ℕ) → kind < 256 → (table : List Pair) → pairs table ≡ order → bytes table ≡ true → Sought (same (packed place kind)) (λ e. true) false (mayFollow place kind) table 0
+from-start : (place kind : ℕ) → kind < 256 → (table : List Pair) → OrderTable table → Sought (same (packed place kind)) (λ e. true) false (mayFollow place kind) table 0
 unfolding mayFollow
-from-start place kind h table is t = record { within = omega arith; rest = lookup-listed place kind h table t ∙ ap (listed place kind) is }
+from-start place kind h table t =
+    record { within = omega arith; rest = lookup-listed place kind h table (ap bytes (t .pairs-are)) ∙ ap (listed place kind) (t .pairs-are) }
 
 mul-sought : tie.Need-mul-sought Inv-loop μ-loop
-mul-sought c = omega (arith, c .fits .place .fits)
+mul-sought c = omega (arith, c .before .fits .place .fits)
 
 add-sought : tie.Need-add-sought Inv-loop μ-loop
-add-sought c = omega (arith, c .fits .place .fits, c .fits .kind .fits)
+add-sought c = omega (arith, c .before .fits .place .fits, c .before .fits .kind .fits)
 
 loop-holds : tie.Need-loop-holds Inv-loop μ-loop
-loop-holds c = from-start (c .args .place) (c .args .kind) (c .fits .kind .fits) _ refl refl
+loop-holds c = let s = c .before in from-start (s .args .place) (s .args .kind) (s .fits .kind .fits) (c .table .result) (c .table .ensures)
+
+mul-pair : tie.Need-mul-pair Inv-loop μ-loop
+mul-pair c = omega (arith, c .loop-test .taken)
+
+array-copy-out-pair : tie.Need-array-copy-out-pair Inv-loop μ-loop
+array-copy-out-pair c = omega (arith, c .loop-test .taken, c .before .before .table .ensures .length-is)
 
 -- the numbers of an entry are bytes
 cast-at : tie.Need-cast-at Inv-loop μ-loop
@@ -83,15 +86,15 @@ add-at c = omega (arith, c .before .struct-known .given .0 .fits, c .struct-know
 returns : tie.Need-returns Inv-loop μ-loop
 returns c =
     let at-test = c .before .before .before .before in
-    sought-found (at-test .before .loop .inv) _ (at-test .loop-test .taken) (eq-eqb _ _ (c .if1 .taken))
+    sought-found (at-test .before .loop .inv) _ (omega (arith, at-test .loop-test .taken, at-test .before .before .table .ensures .length-is)) (eq-eqb _ _ (c .if1 .taken))
 
 loop-again : tie.Need-loop-again Inv-loop μ-loop
 loop-again c =
     let at-test = c .before .before .before .before in
-    sought-next (at-test .before .loop .inv) _ (at-test .loop-test .taken) (ne-eqb _ _ (c .if1 .left))
+    sought-next (at-test .before .loop .inv) _ (omega (arith, at-test .loop-test .taken, at-test .before .before .table .ensures .length-is)) (ne-eqb _ _ (c .if1 .left))
 
 returns-2 : tie.Need-returns-2 Inv-loop μ-loop
-returns-2 c = sought-none (c .before .loop .inv) (c .loop-test .left)
+returns-2 c = sought-none (c .before .loop .inv) (omega (arith, c .loop-test .left, c .before .before .table .ensures .length-is))
 
 pub may-follow-spec : {M : Type 1} → statement M
 may-follow-spec =
@@ -99,11 +102,12 @@ may-follow-spec =
     (tie.spec
     Inv-loop
     μ-loop
+    (λ c κs. search needs)
     mul-sought
     add-sought
     loop-holds
-    (λ c. omega arith)
-    (λ c. search needs)
+    mul-pair
+    array-copy-out-pair
     cast-at
     mul-at
     cast-at-2

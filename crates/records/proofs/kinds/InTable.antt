@@ -1,4 +1,4 @@
--- A search of a table of kinds, as code holds it, is `told` of the rows of the definition. Assumes nothing.
+-- A search of the table of kinds, as the code holds it, is `told` of the rows of the definition. Assumes nothing.
 use mathlib.Core.Path.{_≡_, refl, ap, _∙_}
 use mathlib.Core.Bool.{Bool, cond}
 use mathlib.Core.List.{List, [], _∷_}
@@ -7,22 +7,15 @@ use native.Mathlib.Omega.{arith}
 use lib.Dec.{eqb}
 use Rattle.records.specs.declared.kinds.Entry.{Entry}
 use Rattle.records.specs.declared.kinds.Layout.{Layout}
-use Rattle.records.specs.Kinds.{layout, kinds, told}
+use Rattle.records.specs.Kinds.{kinds, told}
+use Rattle.records.specs.Inner.{layoutIn, rowsIn, KindTable}
 use Rattle.records.proofs.Search.{lookup, Sought}
 
 abbrev pub ofKind : ℕ → Entry → Bool
 ofKind kind e = eqb (e .0) kind
 
-abbrev pub layoutIn : Entry → Layout
-layoutIn e = layout (e .1) (e .2) (e .3) (e .4) (e .5) (e .6) (e .7)
-
--- the table, as the definition has it
-abbrev pub rows : List Entry → List (ℕ × Layout)
-rows [] = []
-rows (e ∷ es) = (e .0, layoutIn e) ∷ rows es
-
 module _ {A : Type 0} (value : Layout → A) (none : A) (kind : ℕ) where
-  lookup-told : (es : List Entry) → lookup (ofKind kind) (λ e. value (layoutIn e)) none es ≡ told value none kind (rows es)
+  lookup-told : (es : List Entry) → lookup (ofKind kind) (λ e. value (layoutIn e)) none es ≡ told value none kind (rowsIn es)
   unfolding lookup
   lookup-told [] = refl
   lookup-told (e ∷ es) = ap (cond (eqb (e .0) kind) (value (layoutIn e))) (lookup-told es)
@@ -31,5 +24,5 @@ module _ {A : Type 0} (value : Layout → A) (none : A) (kind : ℕ) where
   abbrev pub InTable : List Entry → ℕ → Type 0
   InTable table i = Sought (ofKind kind) (λ e. value (layoutIn e)) none (told value none kind kinds) table i
 
-  pub from-start : (table : List Entry) → rows table ≡ kinds → InTable table 0
-  from-start table same = record { within = omega arith; rest = lookup-told table ∙ ap (told value none kind) same }
+  pub from-start : (table : List Entry) → KindTable table → InTable table 0
+  from-start table t = record { within = omega arith; rest = lookup-told table ∙ ap (told value none kind) (t .rows-are) }
