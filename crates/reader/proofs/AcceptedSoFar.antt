@@ -25,10 +25,10 @@ use Rattle.records.specs.Numbers.{littleEndian, signedAt}
 use Rattle.limits.specs.Limits.{directionLimit, stepsOk}
 use Rattle.reachability.specs.declared.sets.Shape.the-variants.{Box}
 use Rattle.reachability.specs.Sets.{points, orderedOk, zeroBox}
-use Rattle.records.specs.declared.order.Part.{Part}
-use Rattle.records.specs.declared.order.Part.the-variants.{Head, Row, Drift, Initial, Input, Direction, Guard, End}
+use Rattle.records.specs.declared.kinds.Part.{Part}
+use Rattle.records.specs.declared.kinds.Part.the-variants.{Head, Row, Drift, Initial, Input, Direction, Guard, End}
 use Rattle.reader.specs.declared.state.State.{State}
-use Rattle.records.specs.Order.{partOf}
+use Rattle.records.specs.Kinds.{partOf}
 use Rattle.columns.proofs.ColumnLaws.{partZero, unusedZero-at}
 use Rattle.reader.specs.Order.{mostOf}
 use Rattle.reader.specs.Models.{zeros, blankSet, blankModel, start, firstByte, usualSteps, defaultSteps, rowAnswer, rowPlace, withHead, withRow, withDrift, withPoint, withSetPoint, inputAt, withDirection, withGuard}
@@ -45,11 +45,11 @@ use Rattle.reader.proofs.PartsSoFar.{Beyond, sixAt-beyond, FrameAt, n-l
 
 pub record AcceptedSoFar (s : State) : Type 0 where
   pub first : s .last ≡ 0 → s ≡ start
-  pub frame : FrameAt (s .last) (s .rows) (s .model .n) (s .model .steps) (s .model .matrix)
-  pub initial : SetAt 0x10 (s .last) (s .model .n) (s .model .initial)
-  pub input : SetAt 0x20 (s .last) (s .model .n) (s .model .input)
-  pub drift : DriftAt (s .last) (s .model .n) (s .model .input) (s .model .drift)
-  pub directions : DirectionsAt (s .last) (s .model .n) (s .model .directions) (s .model .entries)
+  pub frame : FrameAt (s .place) (s .rows) (s .model .n) (s .model .steps) (s .model .matrix)
+  pub initial : SetAt 0x10 (s .place) (s .model .n) (s .model .initial)
+  pub input : SetAt 0x20 (s .place) (s .model .n) (s .model .input)
+  pub drift : DriftAt (s .place) (s .model .n) (s .model .input) (s .model .drift)
+  pub directions : DirectionsAt (s .place) (s .model .n) (s .model .directions) (s .model .entries)
   pub guards : GuardsAt (s .model .directions) (s .model .guards) (s .model .watched) (s .model .levels)
 
 -- corners of zeros are in order
@@ -199,14 +199,14 @@ module _ (s : State) (kind : ℕ) (body : List ℕ) (g : AcceptedSoFar s) where
         guards = g .guards;
       }
 
-  so-far-initial : pointMay 0x10 (s .last) kind ≡ true → leb 0x02 (s .last) ≡ true → ltb (s .last) 0x20 ≡ true → s .model .initial .count < mostOf kind → Beyond (s .model .n) body → pointOk (s .model .n) kind (withPoint (s .model .initial) kind body) ≡ true → AcceptedSoFar (withSetPoint false s kind body)
+  so-far-initial : pointMay 0x10 (s .place) kind ≡ true → leb 0x02 (s .place) ≡ true → ltb (s .place) 0x20 ≡ true → s .model .initial .count < mostOf kind → Beyond (s .model .n) body → pointOk (s .model .n) kind (withPoint (s .model .initial) kind body) ≡ true → AcceptedSoFar (withSetPoint false s kind body)
   unfolding withSetPoint
   so-far-initial may late early few beyond ok =
-      let l = leb-true 0x02 (s .last) late in
-      let h = ltb-true (s .last) 0x20 early in
-      let p = set-point 0x10 (s .last) (s .model .n) (s .model .initial) kind body (g .initial) refl may few beyond ok in
-      let a = point-low 0x10 (s .last) kind may in
-      let b = point-high 0x10 (s .last) kind may in
+      let l = leb-true 0x02 (s .place) late in
+      let h = ltb-true (s .place) 0x20 early in
+      let p = set-point 0x10 (s .place) (s .model .n) (s .model .initial) kind body (g .initial) refl may few beyond ok in
+      let a = point-low 0x10 (s .place) kind may in
+      let b = point-high 0x10 (s .place) kind may in
       record {
         first = λ z. absurd (omega arith);
         frame = frame-on (g .frame) kind (omega arith) (omega arith);
@@ -217,13 +217,13 @@ module _ (s : State) (kind : ℕ) (body : List ℕ) (g : AcceptedSoFar s) where
         guards = g .guards;
       }
 
-  so-far-input : pointMay 0x20 (s .last) kind ≡ true → isDone 0x10 (s .last) ≡ true → leb 0x02 (s .last) ≡ true → s .model .input .count < mostOf kind → Beyond (s .model .n) body → pointOk (s .model .n) kind (withPoint (s .model .input) kind body) ≡ true → enteringPointOk true (withPoint (s .model .input) kind body) (s .model .drift) ≡ true → AcceptedSoFar (withSetPoint true s kind body)
+  so-far-input : pointMay 0x20 (s .place) kind ≡ true → isDone 0x10 (s .place) ≡ true → leb 0x02 (s .place) ≡ true → s .model .input .count < mostOf kind → Beyond (s .model .n) body → pointOk (s .model .n) kind (withPoint (s .model .input) kind body) ≡ true → enteringPointOk true (withPoint (s .model .input) kind body) (s .model .drift) ≡ true → AcceptedSoFar (withSetPoint true s kind body)
   unfolding withSetPoint
   so-far-input may done late few beyond ok enters =
-      let l = leb-true 0x02 (s .last) late in
-      let p = set-point 0x20 (s .last) (s .model .n) (s .model .input) kind body (g .input) refl may few beyond ok in
-      let a = point-low 0x20 (s .last) kind may in
-      let b = point-high 0x20 (s .last) kind may in
+      let l = leb-true 0x02 (s .place) late in
+      let p = set-point 0x20 (s .place) (s .model .n) (s .model .input) kind body (g .input) refl may few beyond ok in
+      let a = point-low 0x20 (s .place) kind may in
+      let b = point-high 0x20 (s .place) kind may in
       record {
         first = λ z. absurd (omega arith);
         frame = frame-on (g .frame) kind (omega arith) (omega arith);
@@ -235,21 +235,21 @@ module _ (s : State) (kind : ℕ) (body : List ℕ) (g : AcceptedSoFar s) where
       }
 
   -- the input set that a direction finds or, straight after the initial set, leaves
-  so-far-input-at : 0x24 < kind → ltb (s .last) 0x20 || isDone 0x20 (s .last) ≡ true → SetAt 0x20 kind (s .model .n) (inputAt (s .last) (s .model))
-  so-far-input-at h t = split (ltb (s .last) 0x20) refl t
+  so-far-input-at : 0x24 < kind → ltb (s .place) 0x20 || isDone 0x20 (s .place) ≡ true → SetAt 0x20 kind (s .model .n) (inputAt (s .place) (s .model))
+  so-far-input-at h t = split (ltb (s .place) 0x20) refl t
     where
-      split : (b : Bool) → ltb (s .last) 0x20 ≡ b → b || isDone 0x20 (s .last) ≡ true → SetAt 0x20 kind (s .model .n) (cond b zeroBox (s .model .input))
+      split : (b : Bool) → ltb (s .place) 0x20 ≡ b → b || isDone 0x20 (s .place) ≡ true → SetAt 0x20 kind (s .model .n) (cond b zeroBox (s .model .input))
       split true e t = zero-box kind (s .model .n) h
       split false e t = set-late (g .input) kind h t
 
-  so-far-drift-at : 0x24 < kind → ltb (s .last) 0x20 || isDone 0x20 (s .last) ≡ true → DriftAt kind (s .model .n) (inputAt (s .last) (s .model)) (s .model .drift)
-  so-far-drift-at h t = split (ltb (s .last) 0x20) t
+  so-far-drift-at : 0x24 < kind → ltb (s .place) 0x20 || isDone 0x20 (s .place) ≡ true → DriftAt kind (s .model .n) (inputAt (s .place) (s .model)) (s .model .drift)
+  so-far-drift-at h t = split (ltb (s .place) 0x20) t
     where
-      split : (b : Bool) → b || isDone 0x20 (s .last) ≡ true → DriftAt kind (s .model .n) (cond b zeroBox (s .model .input)) (s .model .drift)
+      split : (b : Bool) → b || isDone 0x20 (s .place) ≡ true → DriftAt kind (s .model .n) (cond b zeroBox (s .model .input)) (s .model .drift)
       split true t = drift-zero-box (g .drift) kind (omega arith)
       split false t = drift-late (g .drift) kind (omega arith) t
 
-  so-far-direction : kind ≡ 0x30 → isDone 0x10 (s .last) ≡ true → 0x02 ≤ s .last → ltb (s .last) 0x20 || isDone 0x20 (s .last) ≡ true → s .model .directions < 16 → Beyond (s .model .n) body → directionOk body ≡ true → AcceptedSoFar (withDirection s kind body)
+  so-far-direction : kind ≡ 0x30 → isDone 0x10 (s .place) ≡ true → 0x02 ≤ s .last → ltb (s .place) 0x20 || isDone 0x20 (s .place) ≡ true → s .model .directions < 16 → Beyond (s .model .n) body → directionOk body ≡ true → AcceptedSoFar (withDirection s kind body)
   unfolding withDirection
   so-far-direction k done late input few beyond ok =
       record {
@@ -268,9 +268,9 @@ module _ (s : State) (kind : ℕ) (body : List ℕ) (g : AcceptedSoFar s) where
       record {
         first = λ z. absurd (omega arith);
         frame = frame-on (g .frame) kind (omega arith) (omega arith);
-        initial = set-late (g .initial) kind (omega arith) (isDone-late 0x10 (s .last) (omega arith));
-        input = set-late (g .input) kind (omega arith) (isDone-late 0x20 (s .last) (omega arith));
-        drift = drift-late (g .drift) kind (omega arith) (isDone-late 0x20 (s .last) (omega arith));
+        initial = set-late (g .initial) kind (omega arith) (isDone-late 0x10 (s .place) (omega arith));
+        input = set-late (g .input) kind (omega arith) (isDone-late 0x20 (s .place) (omega arith));
+        drift = drift-late (g .drift) kind (omega arith) (isDone-late 0x20 (s .place) (omega arith));
         directions = directions-late (g .directions) kind late;
         guards =
             record {
@@ -284,31 +284,31 @@ module _ (s : State) (kind : ℕ) (body : List ℕ) (g : AcceptedSoFar s) where
             };
       }
 
-  so-far-part : (p : Part) → fact p (s .last) kind ≡ true → countOf p s < mostOf kind → ((i : ℕ) → s .model .n ≤ i → i < 6 → partZero p kind body i ≡ true) → valueNumber p s kind body ≡ 0 → AcceptedSoFar (storedIn p s kind body)
+  so-far-part : (p : Part) → fact p (s .place) kind ≡ true → countOf p s < mostOf kind → ((i : ℕ) → s .model .n ≤ i → i < 6 → partZero p kind body i ≡ true) → valueNumber p s kind body ≡ 0 → AcceptedSoFar (storedIn p s kind body)
   unfolding fact
   so-far-part Head f few beyond z =
-      subst (λ (x : State). AcceptedSoFar (withHead x body)) (sym (g .first (eqb-true (s .last) 0x00 f))) (so-far-head body (passed (headOk body) 4 (omega arith) z))
-  so-far-part Row f few beyond z = so-far-row (eqb-true (s .last) 0x01 f)
+      subst (λ (x : State). AcceptedSoFar (withHead x body)) (sym (g .first (eqb-true (s .place) 0x00 f))) (so-far-head body (passed (headOk body) 4 (omega arith) z))
+  so-far-part Row f few beyond z = so-far-row (eqb-true (s .place) 0x01 f)
   so-far-part Drift f few beyond z =
-      let both = and-true (eqb kind 0x05) (eqb (s .last) 0x02) f in
-      so-far-drift (eqb-true kind 0x05 (both .0)) (eqb-true (s .last) 0x02 (both .1)) (sixAt-beyond (s .model .n) body beyond) (passed _ 17 (omega arith) z)
+      let both = and-true (eqb kind 0x05) (eqb (s .place) 0x02) f in
+      so-far-drift (eqb-true kind 0x05 (both .0)) (eqb-true (s .place) 0x02 (both .1)) (sixAt-beyond (s .model .n) body beyond) (passed _ 17 (omega arith) z)
   so-far-part Initial f few beyond z =
-      let a = and-true (pointMay 0x10 (s .last) kind) (leb 0x02 (s .last) && ltb (s .last) 0x20) f in
-      let b = and-true (leb 0x02 (s .last)) (ltb (s .last) 0x20) (a .1) in
+      let a = and-true (pointMay 0x10 (s .place) kind) (leb 0x02 (s .place) && ltb (s .place) 0x20) f in
+      let b = and-true (leb 0x02 (s .place)) (ltb (s .place) 0x20) (a .1) in
       so-far-initial (a .0) (b .0) (b .1) few (sixAt-beyond (s .model .n) body beyond) (passed _ 6 (omega arith) (firstOf-zero _ _ z .0))
   so-far-part Input f few beyond z =
-      let a = and-true (pointMay 0x20 (s .last) kind) (isDone 0x10 (s .last) && leb 0x02 (s .last)) f in
-      let b = and-true (isDone 0x10 (s .last)) (leb 0x02 (s .last)) (a .1) in
+      let a = and-true (pointMay 0x20 (s .place) kind) (isDone 0x10 (s .place) && leb 0x02 (s .place)) f in
+      let b = and-true (isDone 0x10 (s .place)) (leb 0x02 (s .place)) (a .1) in
       let numbers = firstOf-zero _ _ z in
       so-far-input (a .0) (b .0) (b .1) few (sixAt-beyond (s .model .n) body beyond) (passed _ 6 (omega arith) (numbers .0)) (passed _ 17 (omega arith) (numbers .1))
   so-far-part Direction f few beyond z =
-      let a = and-true (eqb kind 0x30) ((isDone 0x10 (s .last) && leb 0x02 (s .last)) && (ltb (s .last) 0x20 || isDone 0x20 (s .last))) f in
-      let b = and-true (isDone 0x10 (s .last) && leb 0x02 (s .last)) (ltb (s .last) 0x20 || isDone 0x20 (s .last)) (a .1) in
-      let d = and-true (isDone 0x10 (s .last)) (leb 0x02 (s .last)) (b .0) in
-      so-far-direction (eqb-true kind 0x30 (a .0)) (d .0) (leb-true 0x02 (s .last) (d .1)) (b .1) (lt-of-mostOf kind few) (sixAt-beyond (s .model .n) body beyond) (passed _ 7 (omega arith) z)
+      let a = and-true (eqb kind 0x30) ((isDone 0x10 (s .place) && leb 0x02 (s .place)) && (ltb (s .place) 0x20 || isDone 0x20 (s .place))) f in
+      let b = and-true (isDone 0x10 (s .place) && leb 0x02 (s .place)) (ltb (s .place) 0x20 || isDone 0x20 (s .place)) (a .1) in
+      let d = and-true (isDone 0x10 (s .place)) (leb 0x02 (s .place)) (b .0) in
+      so-far-direction (eqb-true kind 0x30 (a .0)) (d .0) (leb-true 0x02 (s .place) (d .1)) (b .1) (lt-of-mostOf kind few) (sixAt-beyond (s .model .n) body beyond) (passed _ 7 (omega arith) z)
   so-far-part Guard f few beyond z =
-      let a = and-true (eqb kind 0x40) (leb 0x30 (s .last)) f in
-      so-far-guard (eqb-true kind 0x40 (a .0)) (leb-true 0x30 (s .last) (a .1)) (lt-of-mostOf kind few) (passed _ 8 (omega arith) z)
+      let a = and-true (eqb kind 0x40) (leb 0x30 (s .place)) f in
+      so-far-guard (eqb-true kind 0x40 (a .0)) (leb-true 0x30 (s .place) (a .1)) (lt-of-mostOf kind few) (passed _ 8 (omega arith) z)
   so-far-part End f few beyond z = g
 
   pub acceptedSoFar-stored : kindNumber s kind ≡ 0 → bodyNumber s kind body ≡ 0 → AcceptedSoFar (stored s kind body)
@@ -316,7 +316,7 @@ module _ (s : State) (kind : ℕ) (body : List ℕ) (g : AcceptedSoFar s) where
   acceptedSoFar-stored k z =
       let both = kindNumber-zero s kind k in
       let numbers = bodyNumber-zero s kind body z in
-      so-far-part (partOf kind) (order-fact (s .last) kind (both .0)) (fewer (countOf (partOf kind) s) (mostOf kind) (both .1))
+      so-far-part (partOf kind) (order-fact (s .place) kind (both .0)) (fewer (countOf (partOf kind) s) (mostOf kind) (both .1))
       (unusedZero-at (s .model .n) kind body (numbers .0) (partOf kind) refl)
       (numbers .1)
     where

@@ -14,13 +14,13 @@ use Rattle.coefficients.specs.Entries.{entryNumber}
 use Rattle.coefficients.proofs.RowLaws.{entriesNumber-ind, scaledEntry-ind, entryOfBits-ind}
 use Rattle.records.specs.Records.{Record, whole, short, unknown, nothing, recordAt}
 use Rattle.records.proofs.RecordAt.{whole-of}
-use Rattle.records.specs.declared.order.Part.{Part}
-use Rattle.records.specs.declared.order.Part.the-variants.{Head, Row, Drift, Initial, Input, Direction, Guard, End}
+use Rattle.records.specs.declared.kinds.Part.{Part}
+use Rattle.records.specs.declared.kinds.Part.the-variants.{Head, Row, Drift, Initial, Input, Direction, Guard, End}
 use Rattle.reachability.specs.declared.sets.Set.{Set}
 use Rattle.columns.specs.Columns.{unusedZero}
 use Rattle.reader.specs.declared.Status.the-variants.{Refused}
 use Rattle.reader.specs.declared.state.State.{State}
-use Rattle.records.specs.Order.{partOf}
+use Rattle.records.specs.Kinds.{partOf}
 use Rattle.reader.specs.Models.{start, firstByte, rowAnswer, withPoint}
 use Rattle.reader.specs.Values.{headOk, driftOk, pointOk, enteringPointOk, directionOk, guardOk, unless, rowNumber, pointNumberOf, valueNumber, bodyNumber}
 use Rattle.reader.specs.Refusals.{kindNumber, refusal}

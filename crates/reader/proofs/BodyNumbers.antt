@@ -6,7 +6,7 @@ use Prim.Native.Nat.{ℕ, _<_}
 use native.Mathlib.Omega.{arith}
 use Rattle.arrays.specs.Tests.{firstOf}
 use Rattle.arrays.proofs.FirstOf.{firstOf-zero}
-use Rattle.records.specs.Order.{partOf}
+use Rattle.records.specs.Kinds.{partOf}
 use Rattle.columns.specs.Columns.{unusedZero}
 use Rattle.reader.specs.declared.state.State.{State}
 use Rattle.reader.specs.Values.{unless, valueNumber, bodyNumber}

@@ -7,10 +7,10 @@ use lib.ListN.{replicate}
 use Rattle.integers.specs.Sums.{allBelow, sumℕ, maxℕ}
 use Rattle.coefficients.specs.Entries.{scaledEntry}
 use Rattle.coefficients.specs.Rows.{firstNumber}
-use Rattle.records.specs.Kinds.{bodyLength}
+use Rattle.records.specs.Kinds.{bodyLength, layoutOf, partOf}
 use Rattle.records.specs.Records.{recordAt}
 use Rattle.records.specs.Numbers.{littleEndian}
-use Rattle.records.specs.Order.{mayFollow, partOf}
+use Rattle.records.specs.Order.{mayFollow}
 use Rattle.reader.specs.declared.Status.the-variants.{Read}
 use Rattle.reader.specs.Models.{zeros, blankSet, blankModel, start, sixAt, putRow, withHead, withRow, withDrift, withPoint, withSetPoint, withDirection}
 use Rattle.columns.specs.Columns.{unusedZero}

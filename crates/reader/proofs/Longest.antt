@@ -8,10 +8,10 @@ use Rattle.coefficients.specs.Binary64.{binary64Unit, magnitudeOf}
 use Rattle.integers.specs.Whole.{nearestEven}
 use Rattle.coefficients.specs.Entries.{fittedOk, fittedEntry, entryOfBits, scaledEntry}
 use Rattle.coefficients.specs.Rows.{firstNumber}
-use Rattle.records.specs.Kinds.{bodyLength}
+use Rattle.records.specs.Kinds.{bodyLength, layoutOf, partOf}
 use Rattle.records.specs.Records.{recordAt}
 use Rattle.records.specs.Numbers.{littleEndian}
-use Rattle.records.specs.Order.{mayFollow, partOf}
+use Rattle.records.specs.Order.{mayFollow}
 use Rattle.reader.specs.declared.Status.the-variants.{Read}
 use Rattle.reader.specs.Models.{zeros, blankSet, blankModel, start, sixAt, putRow, withHead, withRow, withDrift, withPoint, withSetPoint, withDirection, withGuard}
 use Rattle.columns.specs.Columns.{unusedZero}

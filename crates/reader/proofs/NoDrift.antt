@@ -12,11 +12,11 @@ use lib.ListN.{length}
 use lib.IntN.{ℤ}
 use Rattle.integers.proofs.Booleans.{and-true, or-false}
 use Rattle.arrays.specs.Tests.{firstOf}
-use Rattle.records.specs.Kinds.{bodyLength}
-use Rattle.records.specs.Order.{mayFollow, partOf}
+use Rattle.records.specs.Kinds.{bodyLength, layoutOf, partOf}
+use Rattle.records.specs.Order.{mayFollow}
 use Rattle.records.specs.Records.{Record, whole, short, unknown, nothing, recordAt, recordKind, recordBody}
-use Rattle.records.specs.declared.order.Part.{Part}
-use Rattle.records.specs.declared.order.Part.the-variants.{Head, Row, Drift, Initial, Input, Direction, Guard, End}
+use Rattle.records.specs.declared.kinds.Part.{Part}
+use Rattle.records.specs.declared.kinds.Part.the-variants.{Head, Row, Drift, Initial, Input, Direction, Guard, End}
 use Rattle.reachability.specs.declared.model.Model.{Model}
 use Rattle.integers.specs.Sums.{allBelow}
 use Rattle.columns.specs.Columns.{unusedZero}
@@ -72,7 +72,7 @@ module _ (s : State) (g : AcceptedSoFar s) (rows-in : s .last ≡ 0x02) where
       ∙ ap (readFrom ((before ++ zeroDrift) ++ rest) (length (before ++ zeroDrift))) drift-stored
 
   -- Any other kind is let in behind it as without it.
-  may-same : (kind : ℕ) → (kind ≡ 0x05 → ⊥) → mayFollow (s .last) kind ≡ mayFollow 0x05 kind
+  may-same : (kind : ℕ) → (kind ≡ 0x05 → ⊥) → mayFollow (s .place) kind ≡ mayFollow 0x05 kind
   unfolding mayFollow
   may-same kind ne = ap (λ (p : ℕ). mayFollow p kind) rows-in ∙ ap (λ (b : Bool). b || (eqb 0x10 kind || (eqb 0x12 kind || (eqb 0x14 kind || false)))) (ne-eqb 0x05 kind (λ e. ne (sym e)))
 
@@ -116,8 +116,8 @@ module _ (s : State) (g : AcceptedSoFar s) (rows-in : s .last ≡ 0x02) where
   let-in : (kind : ℕ) → kindNumber s kind ≡ 0 → (kind ≡ 0x05 → ⊥) → (partOf kind ≡ Initial) × (0x10 ≤ kind) × (kind ≤ 0x14)
   unfolding partOf
   let-in kind z ne =
-      let test = order-at (λ a b. not (eqb a 0x02) || (eqb b 0x05 || (leb 0x10 b && leb b 0x14))) refl (s .last) kind (kindNumber-zero s kind z .0) in
-      let range = and-true (leb 0x10 kind) (leb kind 0x14) (or-false (eqb kind 0x05) _ (or-false (not (eqb (s .last) 0x02)) _ test (ap not (eq-eqb (s .last) 0x02 rows-in))) (ne-eqb kind 0x05 ne)) in
+      let test = order-at (λ a b. not (eqb a 0x02) || (eqb b 0x05 || (leb 0x10 b && leb b 0x14))) refl (s .place) kind (kindNumber-zero s kind z .0) in
+      let range = and-true (leb 0x10 kind) (leb kind 0x14) (or-false (eqb kind 0x05) _ (or-false (not (eqb (s .place) 0x02)) _ test (ap not (eq-eqb (s .place) 0x02 rows-in))) (ne-eqb kind 0x05 ne)) in
       let low = leb-true 0x10 kind (range .0) in
       let high = leb-true kind 0x14 (range .1) in
       (simp (lt-leb kind 0x01 (omega arith), lt-leb kind 0x03 (omega arith), lt-leb kind 0x05 (omega arith), le-leb kind 0x14 high), low, high)
@@ -181,8 +181,8 @@ zero-kept Drift s kind body t h z = let y : _≡_ {A = ℕ} 0 1 = cc in absurd (
 zero-stored : (s : State) (kind : ℕ) (body : List ℕ) → kindNumber s kind ≡ 0 → NoDriftSince s → NoDriftSince (stored s kind body)
 unfolding stored partOf
 zero-stored s kind body allowed z =
-    let test = order-at (λ a b. leb a 0x05 || (isLate (partOf b) && ltb 0x05 b)) refl (s .last) kind (kindNumber-zero s kind allowed .0) in
-    let both = and-true (isLate (partOf kind)) (ltb 0x05 kind) (or-false (leb (s .last) 0x05) _ test (lt-leb (s .last) 0x05 (z .late))) in
+    let test = order-at (λ a b. leb a 0x05 || (isLate (partOf b) && ltb 0x05 b)) refl (s .place) kind (kindNumber-zero s kind allowed .0) in
+    let both = and-true (isLate (partOf kind)) (ltb 0x05 kind) (or-false (leb (s .place) 0x05) _ test (lt-leb (s .place) 0x05 (z .late))) in
     zero-kept (partOf kind) s kind body (both .0) (ltb-true 0x05 kind (both .1)) z
 
 zero-first : (s : State) (kind : ℕ) (body : List ℕ) → partOf kind ≡ Initial → 0x05 < kind → s .model .drift ≡ zeros 6 → NoDriftSince (stored s kind body)

@@ -14,11 +14,11 @@ use lib.IntN.{ℤ, pos}
 use Rattle.integers.specs.Sums.{allBelow}
 use Rattle.integers.proofs.Booleans.{and-true, or-false}
 use Rattle.arrays.specs.Tests.{firstOf}
-use Rattle.records.specs.Kinds.{bodyLength}
-use Rattle.records.specs.Order.{mayFollow, partOf}
+use Rattle.records.specs.Kinds.{bodyLength, layoutOf, partOf}
+use Rattle.records.specs.Order.{mayFollow}
 use Rattle.records.specs.Records.{Record, whole, short, unknown, nothing, recordAt, recordKind, recordBody}
-use Rattle.records.specs.declared.order.Part.{Part}
-use Rattle.records.specs.declared.order.Part.the-variants.{Head, Row, Drift, Initial, Input, Direction, Guard, End}
+use Rattle.records.specs.declared.kinds.Part.{Part}
+use Rattle.records.specs.declared.kinds.Part.the-variants.{Head, Row, Drift, Initial, Input, Direction, Guard, End}
 use Rattle.records.proofs.RecordAt.{recordAt-nothing, Reaches}
 use Rattle.reachability.specs.declared.sets.Shape.{Shape}
 use Rattle.reachability.specs.declared.sets.Shape.the-variants.{Box}
@@ -61,24 +61,24 @@ zeroSet count = record { shape = Box; count = count; points = zeros 96 }
 abbrev withCorners : State → ℕ → ℕ → State
 withCorners s kind count = stateOf kind (s .rows) (setSet true (s .model) (zeroSet count))
 
-module _ (s : State) (g : AcceptedSoFar s) (complete : completesInitial (s .last) ≡ true) where
+module _ (s : State) (g : AcceptedSoFar s) (complete : completesInitial (s .place) ≡ true) where
   -- what holds at the three kinds holds at the place
-  at-place : (test : ℕ → Bool) → test 0x11 ≡ true → test 0x13 ≡ true → test 0x14 ≡ true → test (s .last) ≡ true
-  at-place test a b d = by (eqb (s .last) 0x11) refl (eqb (s .last) 0x13) refl complete
+  at-place : (test : ℕ → Bool) → test 0x11 ≡ true → test 0x13 ≡ true → test 0x14 ≡ true → test (s .place) ≡ true
+  at-place test a b d = by (eqb (s .place) 0x11) refl (eqb (s .place) 0x13) refl complete
     where
-      is : (kind : ℕ) → eqb (s .last) kind ≡ true → test kind ≡ true → test (s .last) ≡ true
-      is kind e t = ap test (eqb-true (s .last) kind e) ∙ t
+      is : (kind : ℕ) → eqb (s .place) kind ≡ true → test kind ≡ true → test (s .place) ≡ true
+      is kind e t = ap test (eqb-true (s .place) kind e) ∙ t
 
-      by : (x : Bool) → eqb (s .last) 0x11 ≡ x → (y : Bool) → eqb (s .last) 0x13 ≡ y → x || (y || eqb (s .last) 0x14) ≡ true → test (s .last) ≡ true
+      by : (x : Bool) → eqb (s .place) 0x11 ≡ x → (y : Bool) → eqb (s .place) 0x13 ≡ y → x || (y || eqb (s .place) 0x14) ≡ true → test (s .place) ≡ true
       by true e y f t = is 0x11 e a
       by false e true f t = is 0x13 f b
       by false e false f t = is 0x14 t d
 
   early : s .last < 0x20
-  early = ltb-true (s .last) 0x20 (at-place (λ k. ltb k 0x20) refl refl refl)
+  early = ltb-true (s .place) 0x20 (at-place (λ k. ltb k 0x20) refl refl refl)
 
   dimension : s .model .n ≤ 6
-  dimension = n-most (s .model .n) (g .frame .dimension (ltb-true 0 (s .last) (at-place (λ k. ltb 0 k) refl refl refl)))
+  dimension = n-most (s .model .n) (g .frame .dimension (ltb-true 0 (s .place) (at-place (λ k. ltb 0 k) refl refl refl)))
 
   blank : s .model .input ≡ zeroSet 0
   unfolding blankSet
@@ -159,9 +159,9 @@ module _ (s : State) (g : AcceptedSoFar s) (complete : completesInitial (s .last
       subst (λ (k : ℕ). firstOf (kindNumber s k) (bodyNumber s k body) ≡ firstOf (kindNumber (withCorners s 0x21 2) k) (bodyNumber (withCorners s 0x21 2) k body)) (sym e)
       (ap (λ (k : ℕ). firstOf k (bodyNumber s 0x30 body)) direction-allowed)
 
-  zero-input : inputAt (s .last) (s .model) ≡ zeroSet 2
+  zero-input : inputAt (s .place) (s .model) ≡ zeroSet 2
   unfolding zeroBox zeros
-  zero-input = ap (λ (b : Bool). cond b zeroBox (s .model .input)) (lt-ltb (s .last) 0x20 early)
+  zero-input = ap (λ (b : Bool). cond b zeroBox (s .model .input)) (lt-ltb (s .place) 0x20 early)
 
   direction-stored : (body : List ℕ) → stored s 0x30 body ≡ stored (withCorners s 0x21 2) 0x30 body
   unfolding stored partOf withDirection
@@ -195,7 +195,7 @@ isLate End = true
 zero-kept : (p : Part) (s : State) (kind : ℕ) (body : List ℕ) → isLate p ≡ true → 0x30 ≤ kind → ZeroInput s → ZeroInput (storedIn p s kind body)
 unfolding withDirection withGuard
 zero-kept Direction s kind body t h z =
-    record { late = h; zero = ap (λ (b : Bool). cond b zeroBox (s .model .input)) (le-ltb (s .last) 0x20 (omega (arith, z .late))) ∙ z .zero }
+    record { late = h; zero = ap (λ (b : Bool). cond b zeroBox (s .model .input)) (le-ltb (s .place) 0x20 (omega (arith, z .late))) ∙ z .zero }
 zero-kept Guard s kind body t h z = record { late = h; zero = z .zero }
 zero-kept End s kind body t h z = z
 zero-kept Head s kind body t h z = let y : _≡_ {A = ℕ} 0 1 = cc in absurd (omega arith)
@@ -207,13 +207,13 @@ zero-kept Input s kind body t h z = let y : _≡_ {A = ℕ} 0 1 = cc in absurd (
 zero-stored : (s : State) (kind : ℕ) (body : List ℕ) → kindNumber s kind ≡ 0 → ZeroInput s → ZeroInput (stored s kind body)
 unfolding stored partOf
 zero-stored s kind body allowed z =
-    let test = order-at (λ a b. ltb a 0x30 || (isLate (partOf b) && leb 0x30 b)) refl (s .last) kind (kindNumber-zero s kind allowed .0) in
-    let both = and-true (isLate (partOf kind)) (leb 0x30 kind) (or-false (ltb (s .last) 0x30) _ test (le-ltb (s .last) 0x30 (z .late))) in
+    let test = order-at (λ a b. ltb a 0x30 || (isLate (partOf b) && leb 0x30 b)) refl (s .place) kind (kindNumber-zero s kind allowed .0) in
+    let both = and-true (isLate (partOf kind)) (leb 0x30 kind) (or-false (ltb (s .place) 0x30) _ test (le-ltb (s .place) 0x30 (z .late))) in
     zero-kept (partOf kind) s kind body (both .0) (leb-true 0x30 kind (both .1)) z
 
 zero-first : (s : State) (body : List ℕ) → s .last < 0x20 → ZeroInput (stored s 0x30 body)
 unfolding stored partOf withDirection
-zero-first s body early = record { late = omega arith; zero = ap (λ (b : Bool). cond b zeroBox (s .model .input)) (lt-ltb (s .last) 0x20 early) }
+zero-first s body early = record { late = omega arith; zero = ap (λ (b : Bool). cond b zeroBox (s .model .input)) (lt-ltb (s .place) 0x20 early) }
 
 -- ---- files in which a direction stands straight after a complete initial set
 

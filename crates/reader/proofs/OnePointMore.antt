@@ -12,9 +12,9 @@ use lib.ListN.{length}
 use lib.IntN.{pos}
 use Rattle.integers.proofs.Machine.{getD-tabulate}
 use Rattle.integers.proofs.Booleans.{and-true}
-use Rattle.records.specs.declared.order.Part.{Part}
-use Rattle.records.specs.declared.order.Part.the-variants.{Initial, Input}
-use Rattle.records.specs.Order.{partOf}
+use Rattle.records.specs.declared.kinds.Part.{Part}
+use Rattle.records.specs.declared.kinds.Part.the-variants.{Initial, Input}
+use Rattle.records.specs.Kinds.{partOf}
 use Rattle.reachability.specs.declared.sets.Shape.the-variants.{Box, Zonotope}
 use Rattle.reachability.specs.declared.sets.Set.{Set}
 use Rattle.reachability.specs.OneMore.{OneMore, newPoint}
@@ -91,18 +91,18 @@ module _ (file : List ℕ) (turns kind : ℕ) (body : List ℕ) where
   so-far : AcceptedSoFar s
   so-far = reachable-stop file turns .so-far
 
-  fact-of : (p : Part) → partOf kind ≡ p → kindNumber s kind ≡ 0 → (fact p (s .last) kind ≡ true) × (countOf p s < 16)
+  fact-of : (p : Part) → partOf kind ≡ p → kindNumber s kind ≡ 0 → (fact p (s .place) kind ≡ true) × (countOf p s < 16)
   fact-of p e may =
       let both = kindNumber-zero s kind may in
-      (subst (λ (q : Part). fact q (s .last) kind ≡ true) e (order-fact (s .last) kind (both .0)), count-lt s kind (both .1) e)
+      (subst (λ (q : Part). fact q (s .place) kind ≡ true) e (order-fact (s .place) kind (both .0)), count-lt s kind (both .1) e)
 
   -- Sets 16: the record gives its set one point more.
   pub one-more : (input : Bool) → PointAt file turns input kind → OneMore (setBefore file turns input) (setWith file turns input kind body)
   unfolding fact
   one-more false p =
-      one-more-at 0x10 (s .last) (s .model .n) (s .model .initial) kind body (so-far .initial) refl (and-true (pointMay 0x10 (s .last) kind) _ (fact-of Initial (p .part) (p .allowed) .0) .0) (p .some)
+      one-more-at 0x10 (s .place) (s .model .n) (s .model .initial) kind body (so-far .initial) refl (and-true (pointMay 0x10 (s .place) kind) _ (fact-of Initial (p .part) (p .allowed) .0) .0) (p .some)
   one-more true p =
-      one-more-at 0x20 (s .last) (s .model .n) (s .model .input) kind body (so-far .input) refl (and-true (pointMay 0x20 (s .last) kind) _ (fact-of Input (p .part) (p .allowed) .0) .0) (p .some)
+      one-more-at 0x20 (s .place) (s .model .n) (s .model .input) kind body (so-far .input) refl (and-true (pointMay 0x20 (s .place) kind) _ (fact-of Input (p .part) (p .allowed) .0) .0) (p .some)
 
   -- File 3: the new point is the one in the body.
   pub new-point : (input : Bool) → PointAt file turns input kind → (i : ℕ) → i < 6 → newPoint (setBefore file turns input) (setWith file turns input kind body) i ≡ entryAt body 0 i

@@ -9,8 +9,8 @@ use native.Mathlib.Omega.{arith}
 use borrow.Author.Tests.{eq-eqb, ne-eqb, eqb-true, le-leb, lt-leb, leb-true, le-ltb}
 use lib.Dec.{eqb, leb, ltb}
 use Rattle.integers.proofs.Booleans.{and-true, or-true}
-use Rattle.records.specs.declared.order.Part.{Part}
-use Rattle.records.specs.declared.order.Part.the-variants.{Head, Row, Drift, Initial, Input, Direction, Guard, End}
+use Rattle.records.specs.declared.kinds.Part.{Part}
+use Rattle.records.specs.declared.kinds.Part.the-variants.{Head, Row, Drift, Initial, Input, Direction, Guard, End}
 use Rattle.records.specs.Order.{order, listed, mayFollow, partOf}
 
 -- ---- what every pair passes holds where a kind may stand

@@ -20,7 +20,8 @@ use Rattle.reachability.specs.Limits.{accepted}
 use Rattle.reader.specs.declared.Status.the-variants.{Read}
 use Rattle.reader.specs.declared.Reading.{Reading}
 use Rattle.reader.specs.declared.state.State.{State}
-use Rattle.records.specs.Order.{mayFollow, partOf}
+use Rattle.records.specs.Kinds.{layoutOf, partOf}
+use Rattle.records.specs.Order.{mayFollow}
 use Rattle.reader.specs.Models.{blankModel, start}
 use Rattle.reader.specs.Refusals.{refusal, stored}
 use Rattle.reader.specs.Reading.{Stop, stopHere, goesOn, behind, storedRecord, stopFor, stopFrom, numberAt, offsetAt, refused, readAs, readingAt, readFrom, readModel, readNumber, readOffset, statusNumber, statusOffset, Reads}
@@ -142,9 +143,9 @@ readModel-reached file e =
 accepted-of : (s : State) → AcceptedSoFar s → 0x30 ≤ s .last → accepted (s .model) ≡ true
 accepted-of s g late =
     ap₂ _&&_ frame
-    (ap₂ _&&_ (g .initial .done (isDone-late 0x10 (s .last) (omega arith)))
-    (ap₂ _&&_ (g .input .done (isDone-late 0x20 (s .last) (omega arith)))
-    (ap₂ _&&_ (ap₂ _&&_ beyond (g .drift .entering (isDone-late 0x20 (s .last) (omega arith))))
+    (ap₂ _&&_ (g .initial .done (isDone-late 0x10 (s .place) (omega arith)))
+    (ap₂ _&&_ (g .input .done (isDone-late 0x20 (s .place) (omega arith)))
+    (ap₂ _&&_ (ap₂ _&&_ beyond (g .drift .entering (isDone-late 0x20 (s .place) (omega arith))))
     (ap₂ _&&_ directions (guardsOk-of (s .model .directions) (s .model .guards) (s .model .watched) (s .model .levels) (g .guards .few) (g .guards .guarded))))))
   where
     frame : frameOk (s .model .n) (s .model .steps) (s .model .matrix) ≡ true

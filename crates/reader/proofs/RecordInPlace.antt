@@ -9,7 +9,7 @@ use Rattle.records.specs.declared.kinds.BodyLength.the-variants.{Bytes}
 use Rattle.records.specs.Kinds.{bodyLength}
 use Rattle.records.proofs.RecordAt.{recordAt-stands}
 use Rattle.reader.specs.declared.state.State.{State}
-use Rattle.records.specs.Order.{partOf}
+use Rattle.records.specs.Kinds.{partOf}
 use Rattle.columns.proofs.ColumnLaws.{unusedZero-none}
 use Rattle.reader.specs.Values.{bodyNumber}
 use Rattle.reader.specs.Refusals.{kindNumber, stored}

@@ -12,9 +12,9 @@ use lib.ListN.{length}
 use Rattle.arrays.proofs.FirstOf.{firstOf-zero}
 use Rattle.coefficients.specs.Binary64.{isZero}
 use Rattle.coefficients.proofs.ZeroBits.{zero-patterns}
-use Rattle.records.specs.declared.order.Part.{Part}
-use Rattle.records.specs.declared.order.Part.the-variants.{Head, Row, Drift, Initial, Input, Direction, Guard, End}
-use Rattle.records.specs.Order.{partOf}
+use Rattle.records.specs.declared.kinds.Part.{Part}
+use Rattle.records.specs.declared.kinds.Part.the-variants.{Head, Row, Drift, Initial, Input, Direction, Guard, End}
+use Rattle.records.specs.Kinds.{partOf}
 use Rattle.records.specs.Records.{Record, whole, nothing, recordAt, recordKind, recordBody}
 use Rattle.records.proofs.LittleEndian.{AllBytes, littleEndian-lt}
 use Rattle.records.proofs.RecordAt.{recordAt-nothing, whole-of, whole-bytes}
@@ -87,9 +87,9 @@ start-n : start .model .n ≡ 0
 unfolding start blankModel
 start-n = refl
 
-n-onward : (s : State) (kind : ℕ) (body : List ℕ) → AcceptedSoFar s → (p : Part) → fact p (s .last) kind ≡ true → s .model .n ≤ storedIn p s kind body .model .n
+n-onward : (s : State) (kind : ℕ) (body : List ℕ) → AcceptedSoFar s → (p : Part) → fact p (s .place) kind ≡ true → s .model .n ≤ storedIn p s kind body .model .n
 unfolding fact withRow withDrift withSetPoint withDirection withGuard
-n-onward s kind body g Head f = omega (arith, ap (λ (x : State). x .model .n) (g .first (eqb-true (s .last) 0x00 f)), start-n)
+n-onward s kind body g Head f = omega (arith, ap (λ (x : State). x .model .n) (g .first (eqb-true (s .place) 0x00 f)), start-n)
 n-onward s kind body g Row f = omega arith
 n-onward s kind body g Drift f = omega arith
 n-onward s kind body g Initial f = omega arith
@@ -107,7 +107,7 @@ unfolding stored
 onward-next file n at s kind body o g =
     record {
       so-far = acceptedSoFar-stored s kind body (o .so-far) (g .allowed) (g .passes);
-      least = omega (arith, o .least, n-onward s kind body (o .so-far) (partOf kind) (order-fact (s .last) kind (kindNumber-zero s kind (g .allowed) .0)));
+      least = omega (arith, o .least, n-onward s kind body (o .so-far) (partOf kind) (order-fact (s .place) kind (kindNumber-zero s kind (g .allowed) .0)));
     }
 
 -- ---- the records from an offset on

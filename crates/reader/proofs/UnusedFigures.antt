@@ -9,10 +9,10 @@ use Rattle.integers.specs.Whole.{nearestEven}
 use Rattle.coefficients.specs.Binary64.{binary64Unit, magnitudeOf, isZero}
 use Rattle.coefficients.specs.Entries.{fittedOk, fittedEntry, entryOfBits}
 use Rattle.coefficients.specs.Rows.{firstNumber}
-use Rattle.records.specs.Kinds.{bodyLength}
+use Rattle.records.specs.Kinds.{bodyLength, layoutOf, partOf}
 use Rattle.records.specs.Records.{recordAt}
 use Rattle.records.specs.Numbers.{littleEndian}
-use Rattle.records.specs.Order.{mayFollow, partOf}
+use Rattle.records.specs.Order.{mayFollow}
 use Rattle.columns.specs.Columns.{unusedZero}
 use Rattle.reader.specs.declared.Status.the-variants.{Read}
 use Rattle.reader.specs.Models.{zeros, blankSet, blankModel, start, sixAt, putRow, withHead, withRow, withDrift, withPoint, withSetPoint, withDirection}

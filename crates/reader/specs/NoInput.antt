@@ -6,20 +6,23 @@ use mathlib.Core.List.{List, _∷_, _++_}
 use Prim.Native.Nat.{ℕ, _+_}
 use lib.Dec.{eqb}
 use lib.ListN.{take, drop, replicate}
+use Rattle.records.specs.declared.kinds.Part.the-variants.{Direction}
+use Rattle.records.specs.Places.{initialPlace}
+use Rattle.records.specs.Kinds.{partOf}
 use Rattle.records.specs.Records.{recordAt, recordKind}
 use Rattle.reader.specs.declared.Status.{Status}
 use Rattle.reader.specs.declared.Status.the-variants.{Read, Refused}
 use Rattle.reader.specs.declared.Reading.{Reading}
 use Rattle.reader.specs.Reading.{Stop}
 
--- The last record of a complete initial set is its upper corner, a generator or a vertex.
+-- The initial set is complete behind its upper corner, a generator or a vertex.
 abbrev pub completesInitial : ℕ → Bool
-completesInitial kind = eqb kind 0x11 || (eqb kind 0x13 || eqb kind 0x14)
+completesInitial place = eqb place (initialPlace + 1) || (eqb place (initialPlace + 3) || eqb place (initialPlace + 4))
 
 -- A place in a file: the initial set is complete, and the next record, whole or cut, is a direction.
 pub record NoInputAt (file : List ℕ) (p : Stop) : Type 0 where
-  pub complete : completesInitial (p .state .last) ≡ true
-  pub direction : recordKind (recordAt file (p .at)) ≡ 0x30
+  pub complete : completesInitial (p .state .place) ≡ true
+  pub direction : partOf (recordKind (recordAt file (p .at))) ≡ Direction
 
 -- Six numbers of zero.
 abbrev pub zeroBody : List ℕ

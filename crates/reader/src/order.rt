@@ -7,7 +7,7 @@ use records::kinds::Point;
 use records::order::may_follow;
 ghost use mathlib.Core.Path.{_≡_};
 ghost use Rattle.reader.specs.Order.{shapeOf};
-ghost use Rattle.reader.specs.Refusals.{countOf, kindNumber};
+ghost use Rattle.reader.specs.Refusals.{countOf, kindNumberOf};
 
 // The shape of the set that such a point belongs to.
 pub(crate) fn shape_of(point: Point) -> Shape

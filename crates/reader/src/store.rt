@@ -129,7 +129,8 @@ pub(crate) fn with_set(input: bool, model: Model, set: Set) -> Model
     next
 }
 
-// File 10: the input set once a direction stands at the place. Before the first place of the input set no record of it was read, and it is the box from zero to zero.
+// File 10: the input set once a direction stands at the place. Before the places of the input set no record of it was read, and it is
+// the box from zero to zero.
 pub(crate) fn input_at(place: u8, model: Model) -> Set
     ensures { λ r. ⌜ r ≡ inputAt place model ⌝ }
 {

@@ -18,17 +18,16 @@ use reachability::sets::reach_within;
 use records::kinds::Layout;
 use records::kinds::Part;
 use records::kinds::Point;
-use records::places::MATRIX;
 use records::places::ROWS;
 ghost use mathlib.Core.Path.{_≡_};
 ghost use mathlib.Core.Bool.{false};
-ghost use Prim.Native.Nat.{_<_};
+ghost use Prim.Native.Nat.{_≤_, _<_};
 ghost use lib.Dec.{eqb};
-ghost use Rattle.records.specs.Order.{partOf};
 ghost use Rattle.arrays.specs.Tests.{firstOf};
 ghost use Rattle.reader.specs.Models.{withHead, rowStored, withRow, withDrift, setOf, withSetPoint, withDirection, withGuard};
+ghost use Rattle.reader.specs.Order.{isUpper};
 ghost use Rattle.reader.specs.Values.{headOk, rowNumber, driftOk, cornersOk, pointNumberOf, directionOk, guardOk, unless, pointNumber, valueNumber};
-ghost use Rattle.reader.specs.Refusals.{oneTooMany, stored};
+ghost use Rattle.reader.specs.Refusals.{oneTooMany, storedIn};
 ghost use Rattle.reader.specs.Inner.{Takes};
 
 // File 4: what steps of 0 stand for.
@@ -52,8 +51,8 @@ pub struct Taken {
     pub state: State,
 }
 
-fn take_head(state: State, body: &[u8]) -> Taken
-    ensures { λ r. ⌜ Takes (unless (headOk (now (body .entry))) 4) (withHead state (now (body .entry))) r ⌝ }
+fn take_head(state: State, layout: Layout, body: &[u8]) -> Taken
+    ensures { λ r. ⌜ Takes (unless (headOk (now (body .entry))) 4) (withHead state layout (now (body .entry))) r ⌝ }
 {
     let n = first_byte(body);
     let said = records::u16_at(body, 1) as usize;
@@ -73,7 +72,7 @@ fn take_head(state: State, body: &[u8]) -> Taken
     Taken {
         number: 0,
         state: State {
-            place: ROWS,
+            place: layout.place,
             rows: 0,
             model,
         },
@@ -81,9 +80,9 @@ fn take_head(state: State, body: &[u8]) -> Taken
 }
 
 // One row more, where its number is that of the next row and no entry is refused.
-fn store_row(state: State, row: usize, entries: RowEntries) -> Taken
+fn store_row(state: State, layout: Layout, row: usize, entries: RowEntries) -> Taken
     requires { ⌜ row < 256 ⌝ }
-    ensures { λ r. ⌜ Takes (firstOf (unless (eqb row (state .rows)) 5) (entries .number)) (rowStored state (entries .six)) r ⌝ }
+    ensures { λ r. ⌜ Takes (firstOf (unless (eqb row (state .rows)) 5) (entries .number)) (rowStored state layout (entries .six)) r ⌝ }
 {
     let rows = state.rows;
     let misplaced: u8 = if row == rows { 0 } else { 5 };
@@ -98,7 +97,7 @@ fn store_row(state: State, row: usize, entries: RowEntries) -> Taken
     put_row(&mut matrix, row, &six);
     model.matrix = matrix;
     let next = row + 1;
-    let place: u8 = if next < n { ROWS } else { MATRIX };
+    let place: u8 = if next < n { ROWS } else { layout.place };
     Taken {
         number: 0,
         state: State {
@@ -119,11 +118,11 @@ fn take_row(state: State, layout: Layout, body: &[u8]) -> Taken
     if layout.width == FITTED {
         let held = fitted_row(body, layout.first);
         let entries = fitted_entries(n, held);
-        return store_row(state, held.number, entries);
+        return store_row(state, layout, held.number, entries);
     }
     let six = six_at(body, layout.first);
     let entries = scaled_entries(n, six);
-    store_row(state, first_byte(body), entries)
+    store_row(state, layout, first_byte(body), entries)
 }
 
 // The drift.
@@ -277,14 +276,16 @@ fn take_guard(state: State, layout: Layout, body: &[u8]) -> Taken
     }
 }
 
-// The record's value test and the state behind it. The kind has passed 3 and 9.
+// The record's value test and the state behind it. Its kind has passed 3 and 9.
 pub(crate) fn take(state: State, layout: Layout, body: &[u8]) -> Taken
-    requires { ⌜ oneTooMany state kind ≡ false ⌝ }
-    ensures { λ r. ⌜ Takes (valueNumber (partOf kind) state kind (now (body .entry))) (stored state kind (now (body .entry))) r ⌝ }
+    requires { ⌜ oneTooMany state layout ≡ false ⌝ }
+    requires { ⌜ layout .most ≤ 16 ⌝ }
+    requires { ⌜ layout .first ≤ 1 ⌝ }
+    ensures { λ r. ⌜ Takes (valueNumber (layout .part) state layout (now (body .entry))) (storedIn (layout .part) state layout (now (body .entry))) r ⌝ }
 {
     let part = layout.part;
     match part {
-        Part::Head => take_head(state, body),
+        Part::Head => take_head(state, layout, body),
         Part::Row => take_row(state, layout, body),
         Part::Drift => take_drift(state, layout, body),
         Part::Initial => take_point(state, false, layout, body),

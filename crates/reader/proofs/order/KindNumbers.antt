@@ -6,9 +6,10 @@ use Prim.Native.Nat.{ℕ, _%_, _≤_, _<_}
 use native.Mathlib.Omega.{arith}
 use borrow.Author.Tests.{leb-false}
 use lib.Dec.{eqb, leb}
-use Rattle.records.specs.declared.order.Part.{Part}
+use Rattle.records.specs.declared.kinds.Part.{Part}
 use Rattle.reader.specs.declared.state.State.{State}
-use Rattle.records.specs.Order.{mayFollow, partOf}
+use Rattle.records.specs.Kinds.{layoutOf, partOf}
+use Rattle.records.specs.Order.{mayFollow}
 use Rattle.reader.specs.Order.{mostOf}
 use Rattle.reader.specs.Refusals.{countOf, oneTooMany, kindNumber}
 
@@ -37,10 +38,10 @@ count-lt s kind {p} few e = within (countOf p s) (mostOf kind) (mostOf-le kind) 
 
 module _ (s : State) (kind : ℕ) where
   -- by the two tests of a program, each a number
-  module _ {misplaced : ℕ} (e : misplaced ≡ cond (mayFollow (s .last) kind) 0 3) where
+  module _ {misplaced : ℕ} (e : misplaced ≡ cond (mayFollow (s .place) kind) 0 3) where
     pub kindNumber-misplaced : (misplaced ≡ 0 → ⊥) → misplaced ≡ kindNumber s kind
     unfolding kindNumber
-    kindNumber-misplaced ne = by (mayFollow (s .last) kind) e
+    kindNumber-misplaced ne = by (mayFollow (s .place) kind) e
       where
         by : (a : Bool) → misplaced ≡ cond a 0 3 → misplaced ≡ cond a (cond (oneTooMany s kind) 9 0) 3
         by true f = absurd (ne f)
@@ -48,7 +49,7 @@ module _ (s : State) (kind : ℕ) where
 
     pub kindNumber-placed : {many : ℕ} → misplaced ≡ 0 → many ≡ cond (oneTooMany s kind) 9 0 → many ≡ kindNumber s kind
     unfolding kindNumber
-    kindNumber-placed {many} z m = by (mayFollow (s .last) kind) e
+    kindNumber-placed {many} z m = by (mayFollow (s .place) kind) e
       where
         by : (a : Bool) → misplaced ≡ cond a 0 3 → many ≡ cond a (cond (oneTooMany s kind) 9 0) 3
         by true f = m
@@ -56,7 +57,7 @@ module _ (s : State) (kind : ℕ) where
 
   pub kindNumber-le : kindNumber s kind ≤ 9
   unfolding kindNumber
-  kindNumber-le = by (mayFollow (s .last) kind) (oneTooMany s kind)
+  kindNumber-le = by (mayFollow (s .place) kind) (oneTooMany s kind)
     where
       by : (a b : Bool) → cond a (cond b 9 0) 3 ≤ 9
       by true true = omega arith
@@ -64,9 +65,9 @@ module _ (s : State) (kind : ℕ) where
       by false b = omega arith
 
   -- back
-  pub kindNumber-zero : kindNumber s kind ≡ 0 → (mayFollow (s .last) kind ≡ true) × (oneTooMany s kind ≡ false)
+  pub kindNumber-zero : kindNumber s kind ≡ 0 → (mayFollow (s .place) kind ≡ true) × (oneTooMany s kind ≡ false)
   unfolding kindNumber
-  kindNumber-zero z = by (mayFollow (s .last) kind) (oneTooMany s kind) z
+  kindNumber-zero z = by (mayFollow (s .place) kind) (oneTooMany s kind) z
     where
       by : (a b : Bool) → _≡_ {A = ℕ} (cond a (cond b 9 0) 3) 0 → (a ≡ true) × (b ≡ false)
       by true true e = absurd (omega arith)

@@ -20,7 +20,7 @@ module _ (c : tie.Joined3) where
   abbrev kind : ℕ
   kind = c .before .before .before .before .before .before .args .kind
 
-  misplaced-is : c .before .before .before .before .if1 .misplaced ≡ cond (mayFollow (s .last) kind) 0 3
+  misplaced-is : c .before .before .before .before .if1 .misplaced ≡ cond (mayFollow (s .place) kind) 0 3
   misplaced-is =
       let follows = sym (c .before .before .before .before .before .may-follow .ensures) in
       ⊎-elim (λ w. rw (follows ∙ w .0 .taken) (w .1)) (λ w. rw (follows ∙ w .0 .left) (w .1)) (c .before .before .before .before .if1 .came)

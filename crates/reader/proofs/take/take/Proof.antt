@@ -1,11 +1,11 @@
 -- `reader::take::take` meets its contract, part by part. Assumes nothing.
 use Rattle.integers.proofs.Basics.{_≡_, refl, sym, subst, _∙_, ℕ, needs}
 use mathlib.Core.List.{List}
-use Rattle.records.specs.declared.order.Part.{Part}
-use Rattle.records.specs.declared.order.Part.the-variants.{Head, Row, Drift, Initial, Input, Direction, Guard, End}
+use Rattle.records.specs.declared.kinds.Part.{Part}
+use Rattle.records.specs.declared.kinds.Part.the-variants.{Head, Row, Drift, Initial, Input, Direction, Guard, End}
 use Rattle.reader.specs.declared.state.State.{State}
 use Rattle.reader.specs.declared.take.Taken.{Taken}
-use Rattle.records.specs.Order.{partOf}
+use Rattle.records.specs.Kinds.{partOf}
 use Rattle.reader.specs.Values.{valueNumber}
 use Rattle.reader.specs.Refusals.{storedIn, stored}
 use Rattle.reader.specs.Inner.{Takes}
