@@ -9,6 +9,8 @@ use cells::output::answer;
 use cells::output::list;
 use cells::output::natural;
 use reachability::model::Model;
+use reachability::model::Questions;
+use reachability::motion::Motion;
 use reachability::sweep::Swept;
 use reachability::verdicts::Judged;
 
@@ -47,15 +49,19 @@ fn model_of(cells: &[i64; 258]) -> Model {
     Model {
         n: count(cells, 0x02),
         steps: count(cells, 0x03),
-        matrix: matrix_of(cells),
+        motion: Motion {
+            matrix: matrix_of(cells),
+        },
         drift: drift_of(cells),
         initial: set_of(cells, 0x30),
         input: set_of(cells, 0x40),
-        directions: 1,
-        entries: entries_of(cells),
-        guards: count(cells, 0x51),
-        watched: watched_of(cells),
-        levels: levels_of(cells),
+        questions: Questions {
+            directions: 1,
+            entries: entries_of(cells),
+            guards: count(cells, 0x51),
+            watched: watched_of(cells),
+            levels: levels_of(cells),
+        },
     }
 }
 

@@ -27,7 +27,7 @@ use Rattle.reachability.specs.declared.verdicts.Judged.the-variants as J
 use Rattle.reachability.proofs.model.Facts.{ModelFacts, model-facts}
 use Rattle.reachability.proofs.VerdictLaws.{verdict-cong}
 use Rattle.reachability.proofs.AccuracyRule.{accuracy-rule, bounds-at, slacks-at, verdict-lists}
-use Rattle.judge.specs.Answers.{judgedNumber, listsOk, listAnswer, unlessRefused, sweptVerdict, VerdictAnswers, judgeAnswer, JudgeLeaves}
+use Rattle.judge.specs.Answers.{judgedNumber, judgedFigure, judgeNumber, judgeFigure, listsOk, listAnswer, unlessRefused, sweptVerdict, VerdictAnswers, judgeAnswer, JudgeLeaves}
 
 -- ---- two lists are K + 1 long for one K, or not
 
@@ -92,16 +92,40 @@ list-answer m facts d level =
 
 module _ (m : Model) (g : ℕ) where
   abbrev d : ℕ
-  d = getD (m .watched) g 0
+  d = getD (m .questions .watched) g 0
 
   abbrev level : ℤ
-  level = vector (m .levels) g
+  level = vector (m .questions .levels) g
+
+  -- the number and the figure of the answer
+  module _ (lb ls : ℕ) where
+    number-is : judgedNumber (judgeAnswer m g lb ls) ≡ judgeNumber m g lb ls
+    number-is = split (accepted m) (ltb g (m .questions .guards)) (lengthsOk m lb ls) (leb (growthStep m d) (m .steps)) (growthStep m d) (verdict m d level) (verdict-number (suc (m .steps)) level (bound m d) (λ k. pos (slack m d k)))
+      where
+        split : (a b c t : Bool) (k : ℕ) (v : Judged) → judgedNumber v ≡ 0 → judgedNumber (cond a (cond b (cond c (cond t (J.Growth k) v) J.WrongLength) J.NoGuard) J.Invalid) ≡ cond a (cond b (cond c (cond t 14 0) 13) 12) 11
+        split true true true true k v z = refl
+        split true true true false k v z = z
+        split true true false t k v z = refl
+        split true false c t k v z = refl
+        split false b c t k v z = refl
+
+    figure-is : judgedFigure (judgeAnswer m g lb ls) ≡ judgeFigure m g lb ls
+    figure-is = split (accepted m) (ltb g (m .questions .guards)) (lengthsOk m lb ls) (leb (growthStep m d) (m .steps)) (growthStep m d) (verdict m d level)
+      where
+        split : (a b c t : Bool) (k : ℕ) (v : Judged) → judgedFigure (cond a (cond b (cond c (cond t (J.Growth k) v) J.WrongLength) J.NoGuard) J.Invalid) ≡ cond (eqb (cond a (cond b (cond c (cond t 14 0) 13) 12) 11) 0) (judgedFigure v) (cond (eqb (cond a (cond b (cond c (cond t 14 0) 13) 12) 11) 14) k 0)
+        split true true true true k v = refl
+        split true true true false k v = refl
+        split true true false t k v = refl
+        split true false c t k v = refl
+        split false b c t k v = refl
 
   -- a refusal before the sweep keeps both lists
   pub judge-refuses : (b s : List ℤ) (a : Judged) → eqb (judgedNumber a) 0 ≡ false → a ≡ judgeAnswer m g (length b) (length s) → VerdictHolds m d level (vector s) a → JudgeLeaves m g b s a b s
   judge-refuses b s a none h holds =
       record {
         answer = h;
+        number = ap judgedNumber h ∙ number-is (length b) (length s);
+        figure = ap judgedFigure h ∙ figure-is (length b) (length s);
         bounds = sym (ap (λ (t : Bool). cond t (boundsOf m d) b) none);
         slacks = sym (ap (λ (t : Bool). cond t (slacksOf m d) s) none);
         accurate = λ z. absurd (borrow.Author.Tests.eqb-false (judgedNumber a) 0 none z);
@@ -113,23 +137,23 @@ module _ (m : Model) (g : ℕ) where
     lengthed = cond (lengthsOk m lb ls) (cond (leb (growthStep m d) (m .steps)) (J.Growth (growthStep m d)) (verdict m d level)) J.WrongLength
 
     pub answer-invalid : accepted m ≡ false → J.Invalid ≡ judgeAnswer m g lb ls
-    answer-invalid f = sym (ap (λ (t : Bool). cond t (cond (ltb g (m .guards)) lengthed J.NoGuard) J.Invalid) f)
+    answer-invalid f = sym (ap (λ (t : Bool). cond t (cond (ltb g (m .questions .guards)) lengthed J.NoGuard) J.Invalid) f)
 
-    accepted-answer : accepted m ≡ true → judgeAnswer m g lb ls ≡ cond (ltb g (m .guards)) lengthed J.NoGuard
-    accepted-answer ok = ap (λ (t : Bool). cond t (cond (ltb g (m .guards)) lengthed J.NoGuard) J.Invalid) ok
+    accepted-answer : accepted m ≡ true → judgeAnswer m g lb ls ≡ cond (ltb g (m .questions .guards)) lengthed J.NoGuard
+    accepted-answer ok = ap (λ (t : Bool). cond t (cond (ltb g (m .questions .guards)) lengthed J.NoGuard) J.Invalid) ok
 
-    pub answer-no-guard : accepted m ≡ true → m .guards ≤ g → J.NoGuard ≡ judgeAnswer m g lb ls
-    answer-no-guard ok h = sym (accepted-answer ok ∙ ap (λ (t : Bool). cond t lengthed J.NoGuard) (le-ltb g (m .guards) h))
+    pub answer-no-guard : accepted m ≡ true → m .questions .guards ≤ g → J.NoGuard ≡ judgeAnswer m g lb ls
+    answer-no-guard ok h = sym (accepted-answer ok ∙ ap (λ (t : Bool). cond t lengthed J.NoGuard) (le-ltb g (m .questions .guards) h))
 
-  module _ (ok : accepted m ≡ true) (inside : g < m .guards) where
+  module _ (ok : accepted m ≡ true) (inside : g < m .questions .guards) where
     pub guard-below : g < 16
     guard-below = lt-of-lt-of-le inside (model-facts m ok .guards-most)
 
     swept-answer : (lb ls : ℕ) → unlessRefused (sweepAnswer m d lb ls) (verdict m d level) ≡ judgeAnswer m g lb ls
     swept-answer lb ls =
-        ap₂ (λ (s t : Bool). unlessRefused (cond s (cond t (cond (lengthsOk m lb ls) (cond (leb (growthStep m d) (m .steps)) (S.Growth (growthStep m d)) (S.Spare (spareFigure m d))) S.WrongLength) S.NoDirection) S.Invalid) (verdict m d level)) ok (lt-ltb d (m .directions) (model-facts m ok .watches g inside))
+        ap₂ (λ (s t : Bool). unlessRefused (cond s (cond t (cond (lengthsOk m lb ls) (cond (leb (growthStep m d) (m .steps)) (S.Growth (growthStep m d)) (S.Spare (spareFigure m d))) S.WrongLength) S.NoDirection) S.Invalid) (verdict m d level)) ok (lt-ltb d (m .questions .directions) (model-facts m ok .watches g inside))
         ∙ cases (lengthsOk m lb ls) (leb (growthStep m d) (m .steps))
-        ∙ sym (accepted-answer lb ls ok ∙ ap (λ (t : Bool). cond t (lengthed lb ls) J.NoGuard) (lt-ltb g (m .guards) inside))
+        ∙ sym (accepted-answer lb ls ok ∙ ap (λ (t : Bool). cond t (lengthed lb ls) J.NoGuard) (lt-ltb g (m .questions .guards) inside))
       where
         cases : (s t : Bool) → unlessRefused (cond s (cond t (S.Growth (growthStep m d)) (S.Spare (spareFigure m d))) S.WrongLength) (verdict m d level) ≡ cond s (cond t (J.Growth (growthStep m d)) (verdict m d level)) J.WrongLength
         cases true true = refl
@@ -140,7 +164,9 @@ module _ (m : Model) (g : ℕ) where
     pub judges : (b₀ s₀ : List ℤ) (a : Swept) (b s : List ℤ) (r : Judged) → SweepLeaves m d b₀ s₀ a b s → r ≡ sweptVerdict a level b s → JudgeLeaves m g b₀ s₀ r b s
     judges b₀ s₀ a b s r w e =
         record {
-          answer = is ∙ ap (λ (x : Swept). unlessRefused x (verdict m d level)) (w .answer) ∙ swept-answer (length b₀) (length s₀);
+          answer = answered;
+          number = ap judgedNumber answered ∙ number-is (length b₀) (length s₀);
+          figure = ap judgedFigure answered ∙ figure-is (length b₀) (length s₀);
           bounds = w .bounds ∙ ap (λ (t : Bool). cond t (boundsOf m d) b₀) (sym same);
           slacks = w .slacks ∙ ap (λ (t : Bool). cond t (slacksOf m d) s₀) (sym same);
           accurate = λ z. w .accurate (eqb-true (sweptNumber a) 0 (sym same ∙ ap (λ (n : ℕ). eqb n 0) z));
@@ -156,6 +182,9 @@ module _ (m : Model) (g : ℕ) where
 
         is : r ≡ unlessRefused a (verdict m d level)
         is = e ∙ told a (w .bounds) (w .slacks)
+
+        answered : r ≡ judgeAnswer m g (length b₀) (length s₀)
+        answered = is ∙ ap (λ (x : Swept). unlessRefused x (verdict m d level)) (w .answer) ∙ swept-answer (length b₀) (length s₀)
 
         refuses : (a : Swept) → eqb (judgedNumber (unlessRefused a (verdict m d level))) 0 ≡ eqb (sweptNumber a) 0
         refuses (S.Spare h) = ap (λ (n : ℕ). eqb n 0) (verdict-number (suc (m .steps)) level (bound m d) (λ k. pos (slack m d k)))

@@ -12,6 +12,7 @@ use Rattle.stepping.specs.Recurrence.{greatest}
 use Rattle.stepping.specs.Refusals.{dimensionOk}
 use Rattle.reachability.specs.Sets.{largest, setOk, ReachAnswer}
 use Rattle.reachability.specs.OneMore.{OneMore, reachAt}
+use Rattle.reachability.specs.Motion.{matrixAt, motionOk}
 use Rattle.reachability.specs.Recurrence.{walk, firstPlace}
 use Rattle.reachability.specs.declared.sets.Set.{Set}
 use Rattle.judge.specs.Cases.{none, _and_, AllHold, cases}
@@ -34,7 +35,7 @@ grown {s} {t} shape count same =
     }
 
 pub marked : AllHold cases
-unfolding sum sumℕ maxℕ allBelow greatest largest walk firstPlace
+unfolding sum sumℕ maxℕ allBelow greatest largest matrixAt motionOk walk firstPlace
 marked =
     (refl and refl and refl and none)
     and (refl and none)

@@ -31,6 +31,16 @@ judgedNumber J.NoGuard = 12
 judgedNumber J.WrongLength = 13
 judgedNumber (J.Growth k) = 14
 
+-- Forms 7, C interface 4: the figure of an answer, the step that it names, 0 where there is none.
+abbrev pub judgedFigure : Judged → ℕ
+judgedFigure (J.Hit k) = k
+judgedFigure (J.Unknown k) = k
+judgedFigure J.Clear = 0
+judgedFigure J.Invalid = 0
+judgedFigure J.NoGuard = 0
+judgedFigure J.WrongLength = 0
+judgedFigure (J.Growth k) = k
+
 -- ---- from a sweep's answer and lists
 
 -- Routines 5: lists with no model beside them have K + 1 elements for one K of 1 to 256 (Limits 2).
@@ -62,20 +72,37 @@ pub record VerdictAnswers (w : Swept) (level : ℤ) (b s : List ℤ) (a : Judged
 -- Routines 1: of 11, 12, 13 and 14 the first from the top, 14 with the first step of growth; else the verdict.
 abbrev pub judgeAnswer : Model → ℕ → ℕ → ℕ → Judged
 judgeAnswer m g lb ls =
-    let d = getD (m .watched) g 0 in
+    let d = getD (m .questions .watched) g 0 in
     cond (accepted m)
-    (cond (ltb g (m .guards))
+    (cond (ltb g (m .questions .guards))
     (cond (lengthsOk m lb ls)
-    (cond (leb (growthStep m d) (m .steps)) (J.Growth (growthStep m d)) (verdict m d (vector (m .levels) g)))
+    (cond (leb (growthStep m d) (m .steps)) (J.Growth (growthStep m d)) (verdict m d (vector (m .questions .levels) g)))
     J.WrongLength)
     J.NoGuard)
     J.Invalid
 
--- Routines 3 and 4: what a judge leaves and answers, with the lists as they were where it refuses. Promises 4: what it leaves and
+-- Routines 1: the number of a judge, and its figure.
+abbrev pub judgeNumber : Model → ℕ → ℕ → ℕ → ℕ
+judgeNumber m g lb ls =
+    cond (accepted m)
+    (cond (ltb g (m .questions .guards))
+    (cond (lengthsOk m lb ls) (cond (leb (growthStep m (getD (m .questions .watched) g 0)) (m .steps)) 14 0) 13)
+    12)
+    11
+
+abbrev pub judgeFigure : Model → ℕ → ℕ → ℕ → ℕ
+judgeFigure m g lb ls =
+    let d = getD (m .questions .watched) g 0 in
+    cond (eqb (judgeNumber m g lb ls) 0) (judgedFigure (verdict m d (vector (m .questions .levels) g)))
+    (cond (eqb (judgeNumber m g lb ls) 14) (growthStep m d) 0)
+
+-- Routines 3 and 4: what a judge leaves and answers, its number and figure (Forms 7), with the lists as they were where it refuses. Promises 4: what it leaves and
 -- answers where it refuses nothing is accurate.
 pub record JudgeLeaves (m : Model) (g : ℕ) (b₀ s₀ : List ℤ) (a : Judged) (b s : List ℤ) : Type 0 where
   pub answer : a ≡ judgeAnswer m g (length b₀) (length s₀)
-  pub bounds : b ≡ cond (eqb (judgedNumber a) 0) (boundsOf m (getD (m .watched) g 0)) b₀
-  pub slacks : s ≡ cond (eqb (judgedNumber a) 0) (slacksOf m (getD (m .watched) g 0)) s₀
-  pub accurate : judgedNumber a ≡ 0 → Accurate m (getD (m .watched) g 0) (vector b) (vector s)
-  pub verdict : VerdictHolds m (getD (m .watched) g 0) (vector (m .levels) g) (vector s) a
+  pub number : judgedNumber a ≡ judgeNumber m g (length b₀) (length s₀)
+  pub figure : judgedFigure a ≡ judgeFigure m g (length b₀) (length s₀)
+  pub bounds : b ≡ cond (eqb (judgedNumber a) 0) (boundsOf m (getD (m .questions .watched) g 0)) b₀
+  pub slacks : s ≡ cond (eqb (judgedNumber a) 0) (slacksOf m (getD (m .questions .watched) g 0)) s₀
+  pub accurate : judgedNumber a ≡ 0 → Accurate m (getD (m .questions .watched) g 0) (vector b) (vector s)
+  pub verdict : VerdictHolds m (getD (m .questions .watched) g 0) (vector (m .questions .levels) g) (vector s) a

@@ -51,15 +51,17 @@ modelOf n steps matrix drift initial input direction levels =
     record {
       n = n;
       steps = steps;
-      matrix = padded 36 (rows matrix);
+      motion = record { matrix = padded 36 (rows matrix) };
       drift = padded 6 drift;
       initial = initial;
       input = input;
-      directions = 1;
-      entries = padded 96 direction;
-      guards = length levels;
-      watched = replicate 16 0;
-      levels = padded 16 levels;
+      questions = record {
+        directions = 1;
+        entries = padded 96 direction;
+        guards = length levels;
+        watched = replicate 16 0;
+        levels = padded 16 levels;
+      };
     }
 
 -- Of one coordinate, without a drift and with one.

@@ -33,11 +33,12 @@ pub fn judge(model: Model, guard: usize, bounds: &mut [i64], slacks: &mut [i64])
     if !accepts(model) {
         return Judged::Invalid;
     }
-    if model.guards <= guard {
+    let questions = model.questions;
+    if questions.guards <= guard {
         return Judged::NoGuard;
     }
-    let watched = model.watched;
-    let levels = model.levels;
+    let watched = questions.watched;
+    let levels = questions.levels;
     let direction = watched[guard];
     let level = levels[guard];
     let swept = sweep(model, direction, bounds, slacks);

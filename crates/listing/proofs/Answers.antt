@@ -59,7 +59,7 @@ module _ (m : Model) (d : ℕ) (b₀ s₀ : List ℤ) (ask : Askable m d b₀ s�
       lines S.WrongLength b s e f = refl
 
   -- a guard's answer from the sweep of its direction
-  pub guard-answer : (g : ℕ) → g < m .guards → getD (m .watched) g 0 ≡ d → (a : Swept) (b s : List ℤ) → SweepLeaves m d b₀ s₀ a b s → sweptVerdict a (vector (m .levels) g) b s ≡ judgeOf m g
+  pub guard-answer : (g : ℕ) → g < m .questions .guards → getD (m .questions .watched) g 0 ≡ d → (a : Swept) (b s : List ℤ) → SweepLeaves m d b₀ s₀ a b s → sweptVerdict a (vector (m .questions .levels) g) b s ≡ judgeOf m g
   guard-answer g inside e a b s w =
       judges m g (ask .accepts) inside b₀ s₀ a b s _ (subst (λ (x : ℕ). SweepLeaves m x b₀ s₀ a b s) (sym e) w) refl .answer ∙ ap₂ (judgeAnswer m g) (ask .bounds-long) (ask .slacks-long)
 
@@ -77,7 +77,7 @@ guard-text m g case step e f = ap₂ (guardLine g) e f ∙ guard-line g (judgeOf
 
 -- ---- the limits that the rooms rest on
 
-pub directions-range : (m : Model) → accepted m ≡ true → (1 ≤ m .directions) × (m .directions ≤ 16)
+pub directions-range : (m : Model) → accepted m ≡ true → (1 ≤ m .questions .directions) × (m .questions .directions ≤ 16)
 directions-range m ok = (model-facts m ok .directions-least, model-facts m ok .directions-most)
 
 pub steps-most : (m : Model) → accepted m ≡ true → m .steps ≤ 256

@@ -57,40 +57,40 @@ swept d S.WrongLength b s = []
 -- An accepted model, one of its directions, and two lists of K + 1.
 pub record Askable (m : Model) (d : ℕ) (b s : List ℤ) : Type 0 where
   pub accepts : accepted m ≡ true
-  pub inside : d < m .directions
+  pub inside : d < m .questions .directions
   pub bounds-long : length b ≡ suc (m .steps)
   pub slacks-long : length s ≡ suc (m .steps)
 
 -- The sweep's answer and lists give the answer on each guard of the direction.
 pub record Notable (m : Model) (d : ℕ) (a : Swept) (b s : List ℤ) : Type 0 where
-  pub guards-most : m .guards ≤ 16
-  pub answers : (g : ℕ) → g < m .guards → getD (m .watched) g 0 ≡ d → sweptVerdict a (vector (m .levels) g) b s ≡ judgeOf m g
+  pub guards-most : m .questions .guards ≤ 16
+  pub answers : (g : ℕ) → g < m .questions .guards → getD (m .questions .watched) g 0 ≡ d → sweptVerdict a (vector (m .questions .levels) g) b s ≡ judgeOf m g
 
 -- A note is a number made of an answer of the judge: its case or its step. Of the first so many guards, those that watch direction
 -- d have theirs in xs; what stands for guards of other directions is as in xs₀.
 pub record Notes (m : Model) (d : ℕ) (note : Judged → ℕ) (guards : ℕ) (xs₀ xs : List ℕ) : Type 0 where
   pub long : length xs ≡ 16
-  pub here : (g : ℕ) → g < guards → getD (m .watched) g 0 ≡ d → getD xs g 0 ≡ note (judgeOf m g)
-  pub other : (g : ℕ) → (getD (m .watched) g 0 ≡ d → ⊥) → getD xs g 0 ≡ getD xs₀ g 0
+  pub here : (g : ℕ) → g < guards → getD (m .questions .watched) g 0 ≡ d → getD xs g 0 ≡ note (judgeOf m g)
+  pub other : (g : ℕ) → (getD (m .questions .watched) g 0 ≡ d → ⊥) → getD xs g 0 ≡ getD xs₀ g 0
 
 -- All guards that watch one of the first so many directions have their note.
 pub record Noted (m : Model) (directions : ℕ) (note : Judged → ℕ) (xs : List ℕ) : Type 0 where
   pub long : length xs ≡ 16
-  pub is : (g : ℕ) → g < m .guards → getD (m .watched) g 0 < directions → getD xs g 0 ≡ note (judgeOf m g)
+  pub is : (g : ℕ) → g < m .questions .guards → getD (m .questions .watched) g 0 < directions → getD xs g 0 ≡ note (judgeOf m g)
 
 -- All guards have it.
 pub record AllNoted (m : Model) (note : Judged → ℕ) (xs : List ℕ) : Type 0 where
-  pub guards-most : m .guards ≤ 16
-  pub is : (g : ℕ) → g < m .guards → getD xs g 0 ≡ note (judgeOf m g)
+  pub guards-most : m .questions .guards ≤ 16
+  pub is : (g : ℕ) → g < m .questions .guards → getD xs g 0 ≡ note (judgeOf m g)
 
 -- A direction's lines, and its guards' answers noted.
 pub record DirectionLeaves (m : Model) (d : ℕ) (cases₀ steps₀ cases steps : List ℕ) (at : ℕ) (b c : List ℕ) (r : ℕ) : Type 0 where
   pub lines : Put 16758 at (directionText m d) b c r
-  pub cases-noted : Notes m d caseOf (m .guards) cases₀ cases
-  pub steps-noted : Notes m d stepOf (m .guards) steps₀ steps
+  pub cases-noted : Notes m d caseOf (m .questions .guards) cases₀ cases
+  pub steps-noted : Notes m d stepOf (m .questions .guards) steps₀ steps
 
 -- All directions' lines, and all guards' answers noted.
 pub record DirectionsLeave (m : Model) (cases steps : List ℕ) (at : ℕ) (b c : List ℕ) (r : ℕ) : Type 0 where
-  pub lines : Put (m .directions * 16758) at (each (m .directions) (directionText m)) b c r
+  pub lines : Put (m .questions .directions * 16758) at (each (m .questions .directions) (directionText m)) b c r
   pub cases-noted : AllNoted m caseOf cases
   pub steps-noted : AllNoted m stepOf steps

@@ -57,7 +57,7 @@ guardText m g = judgedText g (judgeOf m g)
 
 -- Listing 3, then the directions (Listing 4), then the guards (Listing 6).
 unfoldable pub listingText : Model → List ℕ
-listingText m = line (word "model ") (m .n) (word " ") (m .steps) ++ each (m .directions) (directionText m) ++ each (m .guards) (guardText m)
+listingText m = line (word "model ") (m .n) (word " ") (m .steps) ++ each (m .questions .directions) (directionText m) ++ each (m .questions .guards) (guardText m)
 
 -- Listing 7 for a refused file.
 abbrev pub statusText : Status → Model → List ℕ

@@ -98,12 +98,13 @@ pub(crate) fn put_directions(
     out: &mut [u8],
     at: usize,
 ) -> usize
-    requires { ⌜ Askable model 0 (now bounds) (now slacks) × (length (now cases) ≡ 16) × (length (now steps) ≡ 16) × (at + model .directions * 16758 ≤ length (now out)) ⌝ }
+    requires { ⌜ Askable model 0 (now bounds) (now slacks) × (length (now cases) ≡ 16) × (length (now steps) ≡ 16) × (at + model .questions .directions * 16758 ≤ length (now out)) ⌝ }
     ensures { λ r. ⌜ DirectionsLeave model (now (cases .exit)) (now (steps .exit)) at (now (out .entry)) (now (out .exit)) r ⌝ }
 {
+    let questions = model.questions;
     let mut end = at;
     let mut d: usize = 0;
-    while d < model.directions {
+    while d < questions.directions {
         end = put_direction(model, d, bounds, slacks, cases, steps, out, end);
         d += 1;
     }

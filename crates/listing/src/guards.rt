@@ -54,12 +54,13 @@ pub(crate) fn note(
     steps: &mut [usize; 16],
 )
     requires { ⌜ Notable model direction swept (now bounds) (now slacks) × (length (now cases) ≡ 16) × (length (now steps) ≡ 16) ⌝ }
-    ensures { λ _. ⌜ Notes model direction caseOf (model .guards) (now (cases .entry)) (now (cases .exit)) × Notes model direction stepOf (model .guards) (now (steps .entry)) (now (steps .exit)) ⌝ }
+    ensures { λ _. ⌜ Notes model direction caseOf (model .questions .guards) (now (cases .entry)) (now (cases .exit)) × Notes model direction stepOf (model .questions .guards) (now (steps .entry)) (now (steps .exit)) ⌝ }
 {
-    let watched = model.watched;
-    let levels = model.levels;
+    let questions = model.questions;
+    let watched = questions.watched;
+    let levels = questions.levels;
     let mut g: usize = 0;
-    while g < model.guards {
+    while g < questions.guards {
         if watched[g] != direction {
             g += 1;
             continue;
@@ -101,12 +102,13 @@ pub(crate) fn put_guards(
     out: &mut [u8],
     at: usize,
 ) -> usize
-    requires { ⌜ AllNoted model caseOf (now cases) × AllNoted model stepOf (now steps) × (at + model .guards * 56 ≤ length (now out)) ⌝ }
-    ensures { λ r. ⌜ Put (model .guards * 56) at (each (model .guards) (guardText model)) (now (out .entry)) (now (out .exit)) r ⌝ }
+    requires { ⌜ AllNoted model caseOf (now cases) × AllNoted model stepOf (now steps) × (at + model .questions .guards * 56 ≤ length (now out)) ⌝ }
+    ensures { λ r. ⌜ Put (model .questions .guards * 56) at (each (model .questions .guards) (guardText model)) (now (out .entry)) (now (out .exit)) r ⌝ }
 {
+    let questions = model.questions;
     let mut end = at;
     let mut g: usize = 0;
-    while g < model.guards {
+    while g < questions.guards {
         end = put_guard(out, end, g, cases[g], steps[g]);
         g += 1;
     }

@@ -25,15 +25,17 @@ withEntries m entries levels =
     record {
       n = m .n;
       steps = m .steps;
-      matrix = m .matrix;
+      motion = m .motion;
       drift = m .drift;
       initial = m .initial;
       input = m .input;
-      directions = m .directions;
-      entries = entries;
-      guards = m .guards;
-      watched = m .watched;
-      levels = levels;
+      questions = record {
+        directions = m .questions .directions;
+        entries = entries;
+        guards = m .questions .guards;
+        watched = m .questions .watched;
+        levels = levels;
+      };
     }
 
 -- Report 2: direction d of these entries is the model's, each of its n coordinates multiplied by the factor.

@@ -65,7 +65,7 @@ swept-most false b c t g h k e l = omega arith
 
 pub swept-small : (m : Model) (d lb ls : ℕ) → accepted m ≡ true → sweptFigure (sweepAnswer m d lb ls) < figureLimit
 swept-small m d lb ls ok =
-    let most = swept-most (accepted m) (ltb d (m .directions)) (lengthsOk m lb ls) (leb (growthStep m d) (m .steps)) (growthStep m d) (spareFigure m d) (m .steps) refl (greatest-most 30 _) in
+    let most = swept-most (accepted m) (ltb d (m .questions .directions)) (lengthsOk m lb ls) (leb (growthStep m d) (m .steps)) (growthStep m d) (spareFigure m d) (m .steps) refl (greatest-most 30 _) in
     omega (arith, most, steps-most m ok)
 
 judged-most : (a b c t th tu : Bool) (g h u k : ℕ) → leb g k ≡ t → ltb h (suc k) ≡ th → ltb u (suc k) ≡ tu → judgedFigure (cond a (cond b (cond c (cond t (J.Growth g) (cond th (J.Hit h) (cond tu (J.Unknown u) J.Clear))) J.WrongLength) J.NoGuard) J.Invalid) ≤ k
@@ -79,7 +79,7 @@ judged-most false b c t th tu g h u k e f l = omega arith
 
 pub judged-small : (m : Model) (g lb ls : ℕ) → accepted m ≡ true → judgedFigure (judgeAnswer m g lb ls) < figureLimit
 judged-small m g lb ls ok =
-    let most : judgedFigure (judgeAnswer m g lb ls) ≤ m .steps = judged-most (accepted m) (ltb g (m .guards)) (lengthsOk m lb ls) _ _ _ _ _ _ (m .steps) refl refl refl in
+    let most : judgedFigure (judgeAnswer m g lb ls) ≤ m .steps = judged-most (accepted m) (ltb g (m .questions .guards)) (lengthsOk m lb ls) _ _ _ _ _ _ (m .steps) refl refl refl in
     omega (arith, most, steps-most m ok)
 
 -- ---- a step

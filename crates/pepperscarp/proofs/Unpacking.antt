@@ -115,12 +115,12 @@ pub sweep-never-11 : (file : List ℕ) (d lb ls : ℕ) → readModel file .statu
 sweep-never-11 file d lb ls e z = never (readModel file .model) (readModel-accepted file e) z
   where
     never : (m : Model) → accepted m ≡ true → sweptNumber (sweepAnswer m d lb ls) ≡ 11 → ⊥
-    never m ok z = swept-other (accepted m) (ltb d (m .directions)) (lengthsOk m lb ls) (leb (growthStep m d) (m .steps)) (growthStep m d) (spareFigure m d) ok z
+    never m ok z = swept-other (accepted m) (ltb d (m .questions .directions)) (lengthsOk m lb ls) (leb (growthStep m d) (m .steps)) (growthStep m d) (spareFigure m d) ok z
 
 pub judge-never-11 : (file : List ℕ) (g lb ls : ℕ) → readModel file .status ≡ Read → judgedNumber (judgeAnswer (readModel file .model) g lb ls) ≡ 11 → ⊥
 judge-never-11 file g lb ls e z = never (readModel file .model) (readModel-accepted file e) z
   where
     never : (m : Model) → accepted m ≡ true → judgedNumber (judgeAnswer m g lb ls) ≡ 11 → ⊥
     never m ok z =
-        let d : ℕ = getD (m .watched) g 0 in
-        judged-other (accepted m) (ltb g (m .guards)) (lengthsOk m lb ls) (leb (growthStep m d) (m .steps)) (growthStep m d) (verdict m d (vector (m .levels) g)) (verdict-number (suc (m .steps)) (vector (m .levels) g) (bound m d) (λ k. pos (slack m d k))) ok z
+        let d : ℕ = getD (m .questions .watched) g 0 in
+        judged-other (accepted m) (ltb g (m .questions .guards)) (lengthsOk m lb ls) (leb (growthStep m d) (m .steps)) (growthStep m d) (verdict m d (vector (m .questions .levels) g)) (verdict-number (suc (m .steps)) (vector (m .questions .levels) g) (bound m d) (λ k. pos (slack m d k))) ok z

@@ -24,14 +24,6 @@ abbrev pub steppedFigure : Stepped → ℕ
 steppedFigure (Sum s) = s
 steppedFigure Refused = 0
 
--- C interface 3: the figure of a sweep, the spare figure or the first step with growth.
-abbrev pub sweptFigure : Swept → ℕ
-sweptFigure (S.Spare h) = h
-sweptFigure S.Invalid = 0
-sweptFigure S.NoDirection = 0
-sweptFigure S.WrongLength = 0
-sweptFigure (S.Growth k) = k
-
 -- C interface 1: the verdict of a judge, 1 HIT, 2 UNKNOWN, 3 CLEAR, 0 where the judge refuses.
 abbrev pub judgedVerdict : Judged → ℕ
 judgedVerdict (J.Hit k) = 1
@@ -41,16 +33,6 @@ judgedVerdict J.Invalid = 0
 judgedVerdict J.NoGuard = 0
 judgedVerdict J.WrongLength = 0
 judgedVerdict (J.Growth k) = 0
-
--- C interface 4: the figure of a judge, the step that the verdict names or the first step with growth.
-abbrev pub judgedFigure : Judged → ℕ
-judgedFigure (J.Hit k) = k
-judgedFigure (J.Unknown k) = k
-judgedFigure J.Clear = 0
-judgedFigure J.Invalid = 0
-judgedFigure J.NoGuard = 0
-judgedFigure J.WrongLength = 0
-judgedFigure (J.Growth k) = k
 
 -- Each answer in one number.
 abbrev pub steppedPacked : Stepped → ℕ

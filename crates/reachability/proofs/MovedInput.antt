@@ -14,19 +14,17 @@ use Rattle.integers.specs.Sums.{vector}
 use Rattle.integers.proofs.SignedParts.{v, #, _⊕_, _⊖_, _⊗_, eq! }
 use Rattle.integers.proofs.Sums.{sum-cong, allBelow-intro}
 use Rattle.integers.proofs.Machine.{getD-replicate-default}
-use Rattle.integers.proofs.Booleans.{and-true}
 use Rattle.arrays.proofs.Tests.{zeroOutside-of}
-use Rattle.limits.specs.Limits.{frameOk, directionsOk, guardsOk}
 use Rattle.reachability.specs.Sets.{points, reachOf, reachLimit}
 use Rattle.reachability.specs.Entering.{enteringReach}
 use Rattle.reachability.specs.Moved.{movedSet}
 use Rattle.reachability.specs.MovedInput.{movedModel, MovedAgrees}
-use Rattle.reachability.specs.Limits.{accepted, setAccepted, driftAccepted}
+use Rattle.reachability.specs.Limits.{accepted, driftAccepted}
 use Rattle.reachability.specs.Runs.{moves, InSet, Run, entering, state, value, Largest}
 use Rattle.reachability.specs.SweepInner.{inputPoints}
 use Rattle.reachability.specs.declared.model.Model.{Model}
 use Rattle.reachability.proofs.sets.Moved.{member-moved, member-back}
-use Rattle.reachability.proofs.model.Facts.{ModelFacts, model-facts}
+use Rattle.reachability.proofs.model.Facts.{ModelFacts, accepted-parts, accepted-of, model-facts}
 use Rattle.reachability.proofs.Walks.{state-same}
 
 -- no drift adds nothing
@@ -107,14 +105,14 @@ module _ (m : Model) (facts : ModelFacts m) where
 accepted-moved : (m : Model) → accepted m ≡ true → accepted (movedModel m) ≡ true
 accepted-moved m t =
     let facts = model-facts m t in
-    let guards = guardsOk (m .directions) (m .guards) (m .watched) (m .levels) in
-    let directions = directionsOk (m .n) (m .directions) (m .entries) in
-    let drift = driftAccepted (m .n) (m .input) (m .drift) in
-    let a = and-true (frameOk (m .n) (m .steps) (m .matrix)) (setAccepted (m .n) (m .initial) && (setAccepted (m .n) (m .input) && (drift && (directions && guards)))) t in
-    let b = and-true (setAccepted (m .n) (m .initial)) (setAccepted (m .n) (m .input) && (drift && (directions && guards))) (a .1) in
-    let c = and-true (setAccepted (m .n) (m .input)) (drift && (directions && guards)) (b .1) in
-    let e = and-true drift (directions && guards) (c .1) in
-    ap₂ _&&_ (a .0) (ap₂ _&&_ (b .0) (ap₂ _&&_ (facts .moved-ok) (ap₂ _&&_ (still m facts) (e .1))))
+    let parts = accepted-parts m t in
+    accepted-of (movedModel m) (record {
+      motion = parts .motion;
+      initial = parts .initial;
+      input = facts .moved-ok;
+      drift = still m facts;
+      questions = parts .questions;
+    })
   where
     zero-at : (i : ℕ) → vector (replicate 6 (pos 0)) i ≡ pos 0
     zero-at i = getD-replicate-default 6 i (pos 0)

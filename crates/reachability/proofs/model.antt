@@ -1,2 +1,3 @@
 -- Laws of models.
 pub mod Facts
+pub mod Lengths

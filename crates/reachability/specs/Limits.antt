@@ -6,10 +6,12 @@ use mathlib.Core.List.{List}
 use Prim.Native.Nat.{ℕ}
 use lib.IntN.{ℤ}
 use Rattle.arrays.specs.Tests.{zeroOutside}
-use Rattle.limits.specs.Limits.{frameOk, directionsOk, guardsOk}
+use Rattle.limits.specs.Limits.{directionsOk, guardsOk}
 use Rattle.reachability.specs.Sets.{setOk}
 use Rattle.reachability.specs.Entering.{enteringOk}
+use Rattle.reachability.specs.Motion.{motionOk}
 use Rattle.reachability.specs.declared.sets.Set.{Set}
+use Rattle.reachability.specs.declared.model.Questions.{Questions}
 use Rattle.reachability.specs.declared.model.Model.{Model}
 
 -- Sets 2, 5, 6 and 7 and Limits 4, 8 and 9, of one set.
@@ -20,11 +22,15 @@ setAccepted n s = setOk n (s .shape) (s .count) (s .points)
 abbrev pub driftAccepted : ℕ → Set → List ℤ → Bool
 driftAccepted n s drift = zeroOutside 1 n drift && enteringOk (s .shape) (s .count) (s .points) drift
 
+-- Limits 5, 6, 7 and 9 of the directions and the guards.
+abbrev pub questionsAccepted : ℕ → Questions → Bool
+questionsAccepted n q =
+    directionsOk n (q .directions) (q .entries) && guardsOk (q .directions) (q .guards) (q .watched) (q .levels)
+
 -- Limits 10: no rule is broken, wherever the model comes from.
 abbrev pub accepted : Model → Bool
 accepted m =
-    frameOk (m .n) (m .steps) (m .matrix)
+    motionOk (m .n) (m .steps) (m .motion)
     && (setAccepted (m .n) (m .initial)
     && (setAccepted (m .n) (m .input)
-    && (driftAccepted (m .n) (m .input) (m .drift)
-    && (directionsOk (m .n) (m .directions) (m .entries) && guardsOk (m .directions) (m .guards) (m .watched) (m .levels)))))
+    && (driftAccepted (m .n) (m .input) (m .drift) && questionsAccepted (m .n) (m .questions))))

@@ -16,15 +16,11 @@ movedModel m =
     record {
       n = m .n;
       steps = m .steps;
-      matrix = m .matrix;
+      motion = m .motion;
       drift = replicate 6 (pos 0);
       initial = m .initial;
       input = movedSet (m .input) (m .drift);
-      directions = m .directions;
-      entries = m .entries;
-      guards = m .guards;
-      watched = m .watched;
-      levels = m .levels;
+      questions = m .questions;
     }
 
 -- Runs 10: it is accepted, and its exact largest values are the model's, of any direction and step.

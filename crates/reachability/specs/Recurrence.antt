@@ -1,13 +1,15 @@
--- Recurrence 7 to 16, of a model: its working directions, growth and the spare figure over all steps, bounds and slacks. Definitions
+-- Recurrence 6 to 16, of a model: its working directions, growth and the spare figure over all steps, bounds and slacks. Definitions
 -- only. What is of one step is in the crate `stepping`.
--- The walk of step k takes the direction back over the moves before that step, the latest first. With one matrix (Model 6) the walk of
--- every step is the same, and after j moves it is at the specification's r(j) and e(j).
+-- The walk of step k takes the direction back over the moves before that step, the latest first; place j of it is behind j of them. With
+-- one matrix (Model 6) the walks of all steps agree, and at place j they are at the specification's r(j) and e(j): *OneMatrix*.
 -- Assumes nothing.
 use mathlib.Core.Bool.{Bool, cond}
 use Prim.Native.Nat.{ℕ, zero, suc, _+_, _*_, _-_}
+use lib.Dec.{ltb}
 use lib.IntN.{ℤ, pos, _+ℤ_}
 use Rattle.integers.specs.Sums.{sum, sumℕ, maxℕ, dotℕ, transposed}
-use Rattle.stepping.specs.Recurrence.{firstR, firstE, nextR, nextE, halfUp, growthSum, grows, spare, boundOf, slackOf}
+use Rattle.stepping.specs.Limits.{growthLimit}
+use Rattle.stepping.specs.Recurrence.{firstR, firstE, nextR, nextE, halfUp, growthSum, spare, boundOf, slackOf}
 use Rattle.reachability.specs.Sets.{points, supportOf, reachOf}
 use Rattle.reachability.specs.Entering.{enteringSupport, enteringReach}
 use Rattle.reachability.specs.Runs.{moves, direction}
@@ -38,13 +40,16 @@ unrounded n moves k x (suc j) = transposed n (moves (k - suc j)) (unrounded n mo
 abbrev pub working : Model → ℕ → ℕ → ℕ → Working
 working m d k j = walk (m .n) (moves m) k (first (direction m d)) j
 
--- Recurrence 6: the growth sum at step k.
+-- Recurrence 6: the growth sum of a place, and that of step k: the largest over the places 0 to k of its walk.
+abbrev pub placeSum : ℕ → Working → ℕ
+placeSum n w = growthSum n (w .r) (w .e)
+
 abbrev pub sumAt : Model → ℕ → ℕ → ℕ
-sumAt m d k = growthSum (m .n) (working m d k k .r) (working m d k k .e)
+sumAt m d k = maxℕ (suc k) (λ j. placeSum (m .n) (working m d k j))
 
 -- Recurrence 7: growth at step k.
 abbrev pub growsAt : Model → ℕ → ℕ → Bool
-growsAt m d k = grows (m .n) (working m d k k .r) (working m d k k .e)
+growsAt m d k = ltb growthLimit (sumAt m d k)
 
 -- The first place below n that passes the test, n where none does.
 unfoldable pub firstPlace : ℕ → (ℕ → Bool) → ℕ

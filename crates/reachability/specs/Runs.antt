@@ -9,16 +9,17 @@ use Rattle.integers.specs.Whole.{_⩽_}
 use Rattle.integers.specs.Sums.{vector, matrix, dot, times}
 use Rattle.stepping.specs.Limits.{matrixUnit}
 use Rattle.reachability.specs.Sets.{points, Member}
+use Rattle.reachability.specs.Motion.{matrixAt}
 use Rattle.reachability.specs.declared.sets.Set.{Set}
 use Rattle.reachability.specs.declared.model.Model.{Model}
 
--- Model 6: the matrix of the move from step t to step t + 1, the same at every t.
+-- Model 6: the matrix of the move from step t to step t + 1.
 abbrev pub moves : Model → ℕ → ℕ → ℕ → ℤ
-moves m t = matrix (m .matrix)
+moves m t = matrix (matrixAt (m .motion) t)
 
 -- Model 4: direction number d of a model.
 abbrev pub direction : Model → ℕ → ℕ → ℤ
-direction m d = matrix (m .entries) d
+direction m d = matrix (m .questions .entries) d
 
 -- Sets 3, 5 and 7: x, in q-ths, lies in the set.
 abbrev pub InSet : ℕ → Set → ℕ → (ℕ → ℤ) → Type 0

@@ -1,20 +1,26 @@
 // The model, as a value that anyone can make by hand, and the rules that number 11 tests.
 use crate::entering::entering_within;
+use crate::motion::Motion;
 use crate::sets::Set;
 use crate::sets::set_ok;
 ghost use mathlib.Core.Path.{_≡_};
 ghost use Rattle.reachability.specs.Limits.{accepted};
 
-// Model 1, as stored. n coordinates, `steps` steps, the matrix in six rows of six, the drift, the initial set and the input set, the
-// directions in sixteen rows of six, and the guards, each the number of the direction that it watches and a level. Every number
-// that n and the counts leave unused is zero.
+// Model 1, as stored, in parts: n coordinates, `steps` steps, what moves the state, the drift, the initial set and the input set, and
+// what is asked. Every number that n and the counts leave unused is zero.
 pub struct Model {
     pub n: usize,
     pub steps: usize,
-    pub matrix: [i32; 36],
+    pub motion: Motion,
     pub drift: [i32; 6],
     pub initial: Set,
     pub input: Set,
+    pub questions: Questions,
+}
+
+// Model 4 and 5, as stored: the directions in sixteen rows of six, and the guards, each the number of the direction that it watches and
+// a level.
+pub struct Questions {
     pub directions: usize,
     pub entries: [i32; 96],
     pub guards: usize,
@@ -27,7 +33,8 @@ pub fn accepts(model: Model) -> bool
     ensures { λ b. ⌜ b ≡ accepted model ⌝ }
 {
     let n = model.n;
-    let matrix = model.matrix;
+    let motion = model.motion;
+    let matrix = motion.matrix;
     if !limits::frame_ok(n, model.steps, &matrix) {
         return false;
     }
@@ -49,12 +56,13 @@ pub fn accepts(model: Model) -> bool
     if !entering_within(shape, count, &points, &drift) {
         return false;
     }
-    let directions = model.directions;
-    let entries = model.entries;
+    let questions = model.questions;
+    let directions = questions.directions;
+    let entries = questions.entries;
     if !limits::directions_ok(n, directions, &entries) {
         return false;
     }
-    let watched = model.watched;
-    let levels = model.levels;
-    limits::guards_ok(directions, model.guards, &watched, &levels)
+    let watched = questions.watched;
+    let levels = questions.levels;
+    limits::guards_ok(directions, questions.guards, &watched, &levels)
 }

@@ -23,7 +23,8 @@ pub fn sweep(model: Model, direction: usize, bounds: &mut [i64], slacks: &mut [i
     if !accepts(model) {
         return Swept::Invalid;
     }
-    if model.directions <= direction {
+    let questions = model.questions;
+    if questions.directions <= direction {
         return Swept::NoDirection;
     }
     let size = model.steps + 1;

@@ -45,12 +45,12 @@ use Rattle.reader.proofs.PartsSoFar.{Beyond, sixAt-beyond, FrameAt, n-l
 
 pub record AcceptedSoFar (s : State) : Type 0 where
   pub first : s .last ≡ 0 → s ≡ start
-  pub frame : FrameAt (s .place) (s .rows) (s .model .n) (s .model .steps) (s .model .matrix)
+  pub frame : FrameAt (s .place) (s .rows) (s .model .n) (s .model .steps) (s .model .motion .matrix)
   pub initial : SetAt 0x10 (s .place) (s .model .n) (s .model .initial)
   pub input : SetAt 0x20 (s .place) (s .model .n) (s .model .input)
   pub drift : DriftAt (s .place) (s .model .n) (s .model .input) (s .model .drift)
-  pub directions : DirectionsAt (s .place) (s .model .n) (s .model .directions) (s .model .entries)
-  pub guards : GuardsAt (s .model .directions) (s .model .guards) (s .model .watched) (s .model .levels)
+  pub directions : DirectionsAt (s .place) (s .model .n) (s .model .questions .directions) (s .model .questions .entries)
+  pub guards : GuardsAt (s .model .questions .directions) (s .model .questions .guards) (s .model .questions .watched) (s .model .questions .levels)
 
 -- corners of zeros are in order
 pub ordered-zeros : (n : ℕ) → orderedOk n Box (points (zeros 96)) ≡ true
@@ -249,7 +249,7 @@ module _ (s : State) (kind : ℕ) (body : List ℕ) (g : AcceptedSoFar s) where
       split true t = drift-zero-box (g .drift) kind (omega arith)
       split false t = drift-late (g .drift) kind (omega arith) t
 
-  so-far-direction : kind ≡ 0x30 → isDone 0x10 (s .place) ≡ true → 0x02 ≤ s .last → ltb (s .place) 0x20 || isDone 0x20 (s .place) ≡ true → s .model .directions < 16 → Beyond (s .model .n) body → directionOk body ≡ true → AcceptedSoFar (withDirection s kind body)
+  so-far-direction : kind ≡ 0x30 → isDone 0x10 (s .place) ≡ true → 0x02 ≤ s .last → ltb (s .place) 0x20 || isDone 0x20 (s .place) ≡ true → s .model .questions .directions < 16 → Beyond (s .model .n) body → directionOk body ≡ true → AcceptedSoFar (withDirection s kind body)
   unfolding withDirection
   so-far-direction k done late input few beyond ok =
       record {
@@ -262,7 +262,7 @@ module _ (s : State) (kind : ℕ) (body : List ℕ) (g : AcceptedSoFar s) where
         guards = record { watched-length = g .guards .watched-length; few = g .guards .few; guarded = guarded-more _ _ _ _ (g .guards .guarded) };
       }
 
-  so-far-guard : kind ≡ 0x40 → 0x30 ≤ s .last → s .model .guards < 16 → guardOk s body ≡ true → AcceptedSoFar (withGuard s kind body)
+  so-far-guard : kind ≡ 0x40 → 0x30 ≤ s .last → s .model .questions .guards < 16 → guardOk s body ≡ true → AcceptedSoFar (withGuard s kind body)
   unfolding withGuard
   so-far-guard k late few ok =
       record {
@@ -274,12 +274,12 @@ module _ (s : State) (kind : ℕ) (body : List ℕ) (g : AcceptedSoFar s) where
         directions = directions-late (g .directions) kind late;
         guards =
             record {
-              watched-length = length-set (s .model .watched) (s .model .guards) (firstByte body) ∙ g .guards .watched-length;
+              watched-length = length-set (s .model .questions .watched) (s .model .questions .guards) (firstByte body) ∙ g .guards .watched-length;
               few = omega arith;
               guarded =
-                  guarded-set (s .model .directions) (s .model .guards) (s .model .watched) (s .model .levels) (firstByte body) (signedAt 8 body 1)
+                  guarded-set (s .model .questions .directions) (s .model .questions .guards) (s .model .questions .watched) (s .model .questions .levels) (firstByte body) (signedAt 8 body 1)
                   (omega (arith, g .guards .watched-length))
-                  (ltb-true (firstByte body) (s .model .directions) ok)
+                  (ltb-true (firstByte body) (s .model .questions .directions) ok)
                   (g .guards .guarded);
             };
       }

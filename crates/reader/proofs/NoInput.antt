@@ -166,7 +166,7 @@ module _ (s : State) (g : AcceptedSoFar s) (complete : completesInitial (s .plac
   direction-stored : (body : List ℕ) → stored s 0x30 body ≡ stored (withCorners s 0x21 2) 0x30 body
   unfolding stored partOf withDirection
   direction-stored body =
-      ap (λ (x : Set). stateOf 0x30 (s .rows) (setDirections (setSet true (s .model) x) (s .model .directions + 1) (putRow (s .model .entries) (s .model .directions) (sixAt body 0)))) zero-input
+      ap (λ (x : Set). stateOf 0x30 (s .rows) (setDirections (setSet true (s .model) x) (s .model .questions .directions + 1) (putRow (s .model .questions .entries) (s .model .questions .directions) (sixAt body 0)))) zero-input
 
   -- So the file is read on from there as behind them.
   read-direction : (file : List ℕ) (at : ℕ) → recordKind (recordAt file at) ≡ 0x30 → readFrom file at (withCorners s 0x21 2) ≡ readFrom file at s

@@ -15,7 +15,10 @@ use Rattle.records.specs.Records.{Record, recordAt, recordKind, recordBody}
 use Rattle.records.proofs.RecordAt.{whole-length, recordAt-take, reaches-of-le}
 use Rattle.arrays.proofs.Tests.{Zeros, zeroOutside-of, allBetween-of}
 use Rattle.stepping.specs.Limits.{entryLimit}
-use Rattle.limits.specs.Limits.{frameOk, directionsOk, directionLimit}
+use Rattle.stepping.specs.Refusals.{matrixOk}
+use Rattle.limits.specs.Limits.{directionsOk, directionLimit}
+use Rattle.reachability.proofs.motion.Laws.{motionOk-of}
+use Rattle.reachability.proofs.model.Facts.{accepted-of}
 use Rattle.reachability.specs.Limits.{accepted}
 use Rattle.reader.specs.declared.Status.the-variants.{Read}
 use Rattle.reader.specs.declared.Reading.{Reading}
@@ -140,20 +143,20 @@ readModel-reached file e =
 
 -- ---- a model that was read is accepted: number 11 never follows a good read
 
-accepted-of : (s : State) → AcceptedSoFar s → 0x30 ≤ s .last → accepted (s .model) ≡ true
-accepted-of s g late =
-    ap₂ _&&_ frame
-    (ap₂ _&&_ (g .initial .done (isDone-late 0x10 (s .place) (omega arith)))
-    (ap₂ _&&_ (g .input .done (isDone-late 0x20 (s .place) (omega arith)))
-    (ap₂ _&&_ (ap₂ _&&_ beyond (g .drift .entering (isDone-late 0x20 (s .place) (omega arith))))
-    (ap₂ _&&_ directions (guardsOk-of (s .model .directions) (s .model .guards) (s .model .watched) (s .model .levels) (g .guards .few) (g .guards .guarded))))))
+accepted-state : (s : State) → AcceptedSoFar s → 0x30 ≤ s .last → accepted (s .model) ≡ true
+accepted-state s g late =
+    accepted-of (s .model) (record {
+      motion = motionOk-of (s .model .n) (s .model .steps) (s .model .motion) (g .frame .dimension (omega arith)) (g .frame .steps-ok (omega arith)) matrix-passes;
+      initial = g .initial .done (isDone-late 0x10 (s .place) (omega arith));
+      input = g .input .done (isDone-late 0x20 (s .place) (omega arith));
+      drift = ap₂ _&&_ beyond (g .drift .entering (isDone-late 0x20 (s .place) (omega arith)));
+      questions = ap₂ _&&_ directions (guardsOk-of (s .model .questions .directions) (s .model .questions .guards) (s .model .questions .watched) (s .model .questions .levels) (g .guards .few) (g .guards .guarded));
+    })
   where
-    frame : frameOk (s .model .n) (s .model .steps) (s .model .matrix) ≡ true
-    frame =
-        ap₂ _&&_ (g .frame .dimension (omega arith))
-        (ap₂ _&&_ (g .frame .steps-ok (omega arith))
-        (ap₂ _&&_ (allBetween-of entryLimit (s .model .matrix) (g .frame .matrix-small))
-        (zeroOutside-of (s .model .n) (s .model .n) (s .model .matrix) (subst (λ (k : ℕ). Zeros k (s .model .n) (s .model .matrix)) (g .frame .all (omega arith)) (g .frame .matrix-zeros)))))
+    matrix-passes : matrixOk (s .model .n) (s .model .motion .matrix) ≡ true
+    matrix-passes =
+        ap₂ _&&_ (allBetween-of entryLimit (s .model .motion .matrix) (g .frame .matrix-small))
+        (zeroOutside-of (s .model .n) (s .model .n) (s .model .motion .matrix) (subst (λ (k : ℕ). Zeros k (s .model .n) (s .model .motion .matrix)) (g .frame .all (omega arith)) (g .frame .matrix-zeros)))
 
     beyond : zeroOutside 1 (s .model .n) (s .model .drift) ≡ true
     beyond =
@@ -163,11 +166,11 @@ accepted-of s g late =
           column = λ p i l h. g .drift .beyond (6 * p + i) (omega arith);
         })
 
-    directions : directionsOk (s .model .n) (s .model .directions) (s .model .entries) ≡ true
+    directions : directionsOk (s .model .n) (s .model .questions .directions) (s .model .questions .entries) ≡ true
     directions =
-        ap₂ _&&_ (ap₂ _&&_ (le-leb 1 (s .model .directions) (g .directions .some late)) (le-leb (s .model .directions) 16 (g .directions .few)))
-        (ap₂ _&&_ (zeroOutside-of (s .model .directions) (s .model .n) (s .model .entries) (g .directions .entries-zeros))
-        (ap₂ _&&_ (allBetween-of directionLimit (s .model .entries) (g .directions .entries-small)) (someNonzero-of (s .model .directions) (s .model .entries) (g .directions .nonzero))))
+        ap₂ _&&_ (ap₂ _&&_ (le-leb 1 (s .model .questions .directions) (g .directions .some late)) (le-leb (s .model .questions .directions) 16 (g .directions .few)))
+        (ap₂ _&&_ (zeroOutside-of (s .model .questions .directions) (s .model .n) (s .model .questions .entries) (g .directions .entries-zeros))
+        (ap₂ _&&_ (allBetween-of directionLimit (s .model .questions .entries) (g .directions .entries-small)) (someNonzero-of (s .model .questions .directions) (s .model .questions .entries) (g .directions .nonzero))))
 
 end-place : (place : ℕ) → mayFollow place 0xFF ≡ true → 0x30 ≤ place
 unfolding fact partOf
@@ -176,7 +179,7 @@ end-place place m = leb-true 0x30 place (order-fact place 0xFF m)
 pub readModel-accepted : (file : List ℕ) → readModel file .status ≡ Read → accepted (readModel file .model) ≡ true
 readModel-accepted file e =
     let r = readModel-reached file e in
-    ap accepted (r .model-is) ∙ accepted-of (r .last .state) (r .reachable .so-far) (end-place (r .last .state .last) (r .ends))
+    ap accepted (r .model-is) ∙ accepted-state (r .last .state) (r .reachable .so-far) (end-place (r .last .state .last) (r .ends))
 
 -- ---- File 9
 

@@ -46,15 +46,17 @@ sampleModel =
     record {
       n = 1;
       steps = 3;
-      matrix = pos 32768 ∷ replicate 35 (pos 0);
+      motion = record { matrix = pos 32768 ∷ replicate 35 (pos 0) };
       drift = replicate 6 (pos 0);
       initial = record { shape = Box; count = 2; points = replicate 96 (pos 0) };
       input = record { shape = Box; count = 2; points = replicate 6 (pos 0) ++ pos 1 ∷ replicate 89 (pos 0) };
-      directions = 1;
-      entries = pos 1 ∷ replicate 95 (pos 0);
-      guards = 3;
-      watched = replicate 16 0;
-      levels = pos 1 ∷ pos 2 ∷ pos 3 ∷ replicate 13 (pos 0);
+      questions = record {
+        directions = 1;
+        entries = pos 1 ∷ replicate 95 (pos 0);
+        guards = 3;
+        watched = replicate 16 0;
+        levels = pos 1 ∷ pos 2 ∷ pos 3 ∷ replicate 13 (pos 0);
+      };
     }
 
 pub sample-length : length sample ≡ 186

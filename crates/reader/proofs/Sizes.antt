@@ -48,7 +48,7 @@ abbrev started : ℕ → ℕ
 started place = cond (eqb place 0) 0 (cond (ltb place 0x05) 4 29)
 
 unfoldable pub used : State → ℕ
-used s = started (s .place) + 50 * s .rows + 25 * (s .model .initial .count + s .model .input .count + s .model .directions) + 10 * s .model .guards
+used s = started (s .place) + 50 * s .rows + 25 * (s .model .initial .count + s .model .input .count + s .model .questions .directions) + 10 * s .model .questions .guards
 
 started-early : (place : ℕ) → 0 < place → place < 0x05 → started place ≡ 4
 started-early place h l = ap₂ (λ (a b : Bool). cond a 0 (cond b 4 29)) (ne-eqb place 0 (λ e. omega arith)) (lt-ltb place 0x05 l)

@@ -18,6 +18,8 @@ use Rattle.records.specs.Places.{startPlace, rowsPlace, inputPlace}
 use Rattle.columns.specs.Columns.{entryAt, fittedWidth, bitsAt}
 use Rattle.reachability.specs.declared.sets.Shape.the-variants.{Box}
 use Rattle.reachability.specs.declared.sets.Set.{Set}
+use Rattle.reachability.specs.declared.motion.Motion.{Motion}
+use Rattle.reachability.specs.declared.model.Questions.{Questions}
 use Rattle.reachability.specs.declared.model.Model.{Model}
 use Rattle.reachability.specs.Sets.{zeroBox}
 use Rattle.reader.specs.declared.state.State.{State}
@@ -37,15 +39,11 @@ blankModel =
     record {
       n = 0;
       steps = 0;
-      matrix = zeros 36;
+      motion = record { matrix = zeros 36 };
       drift = zeros 6;
       initial = blankSet;
       input = blankSet;
-      directions = 0;
-      entries = zeros 96;
-      guards = 0;
-      watched = replicate 16 0;
-      levels = zeros 16;
+      questions = record { directions = 0; entries = zeros 96; guards = 0; watched = replicate 16 0; levels = zeros 16 };
     }
 
 -- Before the first record: the first place, no row, a blank model.
@@ -76,44 +74,50 @@ defaultSteps k = cond (eqb k 0) usualSteps k
 
 -- ---- a model with one part changed
 
--- The model of these fields, in the order of the code.
-abbrev pub modelOf : ℕ → ℕ → List ℤ → List ℤ → Set → Set → ℕ → List ℤ → ℕ → List ℕ → List ℤ → Model
-modelOf n steps matrix drift initial input directions entries guards watched levels =
+-- The model of these parts, in the order of the code.
+abbrev pub modelOf : ℕ → ℕ → Motion → List ℤ → Set → Set → Questions → Model
+modelOf n steps motion drift initial input questions =
     record {
       n = n;
       steps = steps;
-      matrix = matrix;
+      motion = motion;
       drift = drift;
       initial = initial;
       input = input;
-      directions = directions;
-      entries = entries;
-      guards = guards;
-      watched = watched;
-      levels = levels;
+      questions = questions;
     }
 
 abbrev pub setHead : Model → ℕ → ℕ → Model
-setHead m n steps = modelOf n steps (m .matrix) (m .drift) (m .initial) (m .input) (m .directions) (m .entries) (m .guards) (m .watched) (m .levels)
+setHead m n steps = modelOf n steps (m .motion) (m .drift) (m .initial) (m .input) (m .questions)
 
 abbrev pub setMatrix : Model → List ℤ → Model
-setMatrix m matrix = modelOf (m .n) (m .steps) matrix (m .drift) (m .initial) (m .input) (m .directions) (m .entries) (m .guards) (m .watched) (m .levels)
+setMatrix m matrix = modelOf (m .n) (m .steps) (record { matrix = matrix }) (m .drift) (m .initial) (m .input) (m .questions)
 
 abbrev pub setDrift : Model → List ℤ → Model
-setDrift m drift = modelOf (m .n) (m .steps) (m .matrix) drift (m .initial) (m .input) (m .directions) (m .entries) (m .guards) (m .watched) (m .levels)
+setDrift m drift = modelOf (m .n) (m .steps) (m .motion) drift (m .initial) (m .input) (m .questions)
 
 -- The initial set or, with `input`, the input set.
 abbrev pub setOf : Bool → Model → Set
 setOf input m = cond input (m .input) (m .initial)
 
 abbrev pub setSet : Bool → Model → Set → Model
-setSet input m set = modelOf (m .n) (m .steps) (m .matrix) (m .drift) (cond input (m .initial) set) (cond input set (m .input)) (m .directions) (m .entries) (m .guards) (m .watched) (m .levels)
+setSet input m set = modelOf (m .n) (m .steps) (m .motion) (m .drift) (cond input (m .initial) set) (cond input set (m .input)) (m .questions)
+
+abbrev pub setQuestions : Model → Questions → Model
+setQuestions m questions = modelOf (m .n) (m .steps) (m .motion) (m .drift) (m .initial) (m .input) questions
+
+-- The questions of these fields, in the order of the code.
+abbrev pub questionsOf : ℕ → List ℤ → ℕ → List ℕ → List ℤ → Questions
+questionsOf directions entries guards watched levels =
+    record { directions = directions; entries = entries; guards = guards; watched = watched; levels = levels }
 
 abbrev pub setDirections : Model → ℕ → List ℤ → Model
-setDirections m directions entries = modelOf (m .n) (m .steps) (m .matrix) (m .drift) (m .initial) (m .input) directions entries (m .guards) (m .watched) (m .levels)
+setDirections m directions entries =
+    setQuestions m (questionsOf directions entries (m .questions .guards) (m .questions .watched) (m .questions .levels))
 
 abbrev pub setGuards : Model → ℕ → List ℕ → List ℤ → Model
-setGuards m guards watched levels = modelOf (m .n) (m .steps) (m .matrix) (m .drift) (m .initial) (m .input) (m .directions) (m .entries) guards watched levels
+setGuards m guards watched levels =
+    setQuestions m (questionsOf (m .questions .directions) (m .questions .entries) guards watched levels)
 
 -- ---- what each record adds
 
@@ -141,7 +145,7 @@ rowPlace l rows n = cond (ltb rows n) rowsPlace (l .place)
 abbrev pub rowStored : State → Layout → List ℤ → State
 rowStored s l six =
     stateOf (rowPlace l (s .rows + 1) (s .model .n)) (s .rows + 1)
-    (setMatrix (s .model) (putRow (s .model .matrix) (s .rows) six))
+    (setMatrix (s .model) (putRow (s .model .motion .matrix) (s .rows) six))
 
 -- File 3, a row.
 unfoldable pub withRow : State → Layout → List ℕ → State
@@ -174,13 +178,13 @@ inputAt place m = cond (ltb place inputPlace) zeroBox (m .input)
 unfoldable pub withDirection : State → Layout → List ℕ → State
 withDirection s l body =
     stateOf (l .place) (s .rows)
-    (setDirections (setSet true (s .model) (inputAt (s .place) (s .model))) (s .model .directions + 1)
-    (putRow (s .model .entries) (s .model .directions) (sixAt body (l .first))))
+    (setDirections (setSet true (s .model) (inputAt (s .place) (s .model))) (s .model .questions .directions + 1)
+    (putRow (s .model .questions .entries) (s .model .questions .directions) (sixAt body (l .first))))
 
 -- File 3, a guard.
 unfoldable pub withGuard : State → Layout → List ℕ → State
 withGuard s l body =
     stateOf (l .place) (s .rows)
-    (setGuards (s .model) (s .model .guards + 1)
-    (set (s .model .watched) (s .model .guards) (firstByte body))
-    (set (s .model .levels) (s .model .guards) (signedAt 8 body 1)))
+    (setGuards (s .model) (s .model .questions .guards + 1)
+    (set (s .model .questions .watched) (s .model .questions .guards) (firstByte body))
+    (set (s .model .questions .levels) (s .model .questions .guards) (signedAt 8 body 1)))

@@ -21,8 +21,8 @@ countOf Row s = 0
 countOf Drift s = 0
 countOf Initial s = s .model .initial .count
 countOf Input s = s .model .input .count
-countOf Direction s = s .model .directions
-countOf Guard s = s .model .guards
+countOf Direction s = s .model .questions .directions
+countOf Guard s = s .model .questions .guards
 countOf End s = 0
 
 -- Refusals 9.

@@ -55,7 +55,7 @@ directionOk l body = within directionLimit (sixAt body (l .first)) && not (allZe
 
 -- Refusals 8 does not apply.
 abbrev pub guardOk : State → List ℕ → Bool
-guardOk s body = ltb (firstByte body) (s .model .directions)
+guardOk s body = ltb (firstByte body) (s .model .questions .directions)
 
 abbrev pub unless : Bool → ℕ → ℕ
 unless ok number = cond ok 0 number

@@ -37,8 +37,14 @@ fn count_of(part: Part, state: State) -> usize
             let set = model.input;
             set.count
         }
-        Part::Direction => model.directions,
-        Part::Guard => model.guards,
+        Part::Direction => {
+            let questions = model.questions;
+            questions.directions
+        }
+        Part::Guard => {
+            let questions = model.questions;
+            questions.guards
+        }
         Part::Head => 0,
         Part::Row => 0,
         Part::Drift => 0,

@@ -1,5 +1,7 @@
 // How far a file has been read.
 use reachability::model::Model;
+use reachability::model::Questions;
+use reachability::motion::Motion;
 use reachability::sets::Set;
 use reachability::sets::Shape;
 ghost use mathlib.Core.Path.{_≡_};
@@ -19,7 +21,7 @@ pub(crate) fn blank_model() -> Model
     Model {
         n: 0,
         steps: 0,
-        matrix: [0i32; 36],
+        motion: Motion { matrix: [0i32; 36] },
         drift: [0i32; 6],
         initial: Set {
             shape: Shape::Box,
@@ -31,10 +33,12 @@ pub(crate) fn blank_model() -> Model
             count: 0,
             points: [0i32; 96],
         },
-        directions: 0,
-        entries: [0i32; 96],
-        guards: 0,
-        watched: [0usize; 16],
-        levels: [0i64; 16],
+        questions: Questions {
+            directions: 0,
+            entries: [0i32; 96],
+            guards: 0,
+            watched: [0usize; 16],
+            levels: [0i64; 16],
+        },
     }
 }

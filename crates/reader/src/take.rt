@@ -93,9 +93,11 @@ fn store_row(state: State, layout: Layout, row: usize, entries: RowEntries) -> T
     let mut model = state.model;
     let n = model.n;
     let six = entries.six;
-    let mut matrix = model.matrix;
+    let mut motion = model.motion;
+    let mut matrix = motion.matrix;
     put_row(&mut matrix, row, &six);
-    model.matrix = matrix;
+    motion.matrix = matrix;
+    model.motion = motion;
     let next = row + 1;
     let place: u8 = if next < n { ROWS } else { layout.place };
     Taken {
@@ -220,7 +222,7 @@ fn take_point(state: State, input: bool, layout: Layout, body: &[u8]) -> Taken
 }
 
 fn take_direction(state: State, layout: Layout, body: &[u8]) -> Taken
-    requires { ⌜ state .model .directions < 16 ⌝ }
+    requires { ⌜ state .model .questions .directions < 16 ⌝ }
     requires { ⌜ layout .first ≤ 1 ⌝ }
     ensures { λ r. ⌜ Takes (unless (directionOk layout (now (body .entry))) 7) (withDirection state layout (now (body .entry))) r ⌝ }
 {
@@ -232,13 +234,15 @@ fn take_direction(state: State, layout: Layout, body: &[u8]) -> Taken
     if arrays::zero_outside(0, 0, &six) {
         return Taken { number: 7, state };
     }
-    let directions = model.directions;
-    let mut entries = model.entries;
+    let mut questions = model.questions;
+    let directions = questions.directions;
+    let mut entries = questions.entries;
     put_row(&mut entries, directions, &six);
     let input = input_at(state.place, model);
     model.input = input;
-    model.directions = directions + 1;
-    model.entries = entries;
+    questions.directions = directions + 1;
+    questions.entries = entries;
+    model.questions = questions;
     Taken {
         number: 0,
         state: State {
@@ -250,22 +254,24 @@ fn take_direction(state: State, layout: Layout, body: &[u8]) -> Taken
 }
 
 fn take_guard(state: State, layout: Layout, body: &[u8]) -> Taken
-    requires { ⌜ state .model .guards < 16 ⌝ }
+    requires { ⌜ state .model .questions .guards < 16 ⌝ }
     ensures { λ r. ⌜ Takes (unless (guardOk state (now (body .entry))) 8) (withGuard state layout (now (body .entry))) r ⌝ }
 {
     let mut model = state.model;
     let direction = first_byte(body);
-    if model.directions <= direction {
+    let mut questions = model.questions;
+    if questions.directions <= direction {
         return Taken { number: 8, state };
     }
-    let guards = model.guards;
-    let mut watched = model.watched;
-    let mut levels = model.levels;
+    let guards = questions.guards;
+    let mut watched = questions.watched;
+    let mut levels = questions.levels;
     watched[guards] = direction;
     levels[guards] = records::i64_at(body, 1);
-    model.guards = guards + 1;
-    model.watched = watched;
-    model.levels = levels;
+    questions.guards = guards + 1;
+    questions.watched = watched;
+    questions.levels = levels;
+    model.questions = questions;
     Taken {
         number: 0,
         state: State {

@@ -42,10 +42,6 @@ halfUp t = ceilDivℕ t 2
 abbrev pub growthSum : ℕ → (ℕ → ℤ) → (ℕ → ℕ) → ℕ
 growthSum n r e = maxℕ n (λ i. natAbs (r i) + halfUp (e i))
 
--- Recurrence 7: growth, of one r and e.
-abbrev pub grows : ℕ → (ℕ → ℤ) → (ℕ → ℕ) → Bool
-grows n r e = ltb growthLimit (growthSum n r e)
-
 -- The largest h up to k that passes the test, 0 where none above 0 does.
 unfoldable pub greatest : ℕ → (ℕ → Bool) → ℕ
 greatest zero p = 0

@@ -38,12 +38,14 @@ module _ (c : tie.Else1) where
 
 returns-2 : tie.Need-returns-2
 returns-2 c =
-    let b = c .before .before in
+    let b = c .before .before .before in
     judge-refuses (m b) (g b) (b₀ b) (s₀ b) NoGuard refl (answer-no-guard (m b) (g b) _ _ (ok b) (c .if2 .taken)) tt
 
 -- the guard is one of the sixteen
-below : (c : tie.Else2) → g (c .before .before) < 16
-below c = guard-below (m (c .before .before)) (g (c .before .before)) (ok (c .before .before)) (c .if2 .left)
+below : (c : tie.Else2) → g (c .before .before .before) < 16
+below c =
+    let accepted = c .before .before .before in
+    guard-below (m accepted) (g accepted) (ok accepted) (c .if2 .left)
 
 mul-direction : tie.Need-mul-direction
 mul-direction c = record { fits = omega (arith, below (c .before .before)) }
@@ -63,7 +65,7 @@ module _ (c : tie.After-sweep) where
   tested = c .before .before .before .before .before .before
 
   abbrev at : tie.Else1
-  at = tested .before .before
+  at = tested .before .before .before
 
   abbrev b : List ℤ
   b = c .sweep .last .1 .1 .0
@@ -71,13 +73,13 @@ module _ (c : tie.After-sweep) where
   abbrev s : List ℤ
   s = c .sweep .last .1 .1 .1 .0
 
-  left : SweepLeaves (m at) (getD (m at .watched) (g at) 0) (b₀ at) (s₀ at) (c .sweep .result) b s
+  left : SweepLeaves (m at) (getD (m at .questions .watched) (g at) 0) (b₀ at) (s₀ at) (c .sweep .result) b s
   left = c .sweep .ensures
 
 returns-3 : tie.Need-returns-3
 returns-3 c =
     let w = c .before .before .before .before .before in
-    let l = vector (m (at w) .levels) (g (at w)) in
+    let l = vector (m (at w) .questions .levels) (g (at w)) in
     judges (m (at w)) (g (at w)) (ok (at w)) (tested w .if2 .left) (b₀ (at w)) (s₀ (at w)) (w .sweep .result) (b w) (s w) (c .verdict .result) (left w)
     (c .verdict .ensures .answer ∙ ap (λ (z : ℤ). sweptVerdict (w .sweep .result) z (b w) (s w)) (read-given w64 l (w .before .before .before .level .given)))
 

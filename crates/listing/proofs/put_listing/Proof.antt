@@ -80,7 +80,7 @@ put-guards-requires c κs =
     )
 
 -- the three parts are the listing
-listed : (m : Model) {most : ℕ} {b c : List ℕ} {r : ℕ} → most ≤ replyRoom → Put most 0 (line (word "model ") (m .n) (word " ") (m .steps) ++ each (m .directions) (directionText m) ++ each (m .guards) (guardText m)) b c r → Put replyRoom 0 (listingText m) b c r
+listed : (m : Model) {most : ℕ} {b c : List ℕ} {r : ℕ} → most ≤ replyRoom → Put most 0 (line (word "model ") (m .n) (word " ") (m .steps) ++ each (m .questions .directions) (directionText m) ++ each (m .questions .guards) (guardText m)) b c r → Put replyRoom 0 (listingText m) b c r
 unfolding listingText
 listed m h p = put-most replyRoom h p
 

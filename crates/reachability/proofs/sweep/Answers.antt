@@ -1,6 +1,6 @@
 -- What the tests of a sweep make of its answer, one law for each end, and that the largest sum of a direction that isn't refused
 -- has a spare figure. Assumes nothing.
-use mathlib.Core.Path.{_≡_, sym, ap, ap₂, subst, _∙_}
+use mathlib.Core.Path.{_≡_, refl, sym, ap, ap₂, subst, _∙_}
 use mathlib.Core.Bool.{Bool, true, false, cond, _&&_}
 use mathlib.Core.List.{List}
 use Prim.Native.Nat.{ℕ, suc, _+_, _*_, _^_, _≤_, _<_}
@@ -19,19 +19,19 @@ use Rattle.integers.proofs.Sums.{maxℕ-le, le-maxℕ}
 use Rattle.integers.proofs.Machine.{tabulate-cong}
 use Rattle.integers.proofs.Booleans.{and-false}
 use Rattle.stepping.specs.Limits.{directionUnit, growthLimit}
-use Rattle.stepping.specs.Recurrence.{firstR, firstE, growthSum}
+use Rattle.stepping.specs.Recurrence.{firstR, firstE}
 use Rattle.stepping.proofs.SpareFigure.{spare-is}
 use Rattle.reachability.specs.Limits.{accepted}
 use Rattle.reachability.specs.Runs.{direction}
-use Rattle.reachability.specs.Recurrence.{Working, sumAt, growsAt, growthStep, spareFigure, bound, slack}
-use Rattle.reachability.specs.Answers.{sweepAnswer, lengthsOk, boundsOf, slacksOf, sweptNumber, SweepLeaves}
+use Rattle.reachability.specs.Recurrence.{Working, working, placeSum, sumAt, growsAt, growthStep, spareFigure, bound, slack}
+use Rattle.reachability.specs.Answers.{sweptNumber, sweptFigure, lengthsOk, sweepAnswer, sweepNumber, sweepFigure, boundsOf, slacksOf, SweepLeaves}
 use Rattle.reachability.specs.SweepInner.{Fills}
 use Rattle.reachability.specs.declared.model.Model.{Model}
 use Rattle.reachability.specs.declared.sweep.Swept.{Swept}
 use Rattle.reachability.specs.declared.sweep.Swept.the-variants.{Spare, Invalid, NoDirection, WrongLength, Growth}
 use Rattle.reachability.proofs.FirstPlace.{firstPlace-before}
 use Rattle.reachability.proofs.model.Facts.{ModelFacts}
-use Rattle.reachability.proofs.sweep.SweepStep.{first-working}
+use Rattle.reachability.proofs.walk.Held.{working-start}
 use Rattle.reachability.proofs.AccuracyRule.{rule-of-facts, accurate-lists}
 
 module _ (m : Model) (d lb ls : ℕ) where
@@ -42,18 +42,18 @@ module _ (m : Model) (d lb ls : ℕ) where
   lengthed = cond (lengthsOk m lb ls) finished WrongLength
 
   pub answer-invalid : accepted m ≡ false → Invalid ≡ sweepAnswer m d lb ls
-  answer-invalid f = sym (ap (λ (t : Bool). cond t (cond (ltb d (m .directions)) lengthed NoDirection) Invalid) f)
+  answer-invalid f = sym (ap (λ (t : Bool). cond t (cond (ltb d (m .questions .directions)) lengthed NoDirection) Invalid) f)
 
   module _ (ok : accepted m ≡ true) where
-    accepted-answer : sweepAnswer m d lb ls ≡ cond (ltb d (m .directions)) lengthed NoDirection
-    accepted-answer = ap (λ (t : Bool). cond t (cond (ltb d (m .directions)) lengthed NoDirection) Invalid) ok
+    accepted-answer : sweepAnswer m d lb ls ≡ cond (ltb d (m .questions .directions)) lengthed NoDirection
+    accepted-answer = ap (λ (t : Bool). cond t (cond (ltb d (m .questions .directions)) lengthed NoDirection) Invalid) ok
 
-    pub answer-no-direction : m .directions ≤ d → NoDirection ≡ sweepAnswer m d lb ls
-    answer-no-direction h = sym (accepted-answer ∙ ap (λ (t : Bool). cond t lengthed NoDirection) (le-ltb d (m .directions) h))
+    pub answer-no-direction : m .questions .directions ≤ d → NoDirection ≡ sweepAnswer m d lb ls
+    answer-no-direction h = sym (accepted-answer ∙ ap (λ (t : Bool). cond t lengthed NoDirection) (le-ltb d (m .questions .directions) h))
 
-    module _ (inside : d < m .directions) where
+    module _ (inside : d < m .questions .directions) where
       directed-answer : sweepAnswer m d lb ls ≡ lengthed
-      directed-answer = accepted-answer ∙ ap (λ (t : Bool). cond t lengthed NoDirection) (lt-ltb d (m .directions) inside)
+      directed-answer = accepted-answer ∙ ap (λ (t : Bool). cond t lengthed NoDirection) (lt-ltb d (m .questions .directions) inside)
 
       pub answer-wrong-bounds : (lb ≡ m .steps + 1 → ⊥) → WrongLength ≡ sweepAnswer m d lb ls
       answer-wrong-bounds f = sym (directed-answer ∙ ap (λ (t : Bool). cond (t && eqb ls (suc (m .steps))) finished WrongLength) (ne-eqb lb (suc (m .steps)) (λ e. f (e ∙ sym (add-one (m .steps))))))
@@ -73,12 +73,36 @@ module _ (m : Model) (d lb ls : ℕ) where
         pub answer-spare : m .steps < growthStep m d → Spare (spareFigure m d) ≡ sweepAnswer m d lb ls
         answer-spare h = sym (finished-answer ∙ ap (λ (t : Bool). cond t (Growth (growthStep m d)) (Spare (spareFigure m d))) (lt-leb _ _ h))
 
+-- the number and the figure of the answer
+module _ (m : Model) (d lb ls : ℕ) where
+  pub number-is : sweptNumber (sweepAnswer m d lb ls) ≡ sweepNumber m d lb ls
+  number-is = split (accepted m) (ltb d (m .questions .directions)) (lengthsOk m lb ls) (leb (growthStep m d) (m .steps)) (growthStep m d) (spareFigure m d)
+    where
+      split : (a b c t : Bool) (g h : ℕ) → sweptNumber (cond a (cond b (cond c (cond t (Growth g) (Spare h)) WrongLength) NoDirection) Invalid) ≡ cond a (cond b (cond c (cond t 14 0) 13) 12) 11
+      split true true true true g h = refl
+      split true true true false g h = refl
+      split true true false t g h = refl
+      split true false c t g h = refl
+      split false b c t g h = refl
+
+  pub figure-is : sweptFigure (sweepAnswer m d lb ls) ≡ sweepFigure m d lb ls
+  figure-is = split (accepted m) (ltb d (m .questions .directions)) (lengthsOk m lb ls) (leb (growthStep m d) (m .steps)) (growthStep m d) (spareFigure m d)
+    where
+      split : (a b c t : Bool) (g h : ℕ) → sweptFigure (cond a (cond b (cond c (cond t (Growth g) (Spare h)) WrongLength) NoDirection) Invalid) ≡ cond (eqb (cond a (cond b (cond c (cond t 14 0) 13) 12) 11) 0) h (cond (eqb (cond a (cond b (cond c (cond t 14 0) 13) 12) 11) 14) g 0)
+      split true true true true g h = refl
+      split true true true false g h = refl
+      split true true false t g h = refl
+      split true false c t g h = refl
+      split false b c t g h = refl
+
 -- a refusal keeps both lists, and claims nothing of runs
 pub refuses : (m : Model) (d : ℕ) (b s : List ℤ) (a : Swept) (n : ℕ) → sweptNumber a ≡ suc n → a ≡ sweepAnswer m d (length b) (length s) → SweepLeaves m d b s a b s
 refuses m d b s a n e h =
     let none : eqb (sweptNumber a) 0 ≡ false = ne-eqb (sweptNumber a) 0 (λ z. never (sym e ∙ z)) in
     record {
       answer = h;
+      number = ap sweptNumber h ∙ number-is m d (length b) (length s);
+      figure = ap sweptFigure h ∙ figure-is m d (length b) (length s);
       bounds = sym (ap (λ (t : Bool). cond t (boundsOf m d) b) none);
       slacks = sym (ap (λ (t : Bool). cond t (slacksOf m d) s) none);
       accurate = λ z. absurd (never (sym e ∙ z));
@@ -89,7 +113,7 @@ refuses m d b s a n e h =
 
 -- ---- the largest sum is from 1 to 1,073,741,824
 
-module _ (m : Model) (facts : ModelFacts m) (d : ℕ) (inside : d < m .directions) where
+module _ (m : Model) (facts : ModelFacts m) (d : ℕ) (inside : d < m .questions .directions) where
   pub largest-most : m .steps < growthStep m d → maxℕ (suc (m .steps)) (sumAt m d) ≤ growthLimit
   largest-most calm =
       maxℕ-le (suc (m .steps)) growthLimit (λ k h. ltb-false growthLimit (sumAt m d k) (firstPlace-before (suc (m .steps)) (growsAt m d) k (lt-of-le-of-lt (le-of-suc-le-suc h) calm)))
@@ -118,8 +142,10 @@ module _ (m : Model) (facts : ModelFacts m) (d : ℕ) (inside : d < m .direction
 
       first-sum : directionUnit ≤ sumAt m d 0
       first-sum =
-          subst (λ (w : Working). directionUnit ≤ growthSum (m .n) (w .r) (w .e)) (sym (first-working m d))
-          (le-trans (omega (arith, natAbs-mul (pos directionUnit) (direction m d i), positive)) (le-maxℕ (m .n) (λ j. natAbs (firstR (direction m d) j) + firstE j) i below-n))
+          le-trans
+          (subst (λ (w : Working). directionUnit ≤ placeSum (m .n) w) (sym (working-start m d 0))
+          (le-trans (omega (arith, natAbs-mul (pos directionUnit) (direction m d i), positive)) (le-maxℕ (m .n) (λ j. natAbs (firstR (direction m d) j) + firstE j) i below-n)))
+          (le-maxℕ 1 (λ j. placeSum (m .n) (working m d 0 j)) 0 (zero-lt-suc 0))
 
   pub largest-least : 1 ≤ maxℕ (suc (m .steps)) (sumAt m d)
   largest-least = le-trans (lit≤ tt) largest-unit
@@ -137,6 +163,8 @@ pub sweeps : (m : Model) (facts : ModelFacts m) (d : ℕ) (b₀ s₀ b s : List 
 sweeps m facts d b₀ s₀ b s {row-b} {row-s} a fills calm lb ls p q spare h =
     record {
       answer = h;
+      number = ap sweptNumber h ∙ number-is m d (length b₀) (length s₀);
+      figure = ap sweptFigure h ∙ figure-is m d (length b₀) (length s₀);
       bounds = in-b ∙ sym (ap (λ (t : Bool). cond t (boundsOf m d) b₀) zero-number);
       slacks = in-s ∙ sym (ap (λ (t : Bool). cond t (slacksOf m d) s₀) zero-number);
       accurate = λ z. rw (in-b, in-s) (accurate-lists m d (rule-of-facts m facts));

@@ -14,7 +14,7 @@ use Rattle.listing.proofs.directions.put_directions.Statement.{statemen
 use Rattle.listing.proofs.directions.put_directions.Tie as tie
 
 record DirectionsPut (m : Model) (at : ℕ) (out₀ : List ℕ) (bounds slacks : List ℤ) (cases steps out : List ℕ) (end d : ℕ) : Type 0 where
-  passed : d ≤ m .directions
+  passed : d ≤ m .questions .directions
   bounds-long : length bounds ≡ suc (m .steps)
   slacks-long : length slacks ≡ suc (m .steps)
   cases-noted : Noted m d caseOf cases
@@ -26,7 +26,7 @@ Inv-loop model bounds₀ slacks₀ cases₀ steps₀ out₀ at end₀ d₀ bound
     DirectionsPut model at out₀ bounds slacks cases steps out end d
 
 abbrev μ-loop : tie.MeasureT-loop
-μ-loop model bounds₀ slacks₀ cases₀ steps₀ out₀ at end₀ d₀ bounds slacks cases steps out end d = model .directions - d
+μ-loop model bounds₀ slacks₀ cases₀ steps₀ out₀ at end₀ d₀ bounds slacks cases steps out end d = model .questions .directions - d
 
 loop-holds : tie.Need-loop-holds Inv-loop μ-loop
 loop-holds c =
@@ -88,7 +88,7 @@ returns c =
     let l = c .before .before .loop in
     let a = c .before .before .before .before .args in
     let ok = c .before .before .before .before .pre .0 .accepts in
-    let all : l .d ≡ a .model .directions = omega (arith, so .passed, c .if1 .left) in
+    let all : l .d ≡ a .model .questions .directions = omega (arith, so .passed, c .if1 .left) in
     record {
       lines = subst (λ (j : ℕ). Put (j * 16758) (a .at) (each j (directionText (a .model))) (a .out .now) (l .out) (l .end)) all (so .lines);
       cases-noted = noted-all (a .model) caseOf (l .cases) ok (subst (λ (j : ℕ). Noted (a .model) j caseOf (l .cases)) all (so .cases-noted));

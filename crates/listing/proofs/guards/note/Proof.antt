@@ -10,10 +10,10 @@ use Rattle.listing.proofs.guards.note.Statement.{statement}
 use Rattle.listing.proofs.guards.note.Tie as tie
 
 abbrev Inv-loop : tie.InvT-loop
-Inv-loop model direction swept bounds slacks cases₀ steps₀ watched levels g₀ cases steps g = (g ≤ model .guards) × Notes model direction caseOf g cases₀ cases × Notes model direction stepOf g steps₀ steps
+Inv-loop model direction swept bounds slacks cases₀ steps₀ watched levels g₀ cases steps g = (g ≤ model .questions .guards) × Notes model direction caseOf g cases₀ cases × Notes model direction stepOf g steps₀ steps
 
 abbrev μ-loop : tie.MeasureT-loop
-μ-loop model direction swept bounds slacks cases₀ steps₀ watched levels g₀ cases steps g = model .guards - g
+μ-loop model direction swept bounds slacks cases₀ steps₀ watched levels g₀ cases steps g = model .questions .guards - g
 
 loop-holds : tie.Need-loop-holds Inv-loop μ-loop
 loop-holds c =
@@ -67,7 +67,7 @@ loop-again-2 c =
     let l = c .before .before .before .before .before .before .before .loop in
     let below : l .g < 16 = omega (arith, c .before .before .before .before .before .before .before .before .before .before .pre .0 .guards-most, c .before .before .before .before .before .if1 .taken) in
     let watching = c .before .before .before .before .if2 .left in
-    let level-is = read-given w64 (vector (a .model .levels) (l .g)) (c .before .before .before .verdict-arg .given) in
+    let level-is = read-given w64 (vector (a .model .questions .levels) (l .g)) (c .before .before .before .verdict-arg .given) in
     let answer : c .before .before .verdict .result ≡ judgeOf (a .model) (l .g) = c .before .before .verdict .ensures .answer ∙ ap (λ (z : ℤ). sweptVerdict (a .swept) z (a .bounds .now) (a .slacks .now)) level-is ∙ start .pre .0 .answers (l .g) (c .before .before .before .before .before .if1 .taken) watching in (
       omega (arith, c .before .before .before .before .before .if1 .taken),
       notes-more (a .model) caseOf (a .direction) (a .cases .now) (l .g) (l .cases) (c .before .case-of .result) below watching (c .before .case-of .ensures ∙ ap caseOf answer) (l .inv .1),
@@ -78,7 +78,7 @@ returns : tie.Need-returns Inv-loop μ-loop
 returns c =
     let a = c .before .before .before .before .before .args in
     let l = c .before .before .loop in
-    let all : l .g ≡ a .model .guards = omega (arith, l .inv .0, c .if1 .left) in
+    let all : l .g ≡ a .model .questions .guards = omega (arith, l .inv .0, c .if1 .left) in
     subst (λ (k : ℕ). Notes (a .model) (a .direction) caseOf k (a .cases .now) (l .cases) × Notes (a .model) (a .direction) stepOf k (a .steps .now) (l .steps)) all (l .inv .1, l .inv .2)
 
 pub note-spec : {M : Type 1} → statement M

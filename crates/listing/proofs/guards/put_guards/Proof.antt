@@ -10,10 +10,10 @@ use Rattle.listing.proofs.guards.put_guards.Statement.{statement}
 use Rattle.listing.proofs.guards.put_guards.Tie as tie
 
 abbrev Inv-loop : tie.InvT-loop
-Inv-loop model cases steps out₀ at end₀ g₀ out end g = (g ≤ model .guards) × Put (g * 56) at (each g (guardText model)) out₀ out end
+Inv-loop model cases steps out₀ at end₀ g₀ out end g = (g ≤ model .questions .guards) × Put (g * 56) at (each g (guardText model)) out₀ out end
 
 abbrev μ-loop : tie.MeasureT-loop
-μ-loop model cases steps out₀ at end₀ g₀ out end g = model .guards - g
+μ-loop model cases steps out₀ at end₀ g₀ out end g = model .questions .guards - g
 
 loop-holds : tie.Need-loop-holds Inv-loop μ-loop
 loop-holds c =
@@ -59,7 +59,7 @@ returns : tie.Need-returns Inv-loop μ-loop
 returns c =
     let l = c .before .before in
     let a = c .before .before .before .before .args in
-    let all : l .loop .g ≡ a .model .guards = omega (arith, l .loop .inv .0, c .if1 .left) in
+    let all : l .loop .g ≡ a .model .questions .guards = omega (arith, l .loop .inv .0, c .if1 .left) in
     subst (λ (j : ℕ). Put (j * 56) (a .at) (each j (guardText (a .model))) (a .out .now) (l .loop .out) (l .loop .end)) all (l .loop .inv .1)
 
 pub put-guards-spec : {M : Type 1} → statement M

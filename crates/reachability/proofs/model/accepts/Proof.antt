@@ -3,32 +3,35 @@ use Rattle.integers.proofs.Basics.{_≡_, sym, ap, ap₂, _∙_, Bool, true, ne
 use mathlib.Core.Bool.{_&&_}
 use borrow.Author.Tests.{le-leb, not-true, not-false}
 use Rattle.integers.proofs.Booleans.{and-true, and-skip, and-stop}
-use Rattle.stepping.specs.Refusals.{dimensionOk, matrixOk}
+use Rattle.stepping.specs.Refusals.{dimensionOk}
 use Rattle.arrays.specs.Tests.{zeroOutside}
-use Rattle.limits.specs.Limits.{stepsOk, frameOk, directionsOk, guardsOk}
 use Rattle.reachability.specs.Sets.{countOk}
 use Rattle.reachability.specs.Entering.{enteringOk, enteringWithin}
 use Rattle.reachability.specs.SetsInner.{Counted}
-use Rattle.reachability.specs.Limits.{accepted, setAccepted, driftAccepted}
+use Rattle.reachability.specs.Motion.{motionOk}
+use Rattle.reachability.specs.Limits.{accepted, setAccepted, driftAccepted, questionsAccepted}
 use Rattle.reachability.specs.declared.model.Model.{Model}
+use Rattle.reachability.proofs.motion.Laws.{motion-facts}
 use Rattle.reachability.proofs.sets.Facts.{counted-of}
 use Rattle.reachability.proofs.model.accepts.Statement.{statement}
 use Rattle.reachability.proofs.model.accepts.Tie as tie
 
 returns : tie.Need-returns
+unfolding motionOk
 returns c = simp (sym (c .before .frame-ok .ensures) ∙ not-true _ (c .if1 .taken))
 
 -- n, the steps and the matrix pass
 module _ (c : tie.Else1) where
   abbrev m : Model
-  m = c .before .before .before .before .args .model
+  m = c .before .before .before .before .before .args .model
 
-  frame : frameOk (m .n) (m .steps) (m .matrix) ≡ true
+  frame : motionOk (m .n) (m .steps) (m .motion) ≡ true
+  unfolding motionOk
   frame = sym (c .before .frame-ok .ensures) ∙ not-false _ (c .if1 .left)
 
   -- a set's own test, since n has passed
   alone : (s b : Bool) → b ≡ dimensionOk (m .n) && s → s ≡ b
-  alone s b e = sym (e ∙ ap (λ (x : Bool). x && s) (and-true (dimensionOk (m .n)) (stepsOk (m .steps) && matrixOk (m .n) (m .matrix)) frame .0))
+  alone s b e = sym (e ∙ ap (λ (x : Bool). x && s) (motion-facts (m .n) (m .steps) (m .motion) frame .dimension))
 
 returns-2 : tie.Need-returns-2
 returns-2 c =
@@ -60,7 +63,7 @@ module _ (c : tie.Else3) where
 
 -- what is left of the rule once both sets pass
 module _ (c : tie.Else3) where
-  left : accepted (own c) ≡ driftAccepted (own c .n) (own c .input) (own c .drift) && (directionsOk (own c .n) (own c .directions) (own c .entries) && guardsOk (own c .directions) (own c .guards) (own c .watched) (own c .levels))
+  left : accepted (own c) ≡ driftAccepted (own c .n) (own c .input) (own c .drift) && questionsAccepted (own c .n) (own c .questions)
   left = and-skip _ (frame (at-frame (at-initial c))) ∙ and-skip _ (initial-passes (at-initial c)) ∙ and-skip _ (input-passes c)
 
   counted : Counted (own c .input .count)
@@ -94,16 +97,16 @@ module _ (c : tie.Else5) where
   abbrev whole : Model
   whole = own (at-sets at-drift)
 
-  drift-passes : accepted whole ≡ directionsOk (whole .n) (whole .directions) (whole .entries) && guardsOk (whole .directions) (whole .guards) (whole .watched) (whole .levels)
+  drift-passes : accepted whole ≡ questionsAccepted (whole .n) (whole .questions)
   drift-passes = left (at-sets at-drift) ∙ and-skip _ (and-skip _ (beyond at-drift) ∙ sym (reach-alone (at-sets at-drift) (c .before .entering-within .ensures)) ∙ not-false _ (c .if5 .left))
 
 returns-6 : tie.Need-returns-6
-returns-6 c = sym (drift-passes (c .before .before .before .before) ∙ and-stop _ (sym (c .before .directions-ok .ensures) ∙ not-true _ (c .if6 .taken)))
+returns-6 c = sym (drift-passes (c .before .before .before .before .before) ∙ and-stop _ (sym (c .before .directions-ok .ensures) ∙ not-true _ (c .if6 .taken)))
 
 returns-7 : tie.Need-returns-7
 returns-7 c =
     let at-directions = c .before .before .before .before .before in
-    c .guards-ok .ensures ∙ sym (drift-passes (at-directions .before .before .before .before) ∙ and-skip _ (sym (at-directions .before .directions-ok .ensures) ∙ not-false _ (at-directions .if6 .left)))
+    c .guards-ok .ensures ∙ sym (drift-passes (at-directions .before .before .before .before .before) ∙ and-skip _ (sym (at-directions .before .directions-ok .ensures) ∙ not-false _ (at-directions .if6 .left)))
 
 pub accepts-spec : {M : Type 1} → statement M
 accepts-spec =

@@ -42,33 +42,33 @@ module _ (c : tie.Else1) where
 
 returns-2 : tie.Need-returns-2
 returns-2 c =
-    let b = c .before .before in
+    let b = c .before .before .before in
     refuses (m b) (d b) (b₀ b) (s₀ b) NoDirection 11 refl (answer-no-direction (m b) (d b) _ _ (ok b) (c .if2 .taken))
 
 add-size : tie.Need-add-size
 add-size c =
     let at-direction = c .before in
-    let b = at-direction .before .before in
+    let b = at-direction .before .before .before in
     omega (arith, facts b .steps-most)
 
 returns-3 : tie.Need-returns-3
 returns-3 c =
     let at-direction = c .before .before in
-    let b = at-direction .before .before in
+    let b = at-direction .before .before .before in
     refuses (m b) (d b) (b₀ b) (s₀ b) WrongLength 12 refl (answer-wrong-bounds (m b) (d b) _ _ (ok b) (at-direction .if2 .left) (c .if3 .taken))
 
 returns-4 : tie.Need-returns-4
 returns-4 c =
     let at-direction = c .before .before .before in
-    let b = at-direction .before .before in
+    let b = at-direction .before .before .before in
     refuses (m b) (d b) (b₀ b) (s₀ b) WrongLength 12 refl (answer-wrong-slacks (m b) (d b) _ _ (ok b) (at-direction .if2 .left) (c .if4 .taken))
 
 -- every test has passed
 module _ (c : tie.Else4) where
   abbrev at : tie.Else1
-  at = c .before .before .before .before .before
+  at = c .before .before .before .before .before .before
 
-  inside : d at < m at .directions
+  inside : d at < m at .questions .directions
   inside = c .before .before .before .if2 .left
 
   long-b : length (b₀ at) ≡ m at .steps + 1

@@ -12,10 +12,10 @@ returns-2 : tie.Need-returns-2
 returns-2 c = sym (ap (λ (p : Part). countOf p (c .before .before .before .before .args .state)) (c .before .enum-told2 .given .1))
 
 returns-3 : tie.Need-returns-3
-returns-3 c = sym (ap (λ (p : Part). countOf p (c .before .before .before .args .state)) (c .enum-told3 .given .1))
+returns-3 c = sym (ap (λ (p : Part). countOf p (c .before .before .before .before .args .state)) (c .before .enum-told3 .given .1))
 
 returns-4 : tie.Need-returns-4
-returns-4 c = sym (ap (λ (p : Part). countOf p (c .before .before .before .args .state)) (c .enum-told4 .given .1))
+returns-4 c = sym (ap (λ (p : Part). countOf p (c .before .before .before .before .args .state)) (c .before .enum-told4 .given .1))
 
 returns-5 : tie.Need-returns-5
 returns-5 c = sym (ap (λ (p : Part). countOf p (c .before .before .before .args .state)) (c .enum-told5 .given .1))

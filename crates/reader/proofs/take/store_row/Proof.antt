@@ -47,14 +47,14 @@ returns c = takes-stopped (number-is (c .before)) (c .if2 .taken)
 -- once the row is stored, whatever the place in the order
 module _ (c : tie.After-matrix3) where
   abbrev at-number : tie.After-first-of
-  at-number = c .before .before .before .before .before .before .before .before
+  at-number = c .before .before .before .before .before .before .before .before .before
 
   takes : {last : ℕ} → last ≡ rowPlace (row at-number + 1) (s at-number .model .n) → Takes (firstOf (unless (eqb (row at-number) (s at-number .rows)) 5) (entries at-number .number)) (rowStored (s at-number) (entries at-number .six)) (takenAs (stateOf last (row at-number + 1) (setMatrix (s at-number .model) (c .before .put-row .last .0))))
   takes e =
-      let none = c .before .before .before .before .before .before .before .if2 .left in
+      let none = c .before .before .before .before .before .before .before .before .if2 .left in
       takes-stored (sym (number-is at-number) ∙ none)
       (ap₂ (λ (l : ℕ) (xs : List ℤ). takenAs (stateOf l (row at-number + 1) (setMatrix (s at-number .model) xs))) e (c .before .put-row .ensures)
-      ∙ ap (λ (k : ℕ). takenAs (stateOf (rowPlace (k + 1) (s at-number .model .n)) (k + 1) (setMatrix (s at-number .model) (putRow (s at-number .model .matrix) k (entries at-number .six))))) (next at-number none))
+      ∙ ap (λ (k : ℕ). takenAs (stateOf (rowPlace (k + 1) (s at-number .model .n)) (k + 1) (setMatrix (s at-number .model) (putRow (s at-number .model .motion .matrix) k (entries at-number .six))))) (next at-number none))
 
 returns-2 : tie.Need-returns-2
 returns-2 c = takes (c .before) (rw (lt-ltb _ _ (c .if3 .taken)) refl)

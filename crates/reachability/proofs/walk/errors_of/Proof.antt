@@ -1,4 +1,4 @@
--- `reachability::sweep::rows::errors_of` meets its contract: `sum` is the running sum of the products. The measure is what is left
+-- `reachability::walk::errors_of` meets its contract: `sum` is the running sum of the products. The measure is what is left
 -- of six. Assumes nothing.
 use Rattle.integers.proofs.Basics.{_≡_, sym, ap, ap₂, subst, ℕ, _+_, _*_, _-_, _≤_, _<_, arith, ℤ, pos, natAbs, w64, Fits, toZ, ofZ}
 use Prim.Native.Nat.{_^_}
@@ -11,8 +11,8 @@ use Rattle.integers.proofs.Machine.{read-given}
 use Rattle.integers.proofs.RunningSum.{RunningSum, running-start, running-more, running-doneℕ}
 use Rattle.stepping.specs.Limits.{errorLimit}
 use Rattle.reachability.specs.Sets.{reachLimit}
-use Rattle.reachability.proofs.sweep.rows.errors_of.Statement.{statement}
-use Rattle.reachability.proofs.sweep.rows.errors_of.Tie as tie
+use Rattle.reachability.proofs.walk.errors_of.Statement.{statement}
+use Rattle.reachability.proofs.walk.errors_of.Tie as tie
 
 abbrev product : List ℤ → List ℤ → ℕ → ℕ
 product e w i = magnitudes e i * magnitudes w i

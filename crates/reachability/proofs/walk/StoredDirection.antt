@@ -25,7 +25,7 @@ use Rattle.stepping.proofs.Beyond.{nextR-beyond, nextE-beyond}
 use Rattle.reachability.specs.Sets.{points, supportOf, reachLimit}
 use Rattle.reachability.specs.Recurrence.{Working, next, errorAt}
 use Rattle.reachability.specs.SetsInner.{productLimit, termLimit}
-use Rattle.reachability.specs.SweepInner.{errorsLimit, termSupport, termErrors, TermsAsk, storedReaches}
+use Rattle.reachability.specs.WalkInner.{errorsLimit, termSupport, termErrors, TermsAsk, storedReaches}
 use Rattle.reachability.specs.declared.sets.Shape.{Shape}
 use Rattle.reachability.proofs.sets.Bounds.{supportOf-six, supportOf-same}
 use Rattle.reachability.proofs.sets.Facts.{SetFacts}

@@ -1,0 +1,2 @@
+-- Laws of what moves the state.
+pub mod Laws

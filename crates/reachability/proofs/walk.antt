@@ -1,0 +1,4 @@
+-- Laws of walks.
+pub mod StoredDirection
+pub mod Held
+pub mod Terms

@@ -1,0 +1,17 @@
+-- Model 6: what moves the state. Definitions only. The matrix of a move stands behind `matrixAt`, and the rules that it keeps behind
+-- `motionOk`: no other definition reads the stored matrix. What holds of every move is in `proofs.motion.Laws`.
+-- Assumes nothing.
+use mathlib.Core.Bool.{Bool}
+use mathlib.Core.List.{List}
+use Prim.Native.Nat.{ℕ}
+use lib.IntN.{ℤ}
+use Rattle.limits.specs.Limits.{frameOk}
+use Rattle.reachability.specs.declared.motion.Motion.{Motion}
+
+-- Model 6: the stored matrix of the move from step t to step t + 1, in six rows of six. It is the same at every t.
+unfoldable pub matrixAt : Motion → ℕ → List ℤ
+matrixAt motion t = motion .matrix
+
+-- Limits 1, 2, 3 and 9 of n, the steps and what moves the state.
+unfoldable pub motionOk : ℕ → ℕ → Motion → Bool
+motionOk n steps motion = frameOk n steps (motion .matrix)
