@@ -29,11 +29,11 @@ pub entryZero-is : (body : List ℕ) (at i : ℕ) → entryZero body at i ≡ tr
 entryZero-is body at i z = zero-of-natAbs (entryAt body at i) (eqb-true (natAbs (entryAt body at i)) 0 z)
 
 -- by the bytes of an entry
-pub columnZero-fitted : (at : ℕ) {width : ℕ} (body : List ℕ) (i : ℕ) → width ≡ fittedWidth → columnZero at width body i ≡ isZero (bitsAt body at i)
-columnZero-fitted at {width} body i e = ap (λ (b : Bool). cond b (isZero (bitsAt body at i)) (entryZero body at i)) (eq-eqb width fittedWidth e)
+pub columnZero-fitted : (at width : ℕ) (body : List ℕ) (i : ℕ) → width ≡ fittedWidth → columnZero at width body i ≡ isZero (bitsAt body at i)
+columnZero-fitted at width body i e = ap (λ (b : Bool). cond b (isZero (bitsAt body at i)) (entryZero body at i)) (eq-eqb width fittedWidth e)
 
-pub columnZero-whole : (at : ℕ) {width : ℕ} (body : List ℕ) (i : ℕ) → (width ≡ fittedWidth → ⊥) → columnZero at width body i ≡ entryZero body at i
-columnZero-whole at {width} body i ne = ap (λ (b : Bool). cond b (isZero (bitsAt body at i)) (entryZero body at i)) (ne-eqb width fittedWidth ne)
+pub columnZero-whole : (at width : ℕ) (body : List ℕ) (i : ℕ) → (width ≡ fittedWidth → ⊥) → columnZero at width body i ≡ entryZero body at i
+columnZero-whole at width body i ne = ap (λ (b : Bool). cond b (isZero (bitsAt body at i)) (entryZero body at i)) (ne-eqb width fittedWidth ne)
 
 -- entries beyond the end of a body are zero
 pub columnZero-beyond : (at width : ℕ) (body : List ℕ) (i : ℕ) → length body ≤ at → columnZero at width body i ≡ true

@@ -36,13 +36,13 @@ drifting more high =
     ++ (0xFF ∷ [])
 
 pub drift-filled : readModel (drifting 0 0) .status ≡ Read
-unfolding allBelow unusedZero sumℕ maxℕ bodyLength recordAt littleEndian mayFollow partOf zeros blankSet blankModel start sixAt putRow withHead withRow withDrift withPoint withSetPoint withDirection scaledEntry firstNumber rowNumber driftOk pointOk directionOk bodyNumber kindNumber refusal stored stopFor numberAt readingAt readFrom readModel
+unfolding allBelow unusedZero sumℕ maxℕ bodyLength recordAt littleEndian mayFollow layoutOf zeros blankSet blankModel start sixAt putRow withHead withRow withDrift withPoint withSetPoint withDirection scaledEntry firstNumber rowNumber driftOk pointOk directionOk bodyNumber kindNumber refusal stored stopFor numberAt readingAt readFrom readModel
 drift-filled = refl
 
 pub drift-and-input : readModel (drifting 0 1) ≡ refused 17 130
-unfolding allBelow unusedZero sumℕ maxℕ bodyLength recordAt littleEndian mayFollow partOf zeros blankSet blankModel start sixAt putRow withHead withRow withDrift withPoint withSetPoint scaledEntry firstNumber rowNumber driftOk pointOk bodyNumber kindNumber refusal stored stopFor numberAt offsetAt readingAt readFrom readModel
+unfolding allBelow unusedZero sumℕ maxℕ bodyLength recordAt littleEndian mayFollow layoutOf zeros blankSet blankModel start sixAt putRow withHead withRow withDrift withPoint withSetPoint scaledEntry firstNumber rowNumber driftOk pointOk bodyNumber kindNumber refusal stored stopFor numberAt offsetAt readingAt readFrom readModel
 drift-and-input = refl
 
 pub drift-beyond : readModel (drifting 1 0) ≡ refused 17 30
-unfolding allBelow unusedZero bodyLength recordAt littleEndian mayFollow partOf zeros blankSet blankModel start sixAt putRow withHead withRow scaledEntry firstNumber rowNumber driftOk bodyNumber kindNumber refusal stored stopFor numberAt offsetAt readingAt readFrom readModel
+unfolding allBelow unusedZero bodyLength recordAt littleEndian mayFollow layoutOf zeros blankSet blankModel start sixAt putRow withHead withRow scaledEntry firstNumber rowNumber driftOk bodyNumber kindNumber refusal stored stopFor numberAt offsetAt readingAt readFrom readModel
 drift-beyond = refl

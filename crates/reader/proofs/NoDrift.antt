@@ -48,11 +48,11 @@ driftRead s = stateOf 0x05 (s .rows) (s .model)
 
 module _ (s : State) (g : AcceptedSoFar s) (rows-in : s .last ≡ 0x02) where
   drift-allowed : kindNumber s 0x05 ≡ 0
-  unfolding kindNumber mayFollow partOf
+  unfolding kindNumber mayFollow layoutOf
   drift-allowed = ap (λ (p : ℕ). cond (mayFollow p 0x05) 0 3) rows-in
 
   drift-ok : bodyNumber s 0x05 zeroBody ≡ 0
-  unfolding driftOk zeros allBelow partOf
+  unfolding driftOk zeros allBelow layoutOf
   drift-ok =
       bodyNumber-value s 0x05 zeroBody (unusedZero-of (s .model .n) 0x05 zeroBody (λ i l. entryZero-zeros i))
       ∙ ap (λ (six : List ℤ). unless (within 1048576 six) 17) sixAt-zeros
@@ -61,12 +61,12 @@ module _ (s : State) (g : AcceptedSoFar s) (rows-in : s .last ≡ 0x02) where
   no-drift-yet = g .drift .none (omega arith)
 
   drift-stored : stored s 0x05 zeroBody ≡ driftRead s
-  unfolding stored partOf withDrift
+  unfolding stored layoutOf withDrift
   drift-stored = ap (λ (six : List ℤ). stateOf 0x05 (s .rows) (setDrift (s .model) six)) (sixAt-zeros ∙ sym no-drift-yet)
 
   -- It is read wherever it stands.
   read-drift : (before rest : List ℕ) → readFrom (before ++ (zeroDrift ++ rest)) (length before) s ≡ readFrom ((before ++ zeroDrift) ++ rest) (length (before ++ zeroDrift)) (driftRead s)
-  unfolding bodyLength partOf
+  unfolding bodyLength layoutOf
   read-drift before rest =
       readFrom-behind before 0x05 zeroBody rest s refl drift-allowed drift-ok (λ e. omega arith)
       ∙ ap (readFrom ((before ++ zeroDrift) ++ rest) (length (before ++ zeroDrift))) drift-stored
@@ -114,7 +114,7 @@ module _ (s : State) (g : AcceptedSoFar s) (rows-in : s .last ≡ 0x02) where
 
   -- Where it is let in, it is a point of the initial set.
   let-in : (kind : ℕ) → kindNumber s kind ≡ 0 → (kind ≡ 0x05 → ⊥) → (partOf kind ≡ Initial) × (0x10 ≤ kind) × (kind ≤ 0x14)
-  unfolding partOf
+  unfolding layoutOf
   let-in kind z ne =
       let test = order-at (λ a b. not (eqb a 0x02) || (eqb b 0x05 || (leb 0x10 b && leb b 0x14))) refl (s .place) kind (kindNumber-zero s kind z .0) in
       let range = and-true (leb 0x10 kind) (leb kind 0x14) (or-false (eqb kind 0x05) _ (or-false (not (eqb (s .place) 0x02)) _ test (ap not (eq-eqb (s .place) 0x02 rows-in))) (ne-eqb kind 0x05 ne)) in
@@ -179,7 +179,7 @@ zero-kept Row s kind body t h z = let y : _≡_ {A = ℕ} 0 1 = cc in absurd (om
 zero-kept Drift s kind body t h z = let y : _≡_ {A = ℕ} 0 1 = cc in absurd (omega arith)
 
 zero-stored : (s : State) (kind : ℕ) (body : List ℕ) → kindNumber s kind ≡ 0 → NoDriftSince s → NoDriftSince (stored s kind body)
-unfolding stored partOf
+unfolding stored layoutOf
 zero-stored s kind body allowed z =
     let test = order-at (λ a b. leb a 0x05 || (isLate (partOf b) && ltb 0x05 b)) refl (s .place) kind (kindNumber-zero s kind allowed .0) in
     let both = and-true (isLate (partOf kind)) (ltb 0x05 kind) (or-false (leb (s .place) 0x05) _ test (lt-leb (s .place) 0x05 (z .late))) in

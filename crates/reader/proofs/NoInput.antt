@@ -99,7 +99,7 @@ module _ (s : State) (g : AcceptedSoFar s) (complete : completesInitial (s .plac
   with-upper = with-corner 0x21 1 refl refl
 
   lower-allowed : kindNumber s 0x20 ≡ 0
-  unfolding kindNumber mayFollow partOf
+  unfolding kindNumber mayFollow layoutOf
   lower-allowed = ap₂ (λ (a : Bool) (x : Set). cond a (cond (leb 16 (x .count)) 9 0) 3) (at-place (λ k. mayFollow k 0x20) refl refl refl) blank
 
   -- a corner of zeros passes the test of number 17
@@ -113,32 +113,32 @@ module _ (s : State) (g : AcceptedSoFar s) (complete : completesInitial (s .plac
       ∙ ap₂ (λ (p q : Bool). firstOf (unless p 6) (unless q 17)) ok (enters-ok count a b)
 
   lower-ok : bodyNumber s 0x20 zeroBody ≡ 0
-  unfolding pointOk zeros allBelow partOf
+  unfolding pointOk zeros allBelow layoutOf
   lower-ok =
       bodyNumber-value s 0x20 zeroBody (unusedZero-of (s .model .n) 0x20 zeroBody (λ i l. entryZero-zeros i))
       ∙ corner-number 0x20 1 (omega arith) (omega arith) with-lower refl
 
   upper-allowed : kindNumber (withCorners s 0x20 1) 0x21 ≡ 0
-  unfolding kindNumber mayFollow partOf
+  unfolding kindNumber mayFollow layoutOf
   upper-allowed = refl
 
   upper-ok : bodyNumber (withCorners s 0x20 1) 0x21 zeroBody ≡ 0
-  unfolding pointOk zeros allBelow partOf
+  unfolding pointOk zeros allBelow layoutOf
   upper-ok =
       bodyNumber-value (withCorners s 0x20 1) 0x21 zeroBody (unusedZero-of (s .model .n) 0x21 zeroBody (λ i l. entryZero-zeros i))
       ∙ corner-number 0x21 2 (omega arith) (omega arith) with-upper (ap₂ _&&_ (le-leb (s .model .n) 6 dimension) (ordered-zeros (s .model .n)))
 
   lower-stored : stored s 0x20 zeroBody ≡ withCorners s 0x20 1
-  unfolding stored partOf withSetPoint
+  unfolding stored layoutOf withSetPoint
   lower-stored = ap (λ (x : Set). stateOf 0x20 (s .rows) (setSet true (s .model) x)) with-lower
 
   upper-stored : stored (withCorners s 0x20 1) 0x21 zeroBody ≡ withCorners s 0x21 2
-  unfolding stored partOf withSetPoint
+  unfolding stored layoutOf withSetPoint
   upper-stored = ap (λ (x : Set). stateOf 0x21 (s .rows) (setSet true (s .model) x)) with-upper
 
   -- The two records are read wherever they stand.
   read-corners : (before rest : List ℕ) → readFrom (before ++ (zeroCorners ++ rest)) (length before) s ≡ readFrom ((before ++ zeroCorners) ++ rest) (length (before ++ zeroCorners)) (withCorners s 0x21 2)
-  unfolding bodyLength partOf
+  unfolding bodyLength layoutOf
   read-corners before rest =
       readFrom-behind before 0x20 zeroBody ((0x21 ∷ zeroBody) ++ rest) s refl lower-allowed lower-ok (λ e. omega arith)
       ∙ ap (readFrom ((before ++ (0x20 ∷ zeroBody)) ++ ((0x21 ∷ zeroBody) ++ rest)) (length (before ++ (0x20 ∷ zeroBody)))) lower-stored
@@ -147,11 +147,11 @@ module _ (s : State) (g : AcceptedSoFar s) (complete : completesInitial (s .plac
 
   -- A direction is let in, tested and stored behind them as without them.
   direction-allowed : kindNumber s 0x30 ≡ kindNumber (withCorners s 0x21 2) 0x30
-  unfolding kindNumber mayFollow partOf
+  unfolding kindNumber mayFollow layoutOf
   direction-allowed = ap (λ (a : Bool). cond a (cond (oneTooMany s 0x30) 9 0) 3) (at-place (λ k. mayFollow k 0x30) refl refl refl)
 
   direction-number : (r : Record) → recordKind r ≡ 0x30 → refusal s r ≡ refusal (withCorners s 0x21 2) r
-  unfolding refusal bodyNumber partOf
+  unfolding refusal bodyNumber layoutOf
   direction-number nothing e = refl
   direction-number (unknown kind) e = refl
   direction-number (short kind) e = subst (λ (k : ℕ). firstOf (kindNumber s k) 1 ≡ firstOf (kindNumber (withCorners s 0x21 2) k) 1) (sym e) (ap (λ (k : ℕ). firstOf k 1) direction-allowed)
@@ -164,7 +164,7 @@ module _ (s : State) (g : AcceptedSoFar s) (complete : completesInitial (s .plac
   zero-input = ap (λ (b : Bool). cond b zeroBox (s .model .input)) (lt-ltb (s .place) 0x20 early)
 
   direction-stored : (body : List ℕ) → stored s 0x30 body ≡ stored (withCorners s 0x21 2) 0x30 body
-  unfolding stored partOf withDirection
+  unfolding stored layoutOf withDirection
   direction-stored body =
       ap (λ (x : Set). stateOf 0x30 (s .rows) (setDirections (setSet true (s .model) x) (s .model .questions .directions + 1) (putRow (s .model .questions .entries) (s .model .questions .directions) (sixAt body 0)))) zero-input
 
@@ -205,14 +205,14 @@ zero-kept Initial s kind body t h z = let y : _≡_ {A = ℕ} 0 1 = cc in absurd
 zero-kept Input s kind body t h z = let y : _≡_ {A = ℕ} 0 1 = cc in absurd (omega arith)
 
 zero-stored : (s : State) (kind : ℕ) (body : List ℕ) → kindNumber s kind ≡ 0 → ZeroInput s → ZeroInput (stored s kind body)
-unfolding stored partOf
+unfolding stored layoutOf
 zero-stored s kind body allowed z =
     let test = order-at (λ a b. ltb a 0x30 || (isLate (partOf b) && leb 0x30 b)) refl (s .place) kind (kindNumber-zero s kind allowed .0) in
     let both = and-true (isLate (partOf kind)) (leb 0x30 kind) (or-false (ltb (s .place) 0x30) _ test (le-ltb (s .place) 0x30 (z .late))) in
     zero-kept (partOf kind) s kind body (both .0) (leb-true 0x30 kind (both .1)) z
 
 zero-first : (s : State) (body : List ℕ) → s .last < 0x20 → ZeroInput (stored s 0x30 body)
-unfolding stored partOf withDirection
+unfolding stored layoutOf withDirection
 zero-first s body early = record { late = omega arith; zero = ap (λ (b : Bool). cond b zeroBox (s .model .input)) (lt-ltb (s .place) 0x20 early) }
 
 -- ---- files in which a direction stands straight after a complete initial set

@@ -64,7 +64,7 @@ unfolding sample
 sample-length = refl
 
 pub sample-read : readModel sample ≡ record { status = Read; model = sampleModel }
-unfolding allBelow unusedZero sumℕ maxℕ bodyLength recordAt littleEndian mayFollow partOf zeros blankSet blankModel start sixAt putRow withHead withRow withPoint withSetPoint withDirection withGuard scaledEntry firstNumber rowNumber pointOk directionOk bodyNumber kindNumber refusal stored stopFor numberAt offsetAt readingAt readFrom readModel sample sampleModel
+unfolding allBelow unusedZero sumℕ maxℕ bodyLength recordAt littleEndian mayFollow layoutOf zeros blankSet blankModel start sixAt putRow withHead withRow withPoint withSetPoint withDirection withGuard scaledEntry firstNumber rowNumber pointOk directionOk bodyNumber kindNumber refusal stored stopFor numberAt offsetAt readingAt readFrom readModel sample sampleModel
 sample-read = refl
 
 -- Figures 14.

@@ -43,14 +43,14 @@ fn is_end(part: Part) -> bool
     ensures { λ b. ⌜ b ≡ isEnd part ⌝ }
 {
     match part {
+        Part::Head => false,
+        Part::Row => false,
+        Part::Drift => false,
+        Part::Initial => false,
+        Part::Input => false,
+        Part::Direction => false,
+        Part::Guard => false,
         Part::End => true,
-        Part::Head
-        | Part::Row
-        | Part::Drift
-        | Part::Initial
-        | Part::Input
-        | Part::Direction
-        | Part::Guard => false,
     }
 }
 

@@ -153,8 +153,12 @@ fn is_upper(point: Point) -> bool
     ensures { λ b. ⌜ b ≡ isUpper point ⌝ }
 {
     match point {
+        Point::NoPoint => false,
+        Point::Lower => false,
         Point::Upper => true,
-        Point::NoPoint | Point::Lower | Point::Centre | Point::Generator | Point::Vertex => false,
+        Point::Centre => false,
+        Point::Generator => false,
+        Point::Vertex => false,
     }
 }
 

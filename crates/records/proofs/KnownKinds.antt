@@ -71,3 +71,7 @@ layout-at p none t kind = told-at p kind kinds none t
 -- at most the number of a row stands before the entries
 pub firstEntry-le : (kind : ℕ) → layoutOf kind .first ≤ 1
 firstEntry-le kind = leb-true (layoutOf kind .first) 1 (layout-at (λ l. leb (l .first) 1) refl refl kind)
+
+-- no part has more than 16
+pub most-le : (kind : ℕ) → layoutOf kind .most ≤ 16
+most-le kind = leb-true (layoutOf kind .most) 16 (layout-at (λ l. leb (l .most) 16) refl refl kind)
