@@ -19,7 +19,7 @@ use Rattle.reader.specs.Order.{isEnd}
 use Rattle.reader.specs.Models.{start}
 use Rattle.reader.specs.Refusals.{kindNumber, refusal, stored}
 use Rattle.reader.specs.Reading.{behind, storedRecord, stopFor, stopFrom, refused, readFrom, readModel, statusNumber}
-use Rattle.reader.specs.NoInput.{putIn, moved}
+use Rattle.reader.specs.LeftOut.{putIn, moved}
 use Rattle.reader.proofs.ReadingOn.{goesOn-true, stopFor-ind, stopFor-inside, readFrom-next, readFrom-refused, readFrom-nothing, readFrom-comes}
 use Rattle.reader.proofs.ReadingRest.{readFrom-more-before, readFrom-same-start}
 use Rattle.reader.proofs.ReadModels.{readFrom-model}

@@ -92,7 +92,7 @@ pub record Reached (file : List ℕ) (r : Reading) : Type 0 where
   pub model-is : r .model ≡ last .state .model
 
 -- where an end may stand
-end-place : (p : Part) (place : ℕ) (l : Layout) → isEnd p ≡ true → fact p place l ≡ true → directionPlace ≤ place
+pub end-place : (p : Part) (place : ℕ) (l : Layout) → isEnd p ≡ true → fact p place l ≡ true → directionPlace ≤ place
 unfolding fact
 end-place Head place l e f = let z : _≡_ {A = ℕ} 0 1 = cc in absurd (omega arith)
 end-place Row place l e f = let z : _≡_ {A = ℕ} 0 1 = cc in absurd (omega arith)

@@ -4,6 +4,7 @@ use mathlib.Core.Path.{_≡_, refl, sym, ap, ap₂, _∙_}
 use mathlib.Core.Bool.{Bool, true, false, cond, not, _&&_}
 use mathlib.Core.List.{List}
 use Prim.Native.Nat.{ℕ, zero, suc, _+_, _-_, _≤_, _<_}
+use native.Mathlib.Decide.{decLt}
 use native.Mathlib.Omega.{arith}
 use borrow.Author.Tests.{eq-eqb, ne-eqb, eqb-true, eqb-false, lt-ltb, le-ltb, not-true}
 use lib.Dec.{eqb, ltb}
@@ -197,20 +198,21 @@ module _ (file : List ℕ) (at : ℕ) (s : State) where
 pub readFrom-comes : (file : List ℕ) (turns at : ℕ) (s : State) → readFrom file at s ≡ readFrom file (stopFor turns file at s .at) (stopFor turns file at s .state)
 readFrom-comes file turns at s = stopFor-ind file (λ p. readFrom file at s ≡ readFrom file (p .at) (p .state)) (λ a t kind body e g. e ∙ readFrom-next file a t g) turns at s refl
 
--- Two states in which the record at the offset has the same number, and behind which they are the same.
-pub readFrom-alike : (file : List ℕ) (at : ℕ) (s t : State) → at < length file → isEnd (partOf (recordKind (recordAt file at))) ≡ false → refusal s (recordAt file at) ≡ refusal t (recordAt file at) → storedRecord s (recordAt file at) ≡ storedRecord t (recordAt file at) → readFrom file at s ≡ readFrom file at t
-readFrom-alike file at s t inside other number next = split (eqb (refusal s here) 0) refl
+-- Two states in which the record at the offset has the same number and, where it is not refused, is not the end and leaves the same.
+pub readFrom-alike : (file : List ℕ) (at : ℕ) (s t : State) → refusal s (recordAt file at) ≡ refusal t (recordAt file at) → (refusal s (recordAt file at) ≡ 0 → (isEnd (partOf (recordKind (recordAt file at))) ≡ false) × (storedRecord s (recordAt file at) ≡ storedRecord t (recordAt file at))) → readFrom file at s ≡ readFrom file at t
+readFrom-alike file at s t number next = split (eqb (refusal s here) 0) refl
   where
     here : Record
     here = recordAt file at
 
-    on : (u : State) → refusal u here ≡ 0 → readFrom file at u ≡ readFrom file (behind at here) (storedRecord u here)
-    on u z = readFrom-next file at u (goesOn-true file at u (ap₂ _&&_ (eq-eqb (refusal u here) 0 z) (ap not other)))
+    on : (u : State) → refusal u here ≡ 0 → isEnd (partOf (recordKind here)) ≡ false → readFrom file at u ≡ readFrom file (behind at here) (storedRecord u here)
+    on u z other = readFrom-next file at u (goesOn-true file at u (ap₂ _&&_ (eq-eqb (refusal u here) 0 z) (ap not other)))
 
     split : (b : Bool) → eqb (refusal s here) 0 ≡ b → readFrom file at s ≡ readFrom file at t
     split true e =
         let z = eqb-true (refusal s here) 0 e in
-        on s z ∙ ap (readFrom file (behind at here)) next ∙ sym (on t (sym number ∙ z))
+        let same = next z in
+        on s z (same .0) ∙ ap (readFrom file (behind at here)) (same .1) ∙ sym (on t (sym number ∙ z) (same .0))
     split false e =
         let ne = eqb-false (refusal s here) 0 e in
-        readFrom-refused file at s refl ne inside ∙ sym (readFrom-refused file at t (sym number) ne inside)
+        elim (decLt at (length file)) [ yes h ↦ readFrom-refused file at s refl ne h ∙ sym (readFrom-refused file at t (sym number) ne h) | no k ↦ readFrom-nothing file at s refl ne (omega (arith, k)) ∙ sym (readFrom-nothing file at t (sym number) ne (omega (arith, k))) ]

@@ -8,7 +8,7 @@ use Rattle.records.specs.Places.{matrixPlace}
 use Rattle.records.specs.Kinds.{partOf}
 use Rattle.records.specs.Records.{recordAt, recordKind}
 use Rattle.reader.specs.Reading.{Stop}
-use Rattle.reader.specs.NoInput.{zeroBody}
+use Rattle.reader.specs.LeftOut.{zeroBody}
 
 -- A place in a file: all rows are in, and the next record is no drift, or no record is left.
 pub record NoDriftAt (file : List ℕ) (p : Stop) : Type 0 where

@@ -5,15 +5,12 @@ use mathlib.Core.Bool.{Bool, true, _||_}
 use mathlib.Core.List.{List, _∷_, _++_}
 use Prim.Native.Nat.{ℕ, _+_}
 use lib.Dec.{eqb}
-use lib.ListN.{take, drop, replicate}
 use Rattle.records.specs.declared.kinds.Part.the-variants.{Direction}
 use Rattle.records.specs.Places.{initialPlace}
 use Rattle.records.specs.Kinds.{partOf}
 use Rattle.records.specs.Records.{recordAt, recordKind}
-use Rattle.reader.specs.declared.Status.{Status}
-use Rattle.reader.specs.declared.Status.the-variants.{Read, Refused}
-use Rattle.reader.specs.declared.Reading.{Reading}
 use Rattle.reader.specs.Reading.{Stop}
+use Rattle.reader.specs.LeftOut.{zeroBody}
 
 -- The initial set is complete behind its upper corner, a generator or a vertex.
 abbrev pub completesInitial : ℕ → Bool
@@ -24,22 +21,6 @@ pub record NoInputAt (file : List ℕ) (p : Stop) : Type 0 where
   pub complete : completesInitial (p .state .place) ≡ true
   pub direction : partOf (recordKind (recordAt file (p .at))) ≡ Direction
 
--- Six numbers of zero.
-abbrev pub zeroBody : List ℕ
-zeroBody = replicate 24 0
-
 -- A lower and an upper corner of zeros of the input set, 50 bytes.
 abbrev pub zeroCorners : List ℕ
 zeroCorners = (0x20 ∷ zeroBody) ++ (0x21 ∷ zeroBody)
-
--- A file with bytes put in at an offset.
-abbrev pub putIn : List ℕ → ℕ → List ℕ → List ℕ
-putIn more at file = take at file ++ (more ++ drop at file)
-
--- A reading with the offset of a refusal higher by so many bytes.
-abbrev pub movedStatus : ℕ → Status → Status
-movedStatus k Read = Read
-movedStatus k (Refused number offset) = Refused number (k + offset)
-
-abbrev pub moved : ℕ → Reading → Reading
-moved k r = record { status = movedStatus k (r .status); model = r .model }

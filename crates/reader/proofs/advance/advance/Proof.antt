@@ -32,8 +32,7 @@ returns-4 c =
 advance-whole-requires : tie.Need-advance-whole-requires
 unfolding kindNumber
 advance-whole-requires c κs =
-    let at = c .before .before in
-    (
+    let at = c .before .before in (
       recordStep-whole (at .before .before .before .before .record-at .ensures) (c .if4 .left),
       (at .before .layout-of .ensures, sym (at .kind-number .ensures ∙ ap (kindNumberOf _ _) (at .before .layout-of .ensures)) ∙ c .before .if3 .left),
     )

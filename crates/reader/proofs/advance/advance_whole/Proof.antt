@@ -23,8 +23,7 @@ take-requires : tie.Need-take-requires
 take-requires c κs =
     let start = c .before .before .before .before in
     let is = start .pre .1 .0 in
-    let a = start .args in
-    (
+    let a = start .args in (
       ap (oneTooMany (a .state)) is ∙ kindNumber-zero _ _ (start .pre .1 .1) .1,
       (subst (λ (l : Layout). l .most ≤ 16) (sym is) (most-le (a .kind)), subst (λ (l : Layout). l .first ≤ 1) (sym is) (firstEntry-le (a .kind))),
     )
