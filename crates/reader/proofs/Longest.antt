@@ -8,7 +8,7 @@ use Rattle.coefficients.specs.Binary64.{binary64Unit, magnitudeOf}
 use Rattle.integers.specs.Whole.{nearestEven}
 use Rattle.coefficients.specs.Entries.{fittedOk, fittedEntry, entryOfBits, scaledEntry}
 use Rattle.coefficients.specs.Rows.{firstNumber}
-use Rattle.records.specs.Kinds.{bodyLength, layoutOf, partOf}
+use Rattle.records.specs.Kinds.{bodyLength, layoutOf}
 use Rattle.records.specs.Records.{recordAt}
 use Rattle.records.specs.Numbers.{littleEndian}
 use Rattle.records.specs.Order.{mayFollow}

@@ -1,9 +1,9 @@
 -- File 15: a file whose last row no drift follows is read as with a drift of zeros put in there, and its model has no drift. By the law of
 -- a part that is left out. In order: a state in which all rows are in; such files. Assumes nothing.
-use mathlib.Core.Path.{_≡_, refl, sym, ap, subst, _∙_}
+use mathlib.Core.Path.{_≡_, refl, sym, ap, _∙_}
 use mathlib.Core.Bool.{Bool, true, cond, _&&_}
 use mathlib.Core.List.{List, _++_}
-use Prim.Native.Nat.{ℕ, _≤_, _<_}
+use Prim.Native.Nat.{ℕ, _≤_}
 use native.Mathlib.Omega.{arith}
 use borrow.Author.Tests.{eq-eqb, eqb-true, leb-true}
 use lib.Dec.{eqb, leb}
@@ -24,7 +24,7 @@ use Rattle.reader.specs.declared.Status.the-variants.{Read}
 use Rattle.reader.specs.declared.state.State.{State}
 use Rattle.reader.specs.Models.{zeros, start, setDrift, stateOf, withHead, withRow, withDrift, withSetPoint, withDirection, withGuard}
 use Rattle.reader.specs.Values.{driftOk, unless, within, bodyNumber}
-use Rattle.reader.specs.Refusals.{kindNumber, storedIn, stored}
+use Rattle.reader.specs.Refusals.{kindNumber, stored}
 use Rattle.reader.specs.Reading.{stopFor, readFrom, readModel}
 use Rattle.reader.specs.LeftOut.{LeftOutAt, zeroBody, putIn, moved}
 use Rattle.reader.specs.NoDrift.{NoDriftAt, zeroDrift}

@@ -40,7 +40,7 @@ use Rattle.reader.specs.Reading.{stopFor, readFrom, readModel}
 use Rattle.reader.specs.LeftOut.{LeftOutAt, zeroBody, putIn, moved}
 use Rattle.reader.specs.NoInput.{completesInitial, NoInputAt, zeroCorners}
 use Rattle.reader.proofs.BodyNumbers.{bodyNumber-value}
-use Rattle.reader.proofs.OrderFacts.{isDone, isPlain, pointFact, point-of, point-high, fact, order-fact}
+use Rattle.reader.proofs.OrderFacts.{isPlain, pointFact, point-of, point-high, fact, order-fact}
 use Rattle.reader.proofs.RecordInPlace.{readFrom-behind}
 use Rattle.reader.proofs.ReadingRest.{readFrom-refused-before}
 use Rattle.reader.proofs.ZeroBody.{sixAt-zeros, entryZero-zeros}

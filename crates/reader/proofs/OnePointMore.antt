@@ -1,7 +1,7 @@
 -- Sets 16, as a file is read: a point behind another point of its set makes a set with one point more, and the new point is the one
 -- in the body. So Sets 17 to 19 hold of what the reader tests and stores point by point. In order: any set so far; the sets at a
 -- place that reading comes to. Assumes nothing.
-use mathlib.Core.Path.{_≡_, refl, sym, ap, subst, _∙_}
+use mathlib.Core.Path.{_≡_, refl, sym, subst, _∙_}
 use mathlib.Core.Bool.{Bool, true, false}
 use mathlib.Core.List.{List}
 use Prim.Native.Nat.{ℕ, _+_, _≤_, _<_}

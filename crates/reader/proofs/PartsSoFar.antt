@@ -8,7 +8,7 @@ use Prim.Native.Nat.{ℕ, _+_, _*_, _≤_, _<_, max}
 use native.Mathlib.Decide.{decLt}
 use native.Mathlib.Omega.{arith}
 use borrow.Author.Tests.{le-leb, eq-eqb, eqb-true, leb-true, ltb-true, ltb-false}
-use lib.Dec.{leb, ltb, eqb}
+use lib.Dec.{leb, ltb}
 use lib.ListN.{length, set, List·getD-eq-default}
 use lib.IntN.{ℤ, pos, natAbs}
 use Rattle.integers.specs.Sums.{vector, tabulate}
@@ -18,7 +18,6 @@ use Rattle.integers.proofs.Booleans.{and-true}
 use Rattle.arrays.proofs.Tests.{allBetween-at, Zeros, Small, zeroOutside-of}
 use Rattle.stepping.specs.Limits.{entryLimit}
 use Rattle.stepping.specs.Refusals.{dimensionOk}
-use Rattle.reachability.specs.declared.sets.Shape.{Shape}
 use Rattle.reachability.specs.declared.sets.Shape.the-variants.{Box, Zonotope, Vertices}
 use Rattle.reachability.specs.declared.sets.Set.{Set}
 use Rattle.reachability.specs.Sets.{points, countOk, orderedOk, reachLimit, reachOk, setOk, reachWithin, zeroBox}

@@ -7,7 +7,7 @@ use lib.IntN.{pos}
 use Rattle.integers.specs.Sums.{allBelow, sumℕ, maxℕ}
 use Rattle.coefficients.specs.Entries.{scaledEntry}
 use Rattle.coefficients.specs.Rows.{firstNumber}
-use Rattle.records.specs.Kinds.{bodyLength, layoutOf, partOf}
+use Rattle.records.specs.Kinds.{bodyLength, layoutOf}
 use Rattle.records.specs.Records.{recordAt}
 use Rattle.records.specs.Numbers.{littleEndian}
 use Rattle.reachability.specs.declared.sets.Shape.the-variants.{Box}

@@ -1,7 +1,7 @@
 -- How many bytes of a file the reader can have passed, by what it has read. In order: the longest body of each part; the count; that
 -- each record adds at least its own bytes; the largest count. Assumes nothing.
-use mathlib.Core.Path.{_≡_, refl, sym, ap₂, ap, subst, _∙_}
-use mathlib.Core.Bool.{Bool, true, false, cond, _&&_, _||_}
+use mathlib.Core.Path.{_≡_, refl, sym, ap₂, ap, subst}
+use mathlib.Core.Bool.{Bool, true, false, cond, _&&_}
 use mathlib.Core.List.{List}
 use Prim.Native.Nat.{ℕ, _+_, _*_, _≤_, _<_}
 use native.Mathlib.Decide.{decLt}
@@ -23,7 +23,7 @@ use Rattle.reader.specs.declared.state.State.{State}
 use Rattle.reader.specs.Order.{isEnd}
 use Rattle.reader.specs.Models.{blankSet, blankModel, start, rowPlace, withHead, withRow, withDrift, withPoint, withSetPoint, inputAt, withDirection, withGuard}
 use Rattle.reader.specs.Refusals.{storedIn, stored}
-use Rattle.reader.proofs.OrderFacts.{isDone, isPlain, pointFact, point-of, point-low, fact, order-fact}
+use Rattle.reader.proofs.OrderFacts.{isPlain, pointFact, point-of, point-low, fact, order-fact}
 use Rattle.reader.proofs.PartsSoFar.{n-most, none-count}
 use Rattle.reader.proofs.AcceptedSoFar.{AcceptedSoFar}
 

@@ -3,15 +3,13 @@
 use mathlib.Core.Path.{_≡_, refl, sym, ap, subst, _∙_}
 use mathlib.Core.Bool.{Bool, true, false, cond}
 use mathlib.Core.List.{List, []}
-use mathlib.Core.Logic.{_⊎_}
-use Prim.Native.Nat.{ℕ, zero, suc, _+_, _*_, _-_, _^_, _≤_, _<_}
+use Prim.Native.Nat.{ℕ, zero, suc, _+_, _*_, _-_, _≤_, _<_}
 use native.Mathlib.Omega.{arith}
 use borrow.Author.Tests.{eqb-true}
 use lib.Dec.{eqb, ltb}
 use lib.ListN.{length}
 use Rattle.integers.proofs.Booleans.{and-true}
 use Rattle.arrays.proofs.FirstOf.{firstOf-zero}
-use Rattle.coefficients.specs.Binary64.{isZero}
 use Rattle.coefficients.proofs.ZeroBits.{zero-patterns}
 use Rattle.records.specs.declared.kinds.Part.{Part}
 use Rattle.records.specs.declared.kinds.Part.the-variants.{Head, Row, Drift, Initial, Input, Direction, Guard, End}

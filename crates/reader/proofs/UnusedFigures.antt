@@ -9,7 +9,7 @@ use Rattle.integers.specs.Whole.{nearestEven}
 use Rattle.coefficients.specs.Binary64.{binary64Unit, magnitudeOf, isZero}
 use Rattle.coefficients.specs.Entries.{fittedOk, fittedEntry, entryOfBits}
 use Rattle.coefficients.specs.Rows.{firstNumber}
-use Rattle.records.specs.Kinds.{bodyLength, layoutOf, partOf}
+use Rattle.records.specs.Kinds.{bodyLength, layoutOf}
 use Rattle.records.specs.Records.{recordAt}
 use Rattle.records.specs.Numbers.{littleEndian}
 use Rattle.records.specs.Order.{mayFollow}

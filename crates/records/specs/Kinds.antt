@@ -1,5 +1,5 @@
 -- File 3: what each kind of record is. Definitions only. Assumes nothing.
-use mathlib.Core.Bool.{Bool, cond}
+use mathlib.Core.Bool.{cond}
 use mathlib.Core.List.{List, _∷_, []}
 use Prim.Native.Nat.{ℕ, _+_}
 use lib.Dec.{eqb}

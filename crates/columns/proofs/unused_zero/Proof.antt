@@ -1,6 +1,6 @@
 -- `columns::unused_zero` meets its contract: each entry before i is one of the first n, or zero. The measure is what is left of six.
 -- Assumes nothing.
-use Rattle.integers.proofs.Basics.{_≡_, sym, ap, _∙_, Bool, true, ℕ, _-_, _≤_, _<_, arith, needs}
+use Rattle.integers.proofs.Basics.{_≡_, sym, ap, _∙_, Bool, true, ℕ, _-_, _≤_, _<_, arith}
 use mathlib.Core.Bool.{_||_}
 use borrow.Author.Count.{below-more}
 use borrow.Author.Tests.{lt-ltb, ne-eqb, not-true, not-false}

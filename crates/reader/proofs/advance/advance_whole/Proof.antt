@@ -1,9 +1,8 @@
 -- `reader::advance::advance_whole` meets its contract, by the law of `Advances` for each way out. Assumes nothing.
-use Rattle.integers.proofs.Basics.{_≡_, refl, sym, ap, ap₂, subst, _∙_, ℕ, _≤_, arith, needs}
-use mathlib.Core.Bool.{Bool, false}
+use Rattle.integers.proofs.Basics.{_≡_, refl, sym, ap, ap₂, subst, _∙_, _≤_, arith, needs}
 use Rattle.arrays.specs.Tests.{firstOf}
 use Rattle.records.specs.declared.kinds.Layout.{Layout}
-use Rattle.records.specs.Kinds.{layoutOf, partOf}
+use Rattle.records.specs.Kinds.{partOf}
 use Rattle.records.proofs.KnownKinds.{firstEntry-le, most-le}
 use Rattle.records.proofs.RecordAt.{whole-of}
 use Rattle.columns.specs.Columns.{unusedZero}
