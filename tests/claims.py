@@ -51,6 +51,9 @@ TIME_LIMIT = 60  # seconds; a command that has not ended by then hangs
 MOST_COST = 12_000  # of the exact values of a random model
 PACKED_MODELS, TEXTS = 100, 110  # random ones
 AS_WRITTEN = "CLEAR as stored, REACHED as written"
+# The sign between a value and a level that it reaches (Verdicts 1), and between a value and its
+# bound; first of a direction as it is, then of one that is turned round.
+REACHED_SIGNS, BOUND_SIGNS = "≥≤", "≤≥"
 COUNTED = collections.Counter()  # what was checked
 
 RAIL = EXAMPLES / "rail.model"
@@ -240,6 +243,11 @@ class Case:
         return None if step is None or time_ is None else step * time_[0]
 
 
+def reaches(value: Fraction, level: int) -> bool:
+    """Whether a value reaches a level (Verdicts 1)."""
+    return value >= level
+
+
 def first_at(values: Sequence[Any], condition: Callable[[Any], bool]) -> int | None:
     return next((step for step, value in enumerate(values) if condition(value)), None)
 
@@ -378,9 +386,10 @@ def check_claim(
 ) -> Printed | None:
     """An inequality such as `-rail + 4 driver ≥ 5,000 counts`; its value for the direction as written.
 
-    It holds of the direction's values where it is `≤` of them, and is the level where it is `≥`.
+    With `exactly` it says where the level `value` is reached, and otherwise what the bound is.
     """
-    left, sign, figure, unit = matched(rf"(.*) ([≤≥]) ({NUMBER}(?:/{NUMBER})?) (\S+)", told)
+    signs = REACHED_SIGNS if exactly else BOUND_SIGNS
+    left, sign, figure, unit = matched(rf"(.*) ([{signs}]) ({NUMBER}(?:/{NUMBER})?) (\S+)", told)
     name, _ = case.unit(number)
     check_unit(unit, name, figure)
     expected, turned = expected_terms(case, number), False
@@ -391,8 +400,7 @@ def check_claim(
         turned = shown == {key: -factor for key, factor in expected.items()}
         must(turned or shown == expected, "another direction", told, expected)
         must(turned == (max(expected.values()) < 0), "turned", told)
-    # `≤` of the direction is `≥` of the one that is turned round.
-    must(sign == ("≤≥" if not exactly else "≥≤")[turned], "the wrong way", told)
+    must(sign == signs[turned], "the wrong way", told)
     if exactly:
         must(Fraction(figure.replace(",", "")) == (-value if turned else value), "level", told)
         return None
@@ -459,7 +467,7 @@ class Answer:
         """The first step at which the matrix as written reaches a level."""
         if self.case.written is None:
             return None
-        return first_at(self.case.written[number], lambda value: value >= level)
+        return first_at(self.case.written[number], lambda value: reaches(value, level))
 
     def word(self, guard: int) -> str:
         """The word of a guard by its urgency."""
@@ -511,12 +519,12 @@ def check_accuracy(answer: Answer, guard: int) -> None:
     number, level = answer.case.model.guards[guard]
     said, values = answer.listing.guards[guard], answer.case.values[number]
     if said.word == HIT:
-        must(values[said.step] >= level, guard, said)
+        must(reaches(values[said.step], level), guard, said)
     elif said.word == UNKNOWN:
         slack = Fraction(answer.listing.directions[number].slacks[said.step], answer.factors[number])
         must(abs(values[said.step] - level) <= slack, guard, said)
     elif said.word == CLEAR:
-        must(max(values) < level, guard, said)
+        must(not reaches(max(values), level), guard, said)
 
 
 def check_above_largest(answer: Answer, number: int, told: Printed | None) -> None:
@@ -811,7 +819,7 @@ def check_text_margin(answer: Answer, guard: int, told: str) -> None:
         check_rounded_up(Printed(past), -answer.margin(guard), told)
         must(-Printed(past) <= truth <= Printed(short), told)
     elif told == "reached":
-        must(truth <= 0 and low == 0, told)
+        must(reaches(max(answer.case.values[number]), level) and low == 0, told)
     else:
         figure, unit = matched(rf"passed by ({NUMBER}) (\S+)", told)
         check_unit(unit, name, figure)
@@ -842,7 +850,7 @@ def check_text_as_written(answer: Answer, guard: int, told: str) -> None:
     name, counts = case.unit(number)
     margin = (level - max(case.written[number])) / counts
     step = answer.reached(number, level)
-    if margin == 0:
+    if margin == 0 and step is not None:
         must(told == f"reached at step {step}", told)
         return
     pattern = rf"clear by ({FIGURE}) (\S+)" if step is None else (

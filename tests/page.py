@@ -28,6 +28,7 @@ TIME_LIMIT = 60  # seconds for one report
 sys.path.insert(0, str(ROOT / "tests"))
 
 from browser import Browser  # noqa: E402
+from claims import REACHED_SIGNS  # noqa: E402
 
 WIDTHS = (1600, 1280, 700, 400)
 VERDICT_COLOURS = {"HIT": (0xB0, 0x00, 0x20), "CLEAR": (0x17, 0x69, 0x2B)}
@@ -239,7 +240,7 @@ class Pages(unittest.TestCase):
 
 
 PEAK = re.compile(r"(peak|lowest) (-?[\d,.]+)(?: (\S+))? at step (\d+)")
-GUARD = re.compile(r"(.+): ([≤≥]) (\S+)(?: (?!\()(\S+))?(?: \(off scale\))? "
+GUARD = re.compile(rf"(.+): ([{REACHED_SIGNS}]) (\S+)(?: (?!\()(\S+))?(?: \(off scale\))? "
                    r"(HIT|UNKNOWN|CLEAR|GROWTH|REACHED as written)(?: (\d+))?(?:, by ([\d,.]+)(?: \S+)?)?")
 
 
@@ -297,8 +298,8 @@ class Charts(unittest.TestCase):
                 self.assertEqual(sorted(m[1] for m in found), sorted(by_name))
                 for name, side, level, _, word, step, margin in (m.groups() for m in found):
                     one = by_name[name]
-                    sign = -1 if side == "≤" else 1
-                    self.assertEqual(number(level), sign * one["level"])
+                    turned = REACHED_SIGNS.index(side) == 1
+                    self.assertEqual(number(level), -one["level"] if turned else one["level"])
                     as_written = one["verdict"] == "CLEAR" and not one["clear"]
                     self.assertEqual(word, "REACHED as written" if as_written else one["verdict"])
                     certain = {"CLEAR": one["margin_least"], "HIT": -(one["margin_most"] or 0)}

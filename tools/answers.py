@@ -5,8 +5,9 @@ its guards with it: the runs are the same ones, and bound and slack are then div
 So everything here is a fraction, in the direction's unit where the text names one and otherwise in
 counts. Nothing is run here (`reporting`).
 
-In order: guards; values of a matrix as it was written; directions, with nothing rounded; their
-figures as they are told, rounded outward; the directions of a model, and pairs of them.
+In order: when a level is reached; guards; values of a matrix as it was written; directions, with
+nothing rounded; their figures as they are told, rounded outward; the directions of a model, and
+pairs of them.
 """
 
 from __future__ import annotations
@@ -21,6 +22,19 @@ from layout import Vector
 from listings import CLEAR, GROWTH, HIT, UNKNOWN, Growth, Listing, Sweep, Verdict
 from quantities import exactly, places_for, places_to, rounded_down, rounded_up
 from textform import Source, Unit
+
+# When a level is reached (Verdicts 1): in words, in numbers and as a sign, for reports and charts.
+REACHED_MEANS = "A level is reached where the value is at it or above."
+
+
+def reaches(value: int, level: int) -> bool:
+    """Whether a value reaches a level; both are numerators over one denominator."""
+    return value >= level
+
+
+def reached_sign(turned: bool) -> str:
+    """The sign between a value and a level that it reaches; `turned` if both are negated."""
+    return "≤" if turned else "≥"
 
 
 @dataclass(frozen=True)
@@ -60,10 +74,10 @@ class Written:
         value = self.numerators[step] * counts.denominator
         return value > counts.numerator * self.denominators[step]
 
-    def reached(self, counts: int) -> int | None:
-        """The first step at which the value is at this one or above."""
+    def reached(self, level: int) -> int | None:
+        """The first step at which the value reaches this level."""
         pairs = enumerate(zip(self.numerators, self.denominators))
-        return next((step for step, (value, one) in pairs if value >= counts * one), None)
+        return next((step for step, (value, one) in pairs if reaches(value, level * one)), None)
 
     @cached_property
     def peak(self) -> int:

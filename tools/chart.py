@@ -34,7 +34,7 @@ import files
 import listings
 import pack
 import quantities
-from answers import REACHED_AS_WRITTEN, Direction, Figures, Guard
+from answers import REACHED_AS_WRITTEN, Direction, Figures, Guard, reached_sign
 from listings import CLEAR, GROWTH, HIT, UNKNOWN, Growth, Listing, Refusal, Verdict
 from svg import Scale, cut, element, fitted, path, segment, spread, text, ticks, width, wrapped
 
@@ -273,7 +273,7 @@ class Panel:
         """`resets: ≤ 21,000 mV CLEAR, by 489 mV`, with `(off scale)` behind a level that is."""
         level, margin = curve.level(guard), ""
         unit = "" if curve.direction.unit is None else f" {curve.direction.unit_name}"
-        told = f"{'≤' if curve.turned else '≥'} {quantities.exactly(level)}{unit}"
+        told = f"{reached_sign(curve.turned)} {quantities.exactly(level)}{unit}"
         if self.growth is None:
             margin = curve.margin_told(guard)
             told += "" if self.span[0] <= level <= self.span[1] else " (off scale)"

@@ -333,15 +333,20 @@ def sweep(model: Model, direction: Vector) -> Sweep | Growth:
     return Sweep(spare, tuple(bounds), tuple(slacks))
 
 
+def reaches(value: Fraction | int, level: int) -> bool:
+    """Whether a value reaches a level (Verdicts 1)."""
+    return value >= level
+
+
 def verdict(swept: Sweep | Growth, level: int) -> Verdict:
     """What is said of a guard with this level, by the first-step rules."""
     if isinstance(swept, Growth):
         return Verdict(GROWTH, swept.step)
     for step, (bound, slack) in enumerate(zip(swept.bounds, swept.slacks)):
-        if bound - slack >= level:
+        if reaches(bound - slack, level):
             return Verdict(HIT, step)
     for step, bound in enumerate(swept.bounds):
-        if bound >= level:
+        if reaches(bound, level):
             return Verdict(UNKNOWN, step)
     return Verdict(CLEAR)
 
@@ -452,12 +457,12 @@ def check_accuracy(model: Model, told: Listing) -> None:
         if isinstance(swept, Growth):
             assert said == Verdict(GROWTH, swept.step), place
         elif said.word == HIT:
-            assert exact[said.step] >= level, place
+            assert reaches(exact[said.step], level), place
         elif said.word == UNKNOWN:
             assert abs(exact[said.step] - level) <= swept.slacks[said.step], place
         else:
             assert said == Verdict(CLEAR), place
-            assert all(value < level for value in exact), place
+            assert not any(reaches(value, level) for value in exact), place
 
 
 def main() -> None:

@@ -8,6 +8,7 @@ from typing import Iterable, Sequence
 
 import chart
 import pack
+from answers import REACHED_MEANS
 from listings import CLEAR, GROWTH, HIT, UNKNOWN, Growth
 
 from . import program, tables, words
@@ -65,7 +66,7 @@ PROVED = (
     "Of a guard: <b>CLEAR</b>, no run reaches its level at any step of the model; <b>HIT</b>, some"
     " run reaches it at the step named, which is the first for which that is certain;"
     " <b>UNKNOWN</b>, the exact largest value at the step named differs from the level by the slack"
-    " there at most. A level is reached where the value is at it or above.",
+    f" there at most. {REACHED_MEANS}",
     "Bounds, slacks and verdicts here are the program's, for each direction and its levels times"
     " the factor that is told. Multiplying leaves the runs as they are; a bound of the multiplied"
     " direction, divided by the factor, bounds the direction itself.",

@@ -4,7 +4,9 @@ from __future__ import annotations
 
 from fractions import Fraction
 
-from answers import REACHED_AS_WRITTEN, URGENCY, Direction, Figures, Guard, expression
+from answers import (
+    REACHED_AS_WRITTEN, URGENCY, Direction, Figures, Guard, expression, reached_sign,
+)
 from listings import GROWTH, HIT, UNKNOWN, Growth
 from quantities import about, exactly, told
 
@@ -69,19 +71,24 @@ def left_side(direction: Direction, report: Report) -> str:
     return expression(factors, report.source.coordinates)
 
 
+def bound_sign(turned: bool) -> str:
+    """The sign between a value and its bound; not `reached_sign`, which is that of levels."""
+    return "≥" if turned else "≤"
+
+
 def claim(figures: Figures, report: Report) -> str:
     """What the largest bound says of every run: `rail ≥ 21,504 mV`."""
     one = figures.direction
     bound = figures.bound(one.peak)
     value = quantity(-bound if turned(one) else bound, figures)
-    return f"{left_side(one, report)} {'≥' if turned(one) else '≤'} {value}"
+    return f"{left_side(one, report)} {bound_sign(turned(one))} {value}"
 
 
 def condition(direction: Direction, guard: Guard, report: Report) -> str:
     """Where a guard is reached: `rail ≤ 21,000 mV`."""
     level = direction.level(guard)
     value = in_unit(exactly(-level if turned(direction) else level), direction)
-    return f"{left_side(direction, report)} {'≤' if turned(direction) else '≥'} {value}"
+    return f"{left_side(direction, report)} {reached_sign(turned(direction))} {value}"
 
 
 def verdict(figures: Figures, guard: Guard, report: Report) -> str:
@@ -92,13 +99,20 @@ def verdict(figures: Figures, guard: Guard, report: Report) -> str:
     return said.word if said.step is None else f"{said.word} at step {at_step(said.step, report)}"
 
 
+def past_level(past: Fraction, figure: str, step: int | None = None) -> str:
+    """By how much a level is passed, and from which step; `reached` if the value is the level."""
+    if past:
+        return f"passed by {figure}" if step is None else f"passed by {figure} from step {step}"
+    return "reached" if step is None else f"reached at step {step}"
+
+
 def margin(figures: Figures, guard: Guard) -> str:
     """How far the largest bound stays below the level, or by how much it is certainly passed."""
     if guard.said.word == GROWTH:
         return "no bound"
     least, most = figures.margin(guard)
     if guard.said.word == HIT:
-        return f"passed by {quantity(-most, figures)}" if most else "reached"
+        return past_level(-most, quantity(-most, figures))
     if guard.said.word == UNKNOWN:
         short = told(most, figures.places)
         return f"between {short} short and {quantity(-least, figures)} past"
@@ -158,6 +172,4 @@ def as_written(figures: Figures, guard: Guard) -> str:
     step, margin = figures.reached_as_written(guard), figures.written_margin(guard)
     if step is None:
         return f"clear by {written_quantity(margin, figures, up=False)}"
-    if not margin:
-        return f"reached at step {step}"
-    return f"passed by {written_quantity(-margin, figures)} from step {step}"
+    return past_level(-margin, written_quantity(-margin, figures), step)

@@ -92,8 +92,8 @@ EDITS = (
     ("last_vertex_left_out", LARGEST, f"{LARGEST[:-1]}[:-1] or set_.points)"),
     ("largest_from_zero", LARGEST, f"max(0, {LARGEST})"),
     ("largest_magnitude", LARGEST, "max(abs(dot(vertex, r)) for vertex in set_.points)"),
-    ("hit_above_level", "bound - slack >= level", "bound - slack > level"),
-    ("unknown_above_level", "if bound >= level", "if bound > level"),
+    ("hit_above_level", "reaches(bound - slack, level)", "reaches(bound - slack - 1, level)"),
+    ("unknown_above_level", "reaches(bound, level)", "reaches(bound - 1, level)"),
     ("body_before_order", "if kind not in allowed:",
      "if self.at + BODY_LENGTHS[kind] >= len(self.data):\n"
      "            raise _Refused(1, self.at)\n"

@@ -7,6 +7,7 @@ from fractions import Fraction
 import helpers  # noqa: F401  the way to the tools
 
 import answers
+import exact
 import pack
 import quantities
 from answers import Direction, Guard, Written
@@ -172,7 +173,7 @@ class AsWritten(unittest.TestCase):
             self.assertEqual(written.farthest(bounds, 4), most)
             self.assertIsNone(written.farthest({}, 4))
             for level in range(-6, 7):
-                reached = (step for step, value in enumerate(values) if value >= level)
+                reached = (step for step, value in enumerate(values) if exact.reaches(value, level))
                 self.assertEqual(written.reached(level), next(reached, None))
 
 

@@ -286,7 +286,8 @@ class Written(unittest.TestCase):
         self.assertEqual(told.status, NOT_CLEAR)
         step = one.reached_as_written(guard)
         values = [100 * (1 - Fraction(9_999, 10_000) ** k) * 10_000 for k in range(257)]
-        self.assertEqual(step, next(k for k, value in enumerate(values) if value >= level))
+        reached = (k for k, value in enumerate(values) if exact.reaches(value, level))
+        self.assertEqual(step, next(reached))
         cells = tables.guards(told).rows[0]
         self.assertIn("CLEAR as stored, REACHED as written", cells)
         self.assertRegex(cells[-1], f"^passed by .* from step {step}$")

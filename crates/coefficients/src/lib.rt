@@ -5,10 +5,21 @@
 // No public function has a `requires`.
 pub mod rows;
 
+use stepping::ENTRY_LIMIT;
+use stepping::MATRIX_UNIT;
 ghost use mathlib.Core.Path.{_≡_};
 ghost use lib.Ieee.{binary64, ofBits, toBits};
 ghost use Rattle.coefficients.specs.Entries.{entryOfBits, scaledEntry, entryOf};
 ghost use Rattle.coefficients.specs.Inner.{magnitudeEntry, InRange};
+
+// Limits 3, of the magnitude of an entry.
+const ENTRY_LIMIT_U64: u64 = ENTRY_LIMIT as u64;
+
+// Refusals 15. The largest magnitude of a fitted entry.
+pub const FITTED_LIMIT: f64 = 2.0;
+
+// File 12. How many halves of a stored entry make 1.
+const HALVES: f64 = (2 * MATRIX_UNIT) as f64;
 
 // Forms 9. An entry as its row has it: counted in 1 / 65,536, or a binary64 number.
 pub enum Coefficient {
@@ -38,7 +49,7 @@ fn rounded(x: f64) -> i32
     ensures { λ r. ⌜ r ≡ magnitudeEntry x ⌝ }
 {
     // Forms 10: twice 65,536 times x, which a product with a power of two gives exactly, so its whole part counts halves.
-    let scaled = x * 131072.0;
+    let scaled = x * HALVES;
     let halves = std::num::truncating_f64_to_u64(scaled);
     let whole = halves / 2;
     if halves % 2 == 0 {
@@ -54,7 +65,7 @@ fn rounded(x: f64) -> i32
 fn scaled_entry(entry: i32) -> EntryAnswer
     ensures { λ r. ⌜ r ≡ scaledEntry entry ⌝ }
 {
-    if arrays::magnitude(entry as i64) <= 131072 {
+    if arrays::magnitude(entry as i64) <= ENTRY_LIMIT_U64 {
         return EntryAnswer::Entry(entry);
     }
     EntryAnswer::Refused(5)
@@ -66,7 +77,7 @@ fn fitted_entry(x: f64) -> EntryAnswer
 {
     let magnitude = if x < 0.0 { -x } else { x };
     let negative = x < 0.0;
-    if magnitude <= 2.0 {
+    if magnitude <= FITTED_LIMIT {
         let entry = rounded(magnitude);
         if negative {
             return EntryAnswer::Entry(-entry);

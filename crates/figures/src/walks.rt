@@ -5,6 +5,7 @@ use cells::output::answer;
 use cells::output::natural;
 use cells::output::number;
 use cells::output::pair;
+use stepping::GROWTH_LIMIT;
 use stepping::Spare;
 use stepping::Stepped;
 use stepping::sum_of;
@@ -55,7 +56,7 @@ fn walked(
     let mut most = sum;
     let mut k: usize = 0;
     while k < steps {
-        if 1073741824 < sum {
+        if GROWTH_LIMIT < sum {
             break;
         }
         sum = sum_of(stepping::step(n, matrix, r, e));

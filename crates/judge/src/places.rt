@@ -1,4 +1,5 @@
 // Verdicts 2, 3 and 4 over a sweep's lists.
+use limits::LONGEST_LIST;
 use reachability::verdicts::Judged;
 ghost use mathlib.Core.Path.{_≡_};
 ghost use lib.IntN.{_-ℤ_};
@@ -71,7 +72,7 @@ pub(crate) fn verdict_of(level: i64, bounds: &[i64], slacks: &[i64]) -> Judged
     if size < 2 {
         return Judged::WrongLength;
     }
-    if 257 < size {
+    if LONGEST_LIST < size {
         return Judged::WrongLength;
     }
     let h = first_hit(level, bounds, slacks);

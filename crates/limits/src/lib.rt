@@ -2,9 +2,28 @@
 // a box.
 //
 // No public function has a `requires`.
+use stepping::GROWTH_LIMIT;
+use stepping::MOST_COORDINATES;
 ghost use mathlib.Core.Path.{_≡_};
 ghost use Prim.Native.Nat.{_<_};
 ghost use Rattle.limits.specs.Limits.{frameOk, allZero, directionsOk, guardOk, guardsOk, valueOk, directionOk, cornersOrdered};
+
+// Limits 2. The most steps.
+pub const MOST_STEPS: usize = 256;
+
+// Refusals 13. The most elements of a list of bounds or slacks, which has one for each of the steps 0 to K.
+pub const LONGEST_LIST: usize = MOST_STEPS + 1;
+
+// Limits 5. The largest and the least entry of a direction.
+pub const DIRECTION_LIMIT: i32 = 1000;
+
+pub const LEAST_DIRECTION: i32 = -DIRECTION_LIMIT;
+
+// Limits 6. The most directions.
+pub const MOST_DIRECTIONS: usize = 16;
+
+// Limits 7. The most guards.
+pub const MOST_GUARDS: usize = 16;
 
 // Limits 1, 2, 3 and 9. n is 1 to 6, the steps are 1 to 256, and the matrix is one of n by n.
 pub fn frame_ok(n: usize, steps: usize, matrix: &[i32; 36]) -> bool
@@ -13,13 +32,13 @@ pub fn frame_ok(n: usize, steps: usize, matrix: &[i32; 36]) -> bool
     if n < 1 {
         return false;
     }
-    if 6 < n {
+    if MOST_COORDINATES < n {
         return false;
     }
     if steps < 1 {
         return false;
     }
-    if 256 < steps {
+    if MOST_STEPS < steps {
         return false;
     }
     stepping::matrix_ok(n, matrix)
@@ -47,13 +66,13 @@ pub fn directions_ok(n: usize, count: usize, entries: &[i32; 96]) -> bool
     if count < 1 {
         return false;
     }
-    if 16 < count {
+    if MOST_DIRECTIONS < count {
         return false;
     }
     if !arrays::zero_outside(count, n, entries) {
         return false;
     }
-    if !arrays::all_between(-1000, 1000, entries) {
+    if !arrays::all_between(LEAST_DIRECTION, DIRECTION_LIMIT, entries) {
         return false;
     }
     let mut k: usize = 0;
@@ -88,7 +107,7 @@ pub fn guards_ok(
 ) -> bool
     ensures { λ b. ⌜ b ≡ guardsOk directions guards (now (watched .entry)) (now (levels .entry)) ⌝ }
 {
-    if 16 < guards {
+    if MOST_GUARDS < guards {
         return false;
     }
     let mut g: usize = 0;
@@ -120,7 +139,7 @@ fn value_ok(n: usize, i: usize, x: i64) -> bool
     ensures { λ b. ⌜ b ≡ valueOk n i x ⌝ }
 {
     let m = arrays::magnitude(x);
-    if 1073741824 < m {
+    if GROWTH_LIMIT < m {
         return false;
     }
     if n <= i {
@@ -133,7 +152,7 @@ fn value_ok(n: usize, i: usize, x: i64) -> bool
 pub fn corners_ordered(n: usize, points: &[i32; 96]) -> bool
     ensures { λ b. ⌜ b ≡ cornersOrdered n (now (points .entry)) ⌝ }
 {
-    if 6 < n {
+    if MOST_COORDINATES < n {
         return false;
     }
     let mut i: usize = 0;

@@ -101,10 +101,9 @@ pub(crate) fn put_directions(
     requires { ⌜ Askable model 0 (now bounds) (now slacks) × (length (now cases) ≡ 16) × (length (now steps) ≡ 16) × (at + model .questions .directions * 16758 ≤ length (now out)) ⌝ }
     ensures { λ r. ⌜ DirectionsLeave model (now (cases .exit)) (now (steps .exit)) at (now (out .entry)) (now (out .exit)) r ⌝ }
 {
-    let questions = model.questions;
     let mut end = at;
     let mut d: usize = 0;
-    while d < questions.directions {
+    while d < model.questions.directions {
         end = put_direction(model, d, bounds, slacks, cases, steps, out, end);
         d += 1;
     }

@@ -60,7 +60,7 @@ pub(crate) fn note(
     let watched = questions.watched;
     let levels = questions.levels;
     let mut g: usize = 0;
-    while g < questions.guards {
+    while g < model.questions.guards {
         if watched[g] != direction {
             g += 1;
             continue;
@@ -105,10 +105,9 @@ pub(crate) fn put_guards(
     requires { ⌜ AllNoted model caseOf (now cases) × AllNoted model stepOf (now steps) × (at + model .questions .guards * 56 ≤ length (now out)) ⌝ }
     ensures { λ r. ⌜ Put (model .questions .guards * 56) at (each (model .questions .guards) (guardText model)) (now (out .entry)) (now (out .exit)) r ⌝ }
 {
-    let questions = model.questions;
     let mut end = at;
     let mut g: usize = 0;
-    while g < questions.guards {
+    while g < model.questions.guards {
         end = put_guard(out, end, g, cases[g], steps[g]);
         g += 1;
     }

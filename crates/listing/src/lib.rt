@@ -6,6 +6,7 @@ mod guards;
 
 use directions::put_directions;
 use guards::put_guards;
+use limits::LONGEST_LIST;
 use reachability::model::Model;
 use reader::Status;
 use reader::read;
@@ -18,14 +19,14 @@ ghost use Rattle.reachability.specs.Limits.{accepted};
 ghost use Rattle.text.specs.Put.{Put};
 ghost use Rattle.listing.specs.Listing.{ReplyLeaves, listingText, replyRoom};
 
-// Room for every reply.
+// Routines 15. Room for every reply.
 pub const ROOM: usize = 270000;
 
 // 257 zeros. The contract gives the length alone.
-fn row() -> [i64; 257]
+fn row() -> [i64; LONGEST_LIST]
     ensures { λ r. ⌜ 257 ≡ length r ⌝ }
 {
-    [0i64; 257]
+    [0i64; LONGEST_LIST]
 }
 
 // The listing of an accepted model.

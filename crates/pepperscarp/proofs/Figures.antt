@@ -18,18 +18,18 @@ use Rattle.stepping.specs.declared.Stepped.the-variants as P
 use Rattle.stepping.proofs.SteppedSum.{growthSum-stepped-small}
 use Rattle.reachability.specs.Limits.{accepted}
 use Rattle.reachability.specs.Recurrence.{growthStep, spareFigure}
-use Rattle.reachability.specs.Answers.{sweepAnswer, lengthsOk}
+use Rattle.reachability.specs.Answers.{sweptFigure, sweepAnswer, lengthsOk}
 use Rattle.reachability.specs.declared.model.Model.{Model}
 use Rattle.reachability.specs.declared.sweep.Swept.the-variants as S
 use Rattle.reachability.specs.declared.verdicts.Judged.the-variants as J
 use Rattle.reachability.proofs.model.Facts.{model-facts}
-use Rattle.judge.specs.Answers.{judgeAnswer}
+use Rattle.judge.specs.Answers.{judgedFigure, judgeAnswer}
 use Rattle.reader.specs.declared.Status.the-variants.{Refused}
 use Rattle.reader.specs.declared.Reading.{Reading}
 use Rattle.reader.specs.Reading.{readModel}
 use Rattle.reader.proofs.ReadModels.{readModel-take}
 use Rattle.reader.proofs.Answers.{readModel-told}
-use Rattle.pepperscarp.specs.Packing.{steppedFigure, sweptFigure, judgedFigure, figureLimit}
+use Rattle.pepperscarp.specs.Packing.{steppedFigure, figureLimit}
 use Rattle.pepperscarp.specs.Replies.{stepAnswer}
 
 -- ---- a refused file: only its first 2,048 bytes are looked at

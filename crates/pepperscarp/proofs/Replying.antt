@@ -13,15 +13,15 @@ use Rattle.stepping.specs.Refusals.{Steps, stepOk, steppedR, steppedE}
 use Rattle.stepping.specs.declared.Stepped.{Stepped}
 use Rattle.stepping.specs.declared.Stepped.the-variants as P
 use Rattle.reachability.specs.Limits.{accepted}
-use Rattle.reachability.specs.Answers.{sweepAnswer, SweepLeaves}
+use Rattle.reachability.specs.Answers.{sweptFigure, sweepAnswer, SweepLeaves}
 use Rattle.reachability.specs.declared.model.Model.{Model}
-use Rattle.judge.specs.Answers.{judgeAnswer, JudgeLeaves}
+use Rattle.judge.specs.Answers.{judgedFigure, judgeAnswer, judgeNumber, judgeFigure, JudgeLeaves}
 use Rattle.reader.specs.declared.Reading.{Reading}
 use Rattle.reader.specs.declared.Status.{Status}
 use Rattle.reader.specs.declared.Status.the-variants.{Read, Refused}
 use Rattle.reader.specs.Reading.{readModel}
 use Rattle.reader.proofs.ReadModels.{readModel-accepted}
-use Rattle.pepperscarp.specs.Packing.{packed, figureLimit, steppedPacked, sweptFigure, judgedFigure}
+use Rattle.pepperscarp.specs.Packing.{packed, figureLimit, steppedPacked, sweptPacked, judgedVerdict, judgedPacked, sweepPacked, judgePacked}
 use Rattle.pepperscarp.specs.Replies.{stepAnswer, Promise, StepReply, FileReply}
 use Rattle.pepperscarp.proofs.Figures.{offset-small, swept-small, judged-small}
 
@@ -57,7 +57,7 @@ module _ (file : List ℕ) {r : Reading} (is : r ≡ readModel file) where
   pub refused-small : {number offset : ℕ} → r .status ≡ Refused number offset → offset < figureLimit
   refused-small e = offset-small file _ _ (status-is e)
 
-  pub reply-refused : {A : Type 0} {pack : A → ℕ} {answerOf : Model → ℕ → ℕ → ℕ → A} {Leaves : Promise Model A} {number offset i x : ℕ} {b₀ s₀ : List ℤ} → r .status ≡ Refused number offset → x ≡ packed number 0 offset → FileReply pack answerOf Leaves file i b₀ s₀ x b₀ s₀
+  pub reply-refused : {A : Type 0} {packedOf : Model → ℕ → ℕ → ℕ → ℕ} {answerOf : Model → ℕ → ℕ → ℕ → A} {Leaves : Promise Model A} {number offset i x : ℕ} {b₀ s₀ : List ℤ} → r .status ≡ Refused number offset → x ≡ packed number 0 offset → FileReply packedOf answerOf Leaves file i b₀ s₀ x b₀ s₀
   reply-refused e p =
       record {
         answer = rw (status-is e) p;
@@ -65,18 +65,30 @@ module _ (file : List ℕ) {r : Reading} (is : r ≡ readModel file) where
         left = λ f. not-refused _ _ _ f (status-is e);
       }
 
--- Of the function over models: the promise has the answer, and the answer of an accepted model has a small figure.
-pub record Answers {A : Type 0} (figure : A → ℕ) (answerOf : Model → ℕ → ℕ → ℕ → A) (Leaves : Promise Model A) : Type 0 where
+-- Of the function over models: the promise has the answer, and that it comes to the one number; and the answer of an accepted model has
+-- a small figure.
+pub record Answers {A : Type 0} (pack figure : A → ℕ) (packedOf : Model → ℕ → ℕ → ℕ → ℕ) (answerOf : Model → ℕ → ℕ → ℕ → A) (Leaves : Promise Model A) : Type 0 where
+  pub packs : (m : Model) (i : ℕ) (b₀ s₀ : List ℤ) (a : A) (b s : List ℤ) → Leaves m i b₀ s₀ a b s → pack a ≡ packedOf m i (length b₀) (length s₀)
   pub says : (m : Model) (i : ℕ) (b₀ s₀ : List ℤ) (a : A) (b s : List ℤ) → Leaves m i b₀ s₀ a b s → a ≡ answerOf m i (length b₀) (length s₀)
   pub small : (m : Model) (i lb ls : ℕ) → accepted m ≡ true → figure (answerOf m i lb ls) < figureLimit
 
-pub sweep-answers : Answers sweptFigure sweepAnswer SweepLeaves
-sweep-answers = record { says = λ m i b₀ s₀ a b s h. h .answer; small = swept-small }
+pub sweep-answers : Answers sweptPacked sweptFigure sweepPacked sweepAnswer SweepLeaves
+sweep-answers =
+    record {
+      packs = λ m i b₀ s₀ a b s h. ap₂ (λ (n f : ℕ). packed n 0 f) (h .number) (h .figure);
+      says = λ m i b₀ s₀ a b s h. h .answer;
+      small = swept-small;
+    }
 
-pub judge-answers : Answers judgedFigure judgeAnswer JudgeLeaves
-judge-answers = record { says = λ m i b₀ s₀ a b s h. h .answer; small = judged-small }
+pub judge-answers : Answers judgedPacked judgedFigure judgePacked judgeAnswer JudgeLeaves
+judge-answers =
+    record {
+      packs = λ m i b₀ s₀ a b s h. ap₂ (λ (n f : ℕ). packed n (judgedVerdict a) f) (h .number) (h .figure) ∙ ap (λ (v : ℕ). packed (judgeNumber m i (length b₀) (length s₀)) v (judgeFigure m i (length b₀) (length s₀))) (ap judgedVerdict (h .answer));
+      says = λ m i b₀ s₀ a b s h. h .answer;
+      small = judged-small;
+    }
 
-module _ {A : Type 0} {figure : A → ℕ} {answerOf : Model → ℕ → ℕ → ℕ → A} {Leaves : Promise Model A} (f : Answers figure answerOf Leaves)
+module _ {A : Type 0} {pack figure : A → ℕ} {packedOf : Model → ℕ → ℕ → ℕ → ℕ} {answerOf : Model → ℕ → ℕ → ℕ → A} {Leaves : Promise Model A} (f : Answers pack figure packedOf answerOf Leaves)
     (file : List ℕ) {r : Reading} (is : r ≡ readModel file) (was : r .status ≡ Read)
     {i : ℕ} {b₀ s₀ b s : List ℤ} {a : A} (h : Leaves (r .model) i b₀ s₀ a b s) where
   left : Leaves (readModel file .model) i b₀ s₀ a b s
@@ -89,10 +101,10 @@ module _ {A : Type 0} {figure : A → ℕ} {answerOf : Model → ℕ → ℕ →
   pub read-small : figure a < figureLimit
   read-small = rw said (f .small _ _ _ _ (readModel-accepted file (status-is file is was)))
 
-  pub reply-read : {pack : A → ℕ} {x : ℕ} → x ≡ pack a → FileReply pack answerOf Leaves file i b₀ s₀ x b s
-  reply-read {pack} p =
+  pub reply-read : {x : ℕ} → x ≡ pack a → FileReply packedOf answerOf Leaves file i b₀ s₀ x b s
+  reply-read p =
       record {
-        answer = rw (status-is file is was) (p ∙ ap pack said);
+        answer = rw (status-is file is was) (p ∙ f .packs _ _ _ _ _ _ _ left);
         kept = λ n o e. not-refused _ n o (status-is file is was) e;
         left = λ e. rw said at left;
       }

@@ -4,31 +4,26 @@ use mathlib.Core.Path.{_≡_}
 use mathlib.Core.Bool.{Bool, true, false, cond}
 use mathlib.Core.List.{List}
 use mathlib.Core.Logic.{inl, inr}
-use Prim.Native.Nat.{ℕ, suc, _/_, _%_, _<_}
+use Prim.Native.Nat.{ℕ, _/_, _%_, _<_}
 use native.Mathlib.Omega.{arith}
 use lib.Dec.{leb, ltb}
 use lib.ListN.{getD}
-use lib.IntN.{pos}
-use Rattle.integers.specs.Sums.{vector}
 use Rattle.stepping.specs.Refusals.{steppedNumber}
 use Rattle.stepping.specs.declared.Stepped.{Stepped}
 use Rattle.stepping.specs.declared.Stepped.the-variants as P
 use Rattle.reachability.specs.Limits.{accepted}
-use Rattle.reachability.specs.Recurrence.{growthStep, spareFigure, bound, slack}
-use Rattle.reachability.specs.Verdicts.{verdict}
-use Rattle.reachability.specs.Answers.{sweptNumber, sweepAnswer, lengthsOk}
-use Rattle.reachability.specs.declared.model.Model.{Model}
+use Rattle.reachability.specs.Recurrence.{growthStep}
+use Rattle.reachability.specs.Answers.{sweptNumber, sweptFigure, lengthsOk, sweepNumber}
 use Rattle.reachability.specs.declared.sweep.Swept.{Swept}
 use Rattle.reachability.specs.declared.sweep.Swept.the-variants as S
 use Rattle.reachability.specs.declared.verdicts.Judged.{Judged}
 use Rattle.reachability.specs.declared.verdicts.Judged.the-variants as J
-use Rattle.judge.specs.Answers.{judgedNumber, judgeAnswer}
-use Rattle.judge.proofs.Answers.{verdict-number}
+use Rattle.judge.specs.Answers.{judgedNumber, judgedFigure, judgeNumber}
 use Rattle.reader.specs.declared.Status.the-variants.{Read, Refused}
 use Rattle.reader.specs.Reading.{readModel}
 use Rattle.reader.proofs.ReadModels.{readModel-accepted}
 use Rattle.reader.proofs.Answers.{FileNumber, readModel-told}
-use Rattle.pepperscarp.specs.Packing.{packed, steppedFigure, sweptFigure, judgedVerdict, judgedFigure, steppedPacked, sweptPacked, judgedPacked}
+use Rattle.pepperscarp.specs.Packing.{packed, steppedFigure, judgedVerdict, steppedPacked, sweptPacked, judgedPacked}
 
 -- ---- any three
 
@@ -90,37 +85,20 @@ judged-unpacks a = packed-unpacks (judgedNumber a) (judgedVerdict a) (judgedFigu
 
 -- ---- number 11: a model that was read is accepted
 
--- the answer of an accepted model is one of the others
-swept-other : (a b c t : Bool) (g h : ℕ) → a ≡ true → sweptNumber (cond a (cond b (cond c (cond t (S.Growth g) (S.Spare h)) S.WrongLength) S.NoDirection) S.Invalid) ≡ 11 → ⊥
-swept-other true true true true g h e z = omega arith
-swept-other true true true false g h e z = omega arith
-swept-other true true false t g h e z = omega arith
-swept-other true false c t g h e z = omega arith
-swept-other false b c t g h e z = never e
-  where
-    never : false ≡ true → ⊥
-    never f = let n : _≡_ {A = ℕ} 0 1 = cc in omega arith
+-- the number of a sweep or a judge of an accepted model is one of the others
+other : (a b c t : Bool) → a ≡ true → _≡_ {A = ℕ} (cond a (cond b (cond c (cond t 14 0) 13) 12) 11) 11 → ⊥
+other true true true true e z = omega arith
+other true true true false e z = omega arith
+other true true false t e z = omega arith
+other true false c t e z = omega arith
+other false b c t e z = let n : _≡_ {A = ℕ} 0 1 = cc in omega arith
 
-judged-other : (a b c t : Bool) (g : ℕ) (x : Judged) → judgedNumber x ≡ 0 → a ≡ true → judgedNumber (cond a (cond b (cond c (cond t (J.Growth g) x) J.WrongLength) J.NoGuard) J.Invalid) ≡ 11 → ⊥
-judged-other true true true true g x n e z = omega arith
-judged-other true true true false g x n e z = omega arith
-judged-other true true false t g x n e z = omega arith
-judged-other true false c t g x n e z = omega arith
-judged-other false b c t g x n e z = never e
-  where
-    never : false ≡ true → ⊥
-    never f = let n : _≡_ {A = ℕ} 0 1 = cc in omega arith
+pub sweep-never-11 : (file : List ℕ) (d lb ls : ℕ) → readModel file .status ≡ Read → sweepNumber (readModel file .model) d lb ls ≡ 11 → ⊥
+sweep-never-11 file d lb ls e z =
+    let m = readModel file .model in
+    other (accepted m) (ltb d (m .questions .directions)) (lengthsOk m lb ls) (leb (growthStep m d) (m .steps)) (readModel-accepted file e) z
 
-pub sweep-never-11 : (file : List ℕ) (d lb ls : ℕ) → readModel file .status ≡ Read → sweptNumber (sweepAnswer (readModel file .model) d lb ls) ≡ 11 → ⊥
-sweep-never-11 file d lb ls e z = never (readModel file .model) (readModel-accepted file e) z
-  where
-    never : (m : Model) → accepted m ≡ true → sweptNumber (sweepAnswer m d lb ls) ≡ 11 → ⊥
-    never m ok z = swept-other (accepted m) (ltb d (m .questions .directions)) (lengthsOk m lb ls) (leb (growthStep m d) (m .steps)) (growthStep m d) (spareFigure m d) ok z
-
-pub judge-never-11 : (file : List ℕ) (g lb ls : ℕ) → readModel file .status ≡ Read → judgedNumber (judgeAnswer (readModel file .model) g lb ls) ≡ 11 → ⊥
-judge-never-11 file g lb ls e z = never (readModel file .model) (readModel-accepted file e) z
-  where
-    never : (m : Model) → accepted m ≡ true → judgedNumber (judgeAnswer m g lb ls) ≡ 11 → ⊥
-    never m ok z =
-        let d : ℕ = getD (m .questions .watched) g 0 in
-        judged-other (accepted m) (ltb g (m .questions .guards)) (lengthsOk m lb ls) (leb (growthStep m d) (m .steps)) (growthStep m d) (verdict m d (vector (m .questions .levels) g)) (verdict-number (suc (m .steps)) (vector (m .questions .levels) g) (bound m d) (λ k. pos (slack m d k))) ok z
+pub judge-never-11 : (file : List ℕ) (g lb ls : ℕ) → readModel file .status ≡ Read → judgeNumber (readModel file .model) g lb ls ≡ 11 → ⊥
+judge-never-11 file g lb ls e z =
+    let m = readModel file .model in
+    other (accepted m) (ltb g (m .questions .guards)) (lengthsOk m lb ls) (leb (growthStep m (getD (m .questions .watched) g 0)) (m .steps)) (readModel-accepted file e) z

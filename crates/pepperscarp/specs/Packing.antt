@@ -4,12 +4,12 @@ use Prim.Native.Nat.{ℕ, _+_, _*_}
 use Rattle.stepping.specs.Refusals.{steppedNumber}
 use Rattle.stepping.specs.declared.Stepped.{Stepped}
 use Rattle.stepping.specs.declared.Stepped.the-variants.{Sum, Refused}
-use Rattle.reachability.specs.Answers.{sweptNumber}
+use Rattle.reachability.specs.Answers.{sweptNumber, sweptFigure, sweepNumber, sweepFigure}
 use Rattle.reachability.specs.declared.sweep.Swept.{Swept}
-use Rattle.reachability.specs.declared.sweep.Swept.the-variants as S
 use Rattle.reachability.specs.declared.verdicts.Judged.{Judged}
 use Rattle.reachability.specs.declared.verdicts.Judged.the-variants as J
-use Rattle.judge.specs.Answers.{judgedNumber}
+use Rattle.reachability.specs.declared.model.Model.{Model}
+use Rattle.judge.specs.Answers.{judgedNumber, judgedFigure, judgeAnswer, judgeNumber, judgeFigure}
 
 -- C interface 1: number, verdict and figure side by side.
 abbrev pub packed : ℕ → ℕ → ℕ → ℕ
@@ -43,3 +43,10 @@ sweptPacked a = packed (sweptNumber a) 0 (sweptFigure a)
 
 abbrev pub judgedPacked : Judged → ℕ
 judgedPacked a = packed (judgedNumber a) (judgedVerdict a) (judgedFigure a)
+
+-- C interface 3 and 4: what a sweep and a judge of a model come to, by the number and the figure that they promise.
+abbrev pub sweepPacked : Model → ℕ → ℕ → ℕ → ℕ
+sweepPacked m d lb ls = packed (sweepNumber m d lb ls) 0 (sweepFigure m d lb ls)
+
+abbrev pub judgePacked : Model → ℕ → ℕ → ℕ → ℕ
+judgePacked m g lb ls = packed (judgeNumber m g lb ls) (judgedVerdict (judgeAnswer m g lb ls)) (judgeFigure m g lb ls)

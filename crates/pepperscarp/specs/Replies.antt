@@ -17,7 +17,7 @@ use Rattle.judge.specs.Answers.{judgeAnswer, JudgeLeaves}
 use Rattle.reader.specs.declared.Status.{Status}
 use Rattle.reader.specs.declared.Status.the-variants.{Read, Refused}
 use Rattle.reader.specs.Reading.{readModel}
-use Rattle.pepperscarp.specs.Packing.{packed, steppedPacked, sweptPacked, judgedPacked}
+use Rattle.pepperscarp.specs.Packing.{packed, steppedPacked, sweepPacked, judgePacked}
 
 -- The answer of a step of r and e: the growth sum of what it leaves, or number 11.
 abbrev pub stepAnswer : ℕ → List ℤ → List ℤ → List ℤ → Stepped
@@ -43,19 +43,19 @@ Kept status b₀ s₀ b s = (number offset : ℕ) → status ≡ Refused number 
 abbrev pub Promise : Type 0 → Type 0 → Type 1
 Promise X A = X → ℕ → List ℤ → List ℤ → A → List ℤ → List ℤ → Type 0
 
--- What a function of a file answers and leaves. `pack` puts an answer in one number; `answerOf` is the answer of a model, from the
--- number i and the lengths of the lists, and `Leaves` the promise of it, here for the file's model.
-pub record FileReply {A : Type 0} (pack : A → ℕ) (answerOf : Model → ℕ → ℕ → ℕ → A) (Leaves : Promise Model A) (file : List ℕ) (i : ℕ) (b₀ s₀ : List ℤ) (x : ℕ) (b s : List ℤ) : Type 0 where
-  pub answer : x ≡ fileAnswer (readModel file .status) (pack (answerOf (readModel file .model) i (length b₀) (length s₀)))
+-- What a function of a file answers and leaves. `answerOf` is the answer of a model, from the number i and the lengths of the lists,
+-- `packedOf` that answer in one number, and `Leaves` the promise of it, here for the file's model.
+pub record FileReply {A : Type 0} (packedOf : Model → ℕ → ℕ → ℕ → ℕ) (answerOf : Model → ℕ → ℕ → ℕ → A) (Leaves : Promise Model A) (file : List ℕ) (i : ℕ) (b₀ s₀ : List ℤ) (x : ℕ) (b s : List ℤ) : Type 0 where
+  pub answer : x ≡ fileAnswer (readModel file .status) (packedOf (readModel file .model) i (length b₀) (length s₀))
   pub kept : Kept (readModel file .status) b₀ s₀ b s
   pub left : readModel file .status ≡ Read → Leaves (readModel file .model) i b₀ s₀ (answerOf (readModel file .model) i (length b₀) (length s₀)) b s
 
 -- C interface 3 and 7: what a sweep of a file answers and leaves. `left` is the promise of the sweep of the file's model, its
 -- accuracy included.
 abbrev pub SweepReply : Promise (List ℕ) ℕ
-SweepReply = FileReply sweptPacked sweepAnswer SweepLeaves
+SweepReply = FileReply sweepPacked sweepAnswer SweepLeaves
 
 -- C interface 4 and 7: what a judge of a file answers and leaves. `left` is the promise of the judge of the file's model, its
 -- accuracy and its verdict's meaning included.
 abbrev pub JudgeReply : Promise (List ℕ) ℕ
-JudgeReply = FileReply judgedPacked judgeAnswer JudgeLeaves
+JudgeReply = FileReply judgePacked judgeAnswer JudgeLeaves

@@ -4,7 +4,9 @@ use reachability::verdicts::Judged;
 use stepping::Stepped;
 ghost use mathlib.Core.Path.{_≡_};
 ghost use Prim.Native.Nat.{_<_};
-ghost use Rattle.pepperscarp.specs.Packing.{packed, steppedPacked, sweptPacked, judgedPacked, steppedFigure, sweptFigure, judgedFigure, figureLimit};
+ghost use Rattle.reachability.specs.Answers.{sweptFigure};
+ghost use Rattle.judge.specs.Answers.{judgedFigure};
+ghost use Rattle.pepperscarp.specs.Packing.{packed, steppedPacked, sweptPacked, judgedPacked, steppedFigure, figureLimit};
 
 // Number, verdict and figure side by side.
 fn pack(number: u8, verdict: u8, figure: u64) -> u64

@@ -1,7 +1,6 @@
 -- Recurrence 18: growth and the spare figure where the same matrix makes every move. Definitions only, for a law; no contract cites them.
 -- Assumes nothing.
 use mathlib.Core.Path.{_≡_}
-use mathlib.Core.List.{List}
 use Prim.Native.Nat.{ℕ, suc}
 use lib.Dec.{ltb}
 use Rattle.integers.specs.Sums.{maxℕ}

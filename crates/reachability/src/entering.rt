@@ -1,4 +1,6 @@
 // What enters at a move: the input, together with the drift (Runs 9).
+use crate::sets::MOST_POINTS;
+use crate::sets::REACH_LIMIT;
 use crate::sets::Shape;
 use crate::sets::reach_at;
 use crate::sets::reaches_of;
@@ -17,10 +19,10 @@ ghost use Rattle.reachability.specs.EnteringInner.{EnteringSmall, Movabl
 fn both_within(reach: u64, drift: i32) -> bool
     ensures { λ b. ⌜ b ≡ leb (reach + natAbs drift) reachLimit ⌝ }
 {
-    if 1048576 < reach {
+    if REACH_LIMIT < reach {
         return false;
     }
-    arrays::magnitude(drift as i64) <= 1048576 - reach
+    arrays::magnitude(drift as i64) <= REACH_LIMIT - reach
 }
 
 // Routines 6. Of the first `count` points of an input set, 1 to 16 of them, the reach and the drift together are within the limit in
@@ -31,7 +33,7 @@ pub fn entering_within(shape: Shape, count: usize, points: &[i32; 96], drift: &[
     if count < 1 {
         return false;
     }
-    if 16 < count {
+    if MOST_POINTS < count {
         return false;
     }
     let mut i: usize = 0;

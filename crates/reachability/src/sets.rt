@@ -11,6 +11,15 @@ pub(crate) use supports::support_of;
 ghost use mathlib.Core.Path.{_≡_};
 ghost use Rattle.reachability.specs.Sets.{Supports, ReachAnswer, reachWithin};
 
+// Limits 4. The largest reach of a set, and of what enters (Limits 11).
+pub const REACH_LIMIT: u64 = 1048576;
+
+// Sets 7. The most points of a set, which is the most vertices of a list.
+pub const MOST_POINTS: usize = 16;
+
+// Sets 5. The most points of a zonotope: its centre and eight generators.
+pub const MOST_ZONOTOPE_POINTS: usize = 9;
+
 // How a set's points are to be read: lower and upper corner; centre and generators; vertices.
 pub enum Shape {
     Box,

@@ -1,10 +1,18 @@
 // One coordinate of a step, and all six.
+use crate::MATRIX_UNIT;
 ghost use mathlib.Core.Path.{_≡_};
 ghost use Prim.Native.Nat.{_<_};
 ghost use Rattle.integers.specs.Sums.{vector, magnitudes, transposed, matrix as matrixOf};
 ghost use Rattle.stepping.specs.Limits.{growthLimit};
 ghost use Rattle.stepping.specs.Recurrence.{errorSum};
 ghost use Rattle.stepping.specs.Inner.{Bounded, BoundedErrors, Advances, Advanced};
+
+// Recurrence 4 and 5. The unit of the matrix for sums of errors, one less, and half of it for N.
+const UNIT_U64: u64 = MATRIX_UNIT as u64;
+
+const UNIT_LESS_ONE: u64 = UNIT_U64 - 1;
+
+const HALF_UNIT: i64 = (MATRIX_UNIT / 2) as i64;
 
 // Recurrence 3. N of column i.
 pub(crate) fn product_sum(matrix: &[i32; 36], r: &[i64; 6], i: usize) -> i64
@@ -49,8 +57,8 @@ fn column_of(matrix: &[i32; 36], r: &[i64; 6], e: &[i64; 6], i: usize) -> Column
 {
     let product = product_sum(matrix, r, i);
     let errors = error_sum(matrix, e, i);
-    let nearest = (product + 32768) >> 16;
-    let up = (errors + 65535) / 65536 + arrays::fraction(product, 65536);
+    let nearest = (product + HALF_UNIT) >> 16;
+    let up = (errors + UNIT_LESS_ONE) / UNIT_U64 + arrays::fraction(product, MATRIX_UNIT);
     let error = up as i64;
     let halves = 2 * arrays::magnitude(nearest) + up;
     Column {

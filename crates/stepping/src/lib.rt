@@ -10,6 +10,28 @@ pub mod rounding;
 ghost use mathlib.Core.Path.{_≡_};
 ghost use Rattle.stepping.specs.Refusals.{First, Grows, sumOf, matrixOk, Steps, Spares};
 
+// The specification's numbers for the stepping arithmetic, each once. A cast or a sign in a function would be a step of its own, so
+// a number that is needed at another type or below 0 has a constant for that too.
+
+// Limits 1. The most coordinates.
+pub const MOST_COORDINATES: usize = 6;
+
+// Model 3. How many units of a stored matrix entry make 1.
+pub const MATRIX_UNIT: u32 = 65536;
+
+// Limits 3. The largest magnitude of a stored matrix entry.
+pub const ENTRY_LIMIT: i32 = 131072;
+
+const LEAST_ENTRY: i32 = -ENTRY_LIMIT;
+
+// Recurrence 1. How many units of a working direction make 1.
+pub const DIRECTION_UNIT: u32 = 1048576;
+
+const UNIT_I64: i64 = DIRECTION_UNIT as i64;
+
+// Recurrence 7. A growth sum above this is growth.
+pub const GROWTH_LIMIT: u64 = 1073741824;
+
 // What a step or a growth sum answers: the growth sum, or number 11.
 pub enum Stepped {
     Sum(u64),
@@ -29,7 +51,7 @@ pub fn first(direction: &[i32; 6], r: &mut [i64; 6], e: &mut [i64; 6])
     let mut scaled = [0i64; 6];
     let mut i: usize = 0;
     while i < 6 {
-        scaled[i] = 1048576 * (direction[i] as i64);
+        scaled[i] = UNIT_I64 * (direction[i] as i64);
         i += 1;
     }
     *r = scaled;
@@ -44,7 +66,7 @@ pub fn growth(n: usize, r: &[i64; 6], e: &[i64; 6]) -> Stepped
     if n < 1 {
         return Stepped::Refused;
     }
-    if 6 < n {
+    if MOST_COORDINATES < n {
         return Stepped::Refused;
     }
     if !refusals::zero_beyond(n, r) {
@@ -56,7 +78,7 @@ pub fn growth(n: usize, r: &[i64; 6], e: &[i64; 6]) -> Stepped
     let Stepped::Sum(sum) = refusals::largest_sum(r, e) else {
         return Stepped::Refused;
     };
-    if 1073741824 < sum {
+    if GROWTH_LIMIT < sum {
         return Stepped::Refused;
     }
     Stepped::Sum(sum)
@@ -76,10 +98,10 @@ pub fn sum_of(answer: Stepped) -> u64
 pub fn matrix_ok(n: usize, matrix: &[i32; 36]) -> bool
     ensures { λ b. ⌜ b ≡ matrixOk n (now (matrix .entry)) ⌝ }
 {
-    if !arrays::all_between(-131072, 131072, matrix) {
+    if !arrays::all_between(LEAST_ENTRY, ENTRY_LIMIT, matrix) {
         return false;
     }
-    if 6 <= n {
+    if MOST_COORDINATES <= n {
         return true;
     }
     refusals::zero_around(n, matrix)
@@ -107,7 +129,7 @@ pub fn spare_bits(largest: u64) -> Spare
     if largest < 1 {
         return Spare::NoSpare;
     }
-    if 1073741824 < largest {
+    if GROWTH_LIMIT < largest {
         return Spare::NoSpare;
     }
     let less = (largest - 1) as u32;

@@ -8,6 +8,13 @@ ghost use lib.ListN.{length};
 ghost use Rattle.text.specs.Text.{decimal, signedDecimal, line};
 ghost use Rattle.text.specs.Put.{Puts, ToldFull};
 
+// Routines 17. The room that a number asks for, a signed one, and a line beside its two words.
+pub const NUMBER_ROOM: usize = 20;
+
+pub const SIGNED_ROOM: usize = NUMBER_ROOM + 1;
+
+pub const LINE_ROOM: usize = 2 * NUMBER_ROOM + 1;
+
 // Fewer than `room` bytes are left from `at` on.
 fn full(size: usize, at: usize, room: usize) -> bool
     ensures { λ b. ⌜ ToldFull size at room b ⌝ }
@@ -53,7 +60,7 @@ fn places(n: u64) -> usize
 pub fn put_decimal(out: &mut [u8], at: usize, n: u64) -> usize
     ensures { λ r. ⌜ Puts 20 at (decimal n) (now (out .entry)) (now (out .exit)) r ⌝ }
 {
-    if full(out.len(), at, 20) {
+    if full(out.len(), at, NUMBER_ROOM) {
         return at;
     }
     let end = at + places(n);
@@ -79,7 +86,7 @@ pub fn put_decimal(out: &mut [u8], at: usize, n: u64) -> usize
 pub fn put_signed(out: &mut [u8], at: usize, x: i64) -> usize
     ensures { λ r. ⌜ Puts 21 at (signedDecimal x) (now (out .entry)) (now (out .exit)) r ⌝ }
 {
-    if full(out.len(), at, 21) {
+    if full(out.len(), at, SIGNED_ROOM) {
         return at;
     }
     if x < 0 {
@@ -96,7 +103,7 @@ pub fn put_line(out: &mut [u8], at: usize, first: &[u8], a: u64, second: &[u8], 
     if full(out.len(), first.len(), second.len()) {
         return at;
     }
-    if full(out.len() - first.len() - second.len(), at, 41) {
+    if full(out.len() - first.len() - second.len(), at, LINE_ROOM) {
         return at;
     }
     let mut end = put(out, at, first);

@@ -102,7 +102,7 @@ pub fn entering_reach<T: Whole>(model: &Model, i: usize) -> T {
     reach::<T>(&model.input, i) + T::from(model.drift[i]).abs()
 }
 
-fn reaches<T: Whole>(n: usize, reach: impl Fn(usize) -> T) -> [T; 6] {
+fn each_reach<T: Whole>(n: usize, reach: impl Fn(usize) -> T) -> [T; 6] {
     let mut all = [zero(); 6];
     for (i, one) in all.iter_mut().enumerate().take(n) {
         *one = reach(i);
@@ -173,8 +173,8 @@ pub struct Envelope<T> {
 /// The sweep of a direction (Recurrence 11 to 14), or the first step with growth.
 pub fn sweep<T: Whole>(model: &Model, direction: &Six) -> Result<Envelope<T>, usize> {
     let (n, size) = (model.n, model.steps + 1);
-    let initial_reach = reaches(n, |i| reach(&model.initial, i));
-    let entering_reach = reaches(n, |i| entering_reach(model, i));
+    let initial_reach = each_reach(n, |i| reach(&model.initial, i));
+    let entering_reach = each_reach(n, |i| entering_reach(model, i));
     let mut envelope = Envelope { spare: 0, bounds: Vec::with_capacity(size), slacks: Vec::with_capacity(size) };
     let mut working = first::<T>(direction);
     let (mut largest, mut entered, mut entered_errors) = (zero::<T>(), zero::<T>(), zero::<T>());
@@ -197,11 +197,16 @@ pub fn sweep<T: Whole>(model: &Model, direction: &Six) -> Result<Envelope<T>, us
     Ok(envelope)
 }
 
-/// The verdict on a level, by the first-step rules (Verdicts 1 to 4).
+/// Whether a value reaches a level (Verdicts 1).
+fn reaches<T: Whole>(value: T, level: T) -> bool {
+    value >= level
+}
+
+/// The verdict on a level, by the first-step rules (Verdicts 2 to 4).
 pub fn verdict<T: Whole>(envelope: &Envelope<T>, level: i64) -> Verdict {
     let level = T::from(level);
-    let certain = envelope.bounds.iter().zip(&envelope.slacks).position(|(bound, slack)| *bound - *slack >= level);
-    let open = envelope.bounds.iter().position(|bound| *bound >= level);
+    let certain = envelope.bounds.iter().zip(&envelope.slacks).position(|(bound, slack)| reaches(*bound - *slack, level));
+    let open = envelope.bounds.iter().position(|bound| reaches(*bound, level));
     match (certain, open) {
         (Some(step), _) => Verdict::Hit(step),
         (None, Some(step)) => Verdict::Unknown(step),

@@ -39,7 +39,7 @@ module _ (c : tie.Else1) where
 returns-2 : tie.Need-returns-2
 returns-2 c =
     let b = c .before .before .before in
-    judge-refuses (m b) (g b) (b₀ b) (s₀ b) NoGuard refl (answer-no-guard (m b) (g b) _ _ (ok b) (c .if2 .taken)) tt
+    judge-refuses (m b) (g b) (b₀ b) (s₀ b) NoGuard refl (answer-no-guard (m b) (g b) _ _ (ok b) (omega (arith, c .if2 .taken))) tt
 
 -- the guard is one of the sixteen
 below : (c : tie.Else2) → g (c .before .before .before) < 16

@@ -1,18 +1,18 @@
 -- Laws of the first-step rules over lists (`places`). In order: a bound less its slack against the range of i64; a loop that looks
 -- for the first step. Assumes nothing.
-use mathlib.Core.Path.{_≡_, sym, ap, ap₂, subst, _∙_}
+use mathlib.Core.Path.{_≡_, refl, sym, ap₂, subst, _∙_}
 use mathlib.Core.Bool.{Bool, true, false}
-use Prim.Native.Nat.{ℕ, _+_, _≤_, _<_, zero-le}
+use Prim.Native.Nat.{ℕ, _+_, _-_, _≤_, _<_, zero-le}
 use native.Mathlib.Omega.{arith}
 use native.Mathlib.Nat.{lt-of-lt-of-le}
 use borrow.Author.Count.{below-none, below-more}
-use lib.IntN.{ℤ, pos, negsuc, _+ℤ_, _-ℤ_}
+use lib.IntN.{ℤ, pos, negsuc, negℤ, _+ℤ_, _-ℤ_}
 use lib.Signed.{leZ, ltZ}
 use mir.Syntax.{w64}
 use mir.Val.{SFits, toZ, ofZ}
 use mir.Facts.{toZ-ofZ}
 use Rattle.integers.specs.Whole.{_⩽_}
-use Rattle.integers.proofs.SignedParts.{v, #, _⊕_, _⊖_, le!, le?}
+use Rattle.integers.proofs.SignedParts.{pp, nn, v, #, neg, _⊕_, _⊖_, le!, le?, eq?}
 use Rattle.integers.proofs.Order.{⩽-of-leZ, lt-of-leZ-false, lt-of-ltZ, le-of-ltZ-false}
 use Rattle.reachability.specs.Recurrence.{firstPlace}
 use Rattle.reachability.specs.Verdicts.{reaches}
@@ -46,8 +46,12 @@ less-bits f g = ap₂ _-ℤ_ (toZ-ofZ f) (toZ-ofZ g)
 pub less-fits-bits : (bound slack : ℤ) → SFits w64 bound → SFits w64 slack → SFits w64 (bound -ℤ slack) → SFits w64 (toZ w64 (ofZ w64 bound) -ℤ toZ w64 (ofZ w64 slack))
 less-fits-bits bound slack f g h = subst (SFits w64) (sym (less-bits f g)) h
 
-pub reaches-bits : (level bound slack : ℤ) → SFits w64 level → SFits w64 bound → SFits w64 slack → SFits w64 (bound -ℤ slack) → reaches (toZ w64 (ofZ w64 level)) (toZ w64 (ofZ w64 (toZ w64 (ofZ w64 bound) -ℤ toZ w64 (ofZ w64 slack)))) ≡ reaches level (bound -ℤ slack)
-reaches-bits level bound slack e f g h = ap₂ reaches (toZ-ofZ e) (ap (λ (z : ℤ). toZ w64 (ofZ w64 z)) (less-bits f g) ∙ toZ-ofZ h)
+pub reaches-bits : (level bound slack : ℤ) → SFits w64 level → SFits w64 bound → SFits w64 slack → SFits w64 (toZ w64 (ofZ w64 bound) -ℤ toZ w64 (ofZ w64 slack)) → reaches (toZ w64 (ofZ w64 level)) (toZ w64 (ofZ w64 (toZ w64 (ofZ w64 bound) -ℤ toZ w64 (ofZ w64 slack)))) ≡ reaches level (bound -ℤ slack)
+reaches-bits level bound slack e f g h = ap₂ reaches (toZ-ofZ e) (toZ-ofZ h ∙ less-bits f g)
+
+-- adding y takes off no more than a slack that is not below 0, and adds nothing
+abbrev pub PartOff : ℤ → ℤ → Type 0
+PartOff slack y = (pp y ≤ nn y) × (nn y ≤ pp y + (pp slack - nn slack))
 
 module _ (slack : ℤ) (fs : SFits w64 slack) (t : leZ (pos 0) slack ≡ true) where
   natural : pos 0 ⩽ slack
@@ -62,10 +66,15 @@ module _ (slack : ℤ) (fs : SFits w64 slack) (t : leZ (pos 0) slack ≡ true) w
   pub hit-below : (level bound : ℤ) → SFits w64 level → ltZ bound (least +ℤ slack) ≡ true → reaches level (bound -ℤ slack) ≡ false
   hit-below level bound f b = reaches-below level least (bound -ℤ slack) (least-le level f) (le! (v bound ⊖ v slack ⊕ # 1) (v least) (omega (arith, le? (v bound ⊕ # 1) (v least ⊕ v slack) (lt-of-ltZ bound (least +ℤ slack) b))))
 
-  pub less-fits : (bound : ℤ) → SFits w64 bound → ltZ bound (least +ℤ slack) ≡ false → SFits w64 (bound -ℤ slack)
-  less-fits bound f b =
+  pub whole-off : PartOff slack (negℤ (toZ w64 (ofZ w64 slack)))
+  whole-off = subst (λ (z : ℤ). PartOff slack (negℤ z)) (sym (toZ-ofZ fs)) (let s = le? (# 0) (v slack) natural in let n = eq? (v (negℤ slack)) (neg (v slack)) refl in (omega arith, omega arith))
+
+  pub part-fits : (bound y : ℤ) → SFits w64 bound → ltZ bound (least +ℤ slack) ≡ false → PartOff slack y → SFits w64 (bound +ℤ y)
+  part-fits bound y f b p =
       let s = le? (# 0) (v slack) natural in
-      fits (bound -ℤ slack) (le! (v least) (v bound ⊖ v slack) (omega (arith, le? (v least ⊕ v slack) (v bound) (le-of-ltZ-false bound (least +ℤ slack) b)))) (le! (v bound ⊖ v slack) (v most) (omega (arith, le? (v bound) (v most) (le-most bound f))))
+      fits (bound +ℤ y)
+      (le! (v least) (v bound ⊕ v y) (omega (arith, p .1, le? (v least ⊕ v slack) (v bound) (le-of-ltZ-false bound (least +ℤ slack) b))))
+      (le! (v bound ⊕ v y) (v most) (omega (arith, p .0, le? (v bound) (v most) (le-most bound f))))
 
 module _ (slack : ℤ) (fs : SFits w64 slack) (t : leZ (pos 0) slack ≡ false) where
   negative : slack +ℤ pos 1 ⩽ pos 0

@@ -1,14 +1,15 @@
 -- `limits::directions_ok` meets its contract, test by test; no direction that the loop passed is zero. The
 -- measure is what is left of the count. Assumes nothing.
-use Rattle.integers.proofs.Basics.{_≡_, sym, ap, _∙_, Bool, true, ℕ, _-_, arith, needs, ℤ}
+use Rattle.integers.proofs.Basics.{_≡_, sym, ap, _∙_, Bool, true, false, ℕ, _-_, _≤_, _<_, arith, needs, ℤ}
 use mathlib.Core.Bool.{not}
 use mathlib.Core.List.{List}
 use borrow.Author.Tests.{lt-leb, le-leb, not-true, not-false}
 use lib.Dec.{leb}
 use lib.IntN.{pos, negℤ}
-use Rattle.integers.proofs.EarlyReturn.{PassedSoFar, passed-none, passed-more, passed-fails, passed-all}
+use Rattle.integers.proofs.EarlyReturn.{PassedSoFar, passed-none, passed-more, passed-all}
+use Rattle.integers.proofs.Sums.{allBelow-fails}
 use Rattle.arrays.specs.Tests.{allBetween, zeroOutside}
-use Rattle.limits.specs.Limits.{directionLimit, allZero}
+use Rattle.limits.specs.Limits.{directionLimit, allZero, someNonzero}
 use Rattle.limits.proofs.directions_ok.Statement.{statement}
 use Rattle.limits.proofs.directions_ok.Tie as tie
 
@@ -69,11 +70,15 @@ loop-holds c = passed-none (start c .args .count) (nonzeroAt (start c .args .ent
 all-zero-requires : tie.Need-all-zero-requires Inv-loop μ-loop
 all-zero-requires c κs = omega (arith, at-count (c .before .before) .if2 .left, c .loop-test .taken)
 
+-- a zero direction up to that of the turn refuses them all; that each is tested is settled where the loop goes on
+some-zero : (n : ℕ) (xs : List ℤ) (j k : ℕ) → j ≤ k → k < n → allZero xs j ≡ true → someNonzero n xs ≡ false
+some-zero n xs j k l h e = allBelow-fails n (nonzeroAt xs) j (omega arith) (ap not e)
+
 returns-5 : tie.Need-returns-5 Inv-loop μ-loop
 returns-5 c =
     let at-loop = c .before .before .before in
     let b = at-loop .before in
-    let fails = passed-fails (at-loop .loop .inv) (c .before .before .loop-test .taken) (ap not (sym (c .before .all-zero .ensures) ∙ c .if5 .taken)) in
+    let fails : someNonzero (start b .args .count) (start b .args .entries .now) ≡ false = search (needs, some-zero, c .before .before .loop-test .taken, sym (c .before .all-zero .ensures) ∙ c .if5 .taken) in
     simp (least (at-count b), most (at-count b), outside (at-outside b), entries b, fails)
 
 add-k : tie.Need-add-k Inv-loop μ-loop

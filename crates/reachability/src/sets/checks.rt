@@ -1,7 +1,10 @@
 // The rules that number 11 tests of a set.
+use crate::sets::MOST_POINTS;
+use crate::sets::MOST_ZONOTOPE_POINTS;
 use crate::sets::Set;
 use crate::sets::Shape;
 use crate::sets::reach_within;
+use stepping::MOST_COORDINATES;
 ghost use mathlib.Core.Path.{_≡_};
 ghost use mathlib.Core.Bool.{_&&_};
 ghost use Rattle.stepping.specs.Refusals.{dimensionOk};
@@ -17,13 +20,13 @@ fn count_ok(shape: Shape, count: usize) -> bool
             if count < 2 {
                 return false;
             }
-            count <= 9
+            count <= MOST_ZONOTOPE_POINTS
         }
         Shape::Vertices => {
             if count < 1 {
                 return false;
             }
-            count <= 16
+            count <= MOST_POINTS
         }
     }
 }
@@ -35,7 +38,7 @@ pub(crate) fn set_ok(n: usize, set: Set) -> bool
     if n < 1 {
         return false;
     }
-    if 6 < n {
+    if MOST_COORDINATES < n {
         return false;
     }
     let shape = set.shape;

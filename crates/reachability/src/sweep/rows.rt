@@ -9,6 +9,8 @@ use crate::walk::Gathered;
 use crate::walk::back;
 use crate::walk::begin;
 use crate::walk::end_of;
+use limits::LONGEST_LIST;
+use stepping::GROWTH_LIMIT;
 use stepping::Spare;
 ghost use mathlib.Core.Path.{_≡_};
 ghost use Prim.Native.Nat.{_≤_};
@@ -19,10 +21,10 @@ ghost use Rattle.stepping.specs.Recurrence.{spare};
 ghost use Rattle.reachability.specs.SweepInner.{FillAsks, Prepared, Fills};
 
 // 257 zeros. The contract gives the length alone.
-pub(crate) fn blank() -> [i64; 257]
+pub(crate) fn blank() -> [i64; LONGEST_LIST]
     ensures { λ r. ⌜ 257 ≡ length r ⌝ }
 {
-    [0i64; 257]
+    [0i64; LONGEST_LIST]
 }
 
 // The spare figure of a largest sum from 1 to 1,073,741,824.
@@ -61,8 +63,8 @@ fn fill_rows(
     r: &mut [i64; 6],
     e: &mut [i64; 6],
     begun: Gathered,
-    bounds: &mut [i64; 257],
-    slacks: &mut [i64; 257],
+    bounds: &mut [i64; LONGEST_LIST],
+    slacks: &mut [i64; LONGEST_LIST],
 ) -> Filled
     requires { ⌜ FillAsks model direction (now bounds) (now slacks) ⌝ }
     requires { ⌜ Prepared model direction (now matrix) «initial_shape» «initial_count» (now «initial_points») (now «initial_reaches») «input_shape» «input_count» (now «input_points») (now «input_reaches») (now r) (now e) (begun .entered) (begun .errors) (begun .largest) ⌝ }
@@ -73,7 +75,7 @@ fn fill_rows(
     let mut k: usize = 0;
     while k <= model.steps {
         largest = walked.largest;
-        if 1073741824 < largest {
+        if GROWTH_LIMIT < largest {
             return Filled { steps: k, largest };
         }
         let values = end_of(
@@ -109,8 +111,8 @@ fn fill_rows(
 pub(crate) fn fill(
     model: Model,
     direction: usize,
-    bounds: &mut [i64; 257],
-    slacks: &mut [i64; 257],
+    bounds: &mut [i64; LONGEST_LIST],
+    slacks: &mut [i64; LONGEST_LIST],
 ) -> Filled
     requires { ⌜ FillAsks model direction (now bounds) (now slacks) ⌝ }
     ensures { λ a. ⌜ Fills model direction (a .steps) (a .largest) (now (bounds .exit)) (now (slacks .exit)) ⌝ }
@@ -156,7 +158,7 @@ pub(crate) fn fill(
 }
 
 // The first elements of the row.
-pub(crate) fn copy(row: &[i64; 257], out: &mut [i64])
+pub(crate) fn copy(row: &[i64; LONGEST_LIST], out: &mut [i64])
     requires { ⌜ length (now out) ≤ 257 ⌝ }
     ensures { λ _. ⌜ now (out .exit) ≡ tabulate (length (now (out .entry))) (vector (now (row .entry))) ⌝ }
 {

@@ -1,6 +1,7 @@
 -- `judge::places::hits` meets its contract, for any three numbers: the two tests keep the difference within i64, and past them it is
 -- below or above every level. Assumes nothing.
-use Rattle.integers.proofs.Basics.{_≡_, sym, _∙_, pos, _-ℤ_, true, false, needs, w64, SFits, toZ-ofZ}
+use Rattle.integers.proofs.Basics.{_≡_, sym, _∙_, arith, ℤ, pos, _+ℤ_, _-ℤ_, true, false, needs, w64, SFits, toZ, ofZ, toZ-ofZ}
+use lib.IntN.{negℤ}
 use lib.Signed.{leZ}
 use Rattle.judge.proofs.places.Laws as laws
 use Rattle.judge.proofs.places.hits.Statement.{statement}
@@ -18,19 +19,23 @@ returns c =
     let low = laws.least-add-fits _ (a .fits .slack) (natural (c .before)) in
     sym (laws.hit-below (a .args .slack) (a .fits .slack) (natural (c .before)) (a .args .level) (a .args .bound) (a .fits .level) (simp (toZ-ofZ (a .fits .bound), toZ-ofZ (a .fits .slack), toZ-ofZ low) at (c .if2 .taken)))
 
-less-fits : (c : tie.Else2) → SFits w64 (c .before .before .args .bound -ℤ c .before .before .args .slack)
-less-fits c =
+-- the bound less the slack, or less any part of it: how much is taken off is settled where the level is compared
+less-fits : (c : tie.Else2) (y : ℤ) → laws.PartOff (c .before .before .args .slack) y → SFits w64 (toZ w64 (ofZ w64 (c .before .before .args .bound)) +ℤ y)
+less-fits c y p =
     let a = c .before .before in
     let low = laws.least-add-fits _ (a .fits .slack) (natural (c .before)) in
-    laws.less-fits (a .args .slack) (a .fits .slack) (natural (c .before)) (a .args .bound) (a .fits .bound) (simp (toZ-ofZ (a .fits .bound), toZ-ofZ (a .fits .slack), toZ-ofZ low) at (c .if2 .left))
+    laws.part-fits (a .args .slack) (a .fits .slack) (natural (c .before)) (toZ w64 (ofZ w64 (a .args .bound))) y (rw (toZ-ofZ (a .fits .bound)) (a .fits .bound)) (simp (toZ-ofZ (a .fits .slack), toZ-ofZ low) at (c .if2 .left)) p
+
+whole : (c : tie.Else2) → laws.PartOff (c .before .before .args .slack) (negℤ (toZ w64 (ofZ w64 (c .before .before .args .slack))))
+whole c = laws.whole-off (c .before .before .args .slack) (c .before .before .fits .slack) (natural (c .before))
 
 sub-at-level : tie.Need-sub-at-level
-sub-at-level c = let a = c .before .before in laws.less-fits-bits (a .args .bound) (a .args .slack) (a .fits .bound) (a .fits .slack) (less-fits c)
+sub-at-level c = less-fits c _ (omega (arith, whole c .0), omega (arith, whole c .1))
 
 returns-2 : tie.Need-returns-2
 returns-2 c =
     let a = c .before .before .before in
-    c .at-level .ensures ∙ laws.reaches-bits (a .args .level) (a .args .bound) (a .args .slack) (a .fits .level) (a .fits .bound) (a .fits .slack) (less-fits (c .before))
+    c .at-level .ensures ∙ laws.reaches-bits (a .args .level) (a .args .bound) (a .args .slack) (a .fits .level) (a .fits .bound) (a .fits .slack) (less-fits (c .before) _ (whole (c .before)))
 
 negative : (c : tie.Else1) → leZ (pos 0) (c .before .args .slack) ≡ false
 negative c = simp (toZ-ofZ (c .before .fits .slack)) at (c .if1 .left)
@@ -56,7 +61,7 @@ sub-at-level-2 c = let a = c .before .before in laws.less-fits-bits (a .args .bo
 returns-4 : tie.Need-returns-4
 returns-4 c =
     let a = c .before .before .before in
-    c .at-level2 .ensures ∙ laws.reaches-bits (a .args .level) (a .args .bound) (a .args .slack) (a .fits .level) (a .fits .bound) (a .fits .slack) (more-fits (c .before))
+    c .at-level2 .ensures ∙ laws.reaches-bits (a .args .level) (a .args .bound) (a .args .slack) (a .fits .level) (a .fits .bound) (a .fits .slack) (sub-at-level-2 (c .before))
 
 pub hits-spec : {M : Type 1} → statement M
 hits-spec =

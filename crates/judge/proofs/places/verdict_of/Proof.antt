@@ -1,5 +1,5 @@
 -- `judge::places::verdict_of` meets its contract: each end is the case that its tests leave. Assumes nothing.
-use Rattle.integers.proofs.Basics.{_≡_, sym, ap, subst, _∙_, Bool, true, false, ℕ, _≤_, _<_, needs, length, ℤ, toZ-ofZ}
+use Rattle.integers.proofs.Basics.{_≡_, sym, ap, subst, _∙_, Bool, true, false, ℕ, _≤_, _<_, arith, needs, length, ℤ, toZ-ofZ}
 use mathlib.Core.Bool.{cond}
 use Rattle.integers.specs.Sums.{vector}
 use Rattle.reachability.specs.Recurrence.{firstPlace}
@@ -36,7 +36,7 @@ returns : tie.Need-returns
 returns c = refused (c .before) (lists-apart _ _ (c .if1 .taken))
 
 returns-2 : tie.Need-returns-2
-returns-2 c = refused (c .before .before) (lists-short _ _ (c .if2 .taken))
+returns-2 c = refused (c .before .before) (lists-short (n (c .before .before)) (length (c .before .before .args .slacks .now)) (omega (arith, c .if2 .taken)))
 
 returns-3 : tie.Need-returns-3
 returns-3 c = refused (c .before .before .before) (lists-long _ _ (c .if3 .taken))

@@ -1,6 +1,6 @@
 -- `listing::directions::put_rows` meets its contract: the rows of the steps passed stand in the buffer. The measure is what is left
 -- of the list. Assumes nothing.
-use Rattle.integers.proofs.Basics.{_≡_, sym, ap₂, subst, ℕ, suc, _*_, _-_, _≤_, arith, add-one, needs, length, ℤ, w64}
+use Rattle.integers.proofs.Basics.{_≡_, sym, ap₂, subst, ℕ, suc, _*_, _-_, _≤_, arith, add-one, needs, length, ℤ, w64, toZ, ofZ}
 use mathlib.Core.List.{List}
 use Rattle.integers.specs.Sums.{vector}
 use Rattle.integers.proofs.Machine.{read-given}
@@ -27,7 +27,7 @@ loop-holds c =
     (omega arith, put-none 0 (a .at) (a .out .now) (omega (arith, c .before .pre .1)))
 
 shared-slice-copy-out-put-row : tie.Need-shared-slice-copy-out-put-row Inv-loop μ-loop
-shared-slice-copy-out-put-row c = c .before .loop-test .taken
+shared-slice-copy-out-put-row c = omega (arith, c .before .before .before .before .pre .0, c .before .loop-test .taken)
 
 shared-slice-copy-out-put-row-2 : tie.Need-shared-slice-copy-out-put-row-2 Inv-loop μ-loop
 shared-slice-copy-out-put-row-2 c = omega (arith, c .before .before .before .before .before .pre .0, c .before .before .loop-test .taken)
@@ -37,14 +37,20 @@ put-row-requires c κs =
     let so = c .before .before .before .before .loop .inv in
     omega (arith, put-length (so .1), put-near (so .1), c .before .before .before .before .before .before .pre .1, c .before .before .before .loop-test .taken)
 
+-- the numbers of a row fit, whichever they are: which comes first is settled by the row's text
 loop-again : tie.Need-loop-again Inv-loop μ-loop
 loop-again c =
     let l = c .before .before .before .before .before .before .before in
-    let a = c .before .before .before .before .before .before .before .before .before .args in
+    let a = l .before .before .args in
     let k = l .loop .k in
-    let row-is = ap₂ (rowText k) (read-given w64 (vector (a .bounds .now) k) (c .before .before .before .before .put-row-arg2 .given)) (read-given w64 (vector (a .slacks .now) k) (c .before .before .before .put-row-arg3 .given)) in (
+    let bound = vector (a .bounds .now) k in
+    let slack = vector (a .slacks .now) k in
+    let first = c .before .before .before .before .put-row-arg2 .given in
+    let second = c .before .before .before .put-row-arg3 .given in
+    let row : Put 65 (l .loop .end) (rowText k (toZ w64 (ofZ w64 bound)) (toZ w64 (ofZ w64 slack))) (l .loop .out) (c .before .before .put-row .last .0) (c .before .before .put-row .result) = c .before .before .put-row .ensures in
+    let row-is = ap₂ (rowText k) (read-given w64 bound (omega (arith, first, second))) (read-given w64 slack (omega (arith, first, second))) in (
       omega arith,
-      subst (λ (j : ℕ). Put (j * 65) (a .at) (rows (a .bounds .now) (a .slacks .now) j) (a .out .now) (c .before .before .put-row .last .0) (c .before .before .put-row .result)) (sym (add-one k)) (put-most (suc k * 65) (omega arith) (put-then (l .loop .inv .1) (put-is _ row-is (c .before .before .put-row .ensures)))),
+      subst (λ (j : ℕ). Put (j * 65) (a .at) (rows (a .bounds .now) (a .slacks .now) j) (a .out .now) (c .before .before .put-row .last .0) (c .before .before .put-row .result)) (sym (add-one k)) (put-most (suc k * 65) (omega arith) (put-then (l .loop .inv .1) (put-is _ row-is row))),
     )
 
 same-length : tie.Need-same-length Inv-loop μ-loop

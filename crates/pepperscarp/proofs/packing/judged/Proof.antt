@@ -1,7 +1,8 @@
 -- `pepperscarp::packing::judged` meets its contract, by the answer's cases. Assumes nothing.
 use Rattle.integers.proofs.Basics.{sym, ap, subst, _∙_, _<_, needs}
 use Rattle.reachability.specs.declared.verdicts.Judged.{Judged}
-use Rattle.pepperscarp.specs.Packing.{judgedPacked, judgedFigure, figureLimit}
+use Rattle.pepperscarp.specs.Packing.{judgedPacked, figureLimit}
+use Rattle.judge.specs.Answers.{judgedFigure}
 use Rattle.pepperscarp.proofs.packing.judged.Statement.{statement}
 use Rattle.pepperscarp.proofs.packing.judged.Tie as tie
 

@@ -1,7 +1,8 @@
 -- `pepperscarp::packing::swept` meets its contract, by the answer's cases. Assumes nothing.
 use Rattle.integers.proofs.Basics.{sym, ap, subst, _∙_, _<_, needs}
 use Rattle.reachability.specs.declared.sweep.Swept.{Swept}
-use Rattle.pepperscarp.specs.Packing.{sweptPacked, sweptFigure, figureLimit}
+use Rattle.pepperscarp.specs.Packing.{sweptPacked, figureLimit}
+use Rattle.reachability.specs.Answers.{sweptFigure}
 use Rattle.pepperscarp.proofs.packing.swept.Statement.{statement}
 use Rattle.pepperscarp.proofs.packing.swept.Tie as tie
 

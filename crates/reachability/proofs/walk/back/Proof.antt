@@ -2,7 +2,6 @@
 use Rattle.integers.proofs.Basics.{_≡_, sym, ap, ap₂, subst, _∙_, ℕ, _+_, arith, needs, ℤ, _+ℤ_, w64, SFits, toZ, ofZ, toZ-ofZ}
 use Prim.Native.Nat.{max}
 use Rattle.integers.proofs.Machine.{read-given}
-use Rattle.stepping.specs.Refusals.{sumOf}
 use Rattle.reachability.specs.WalkInner.{termSupport}
 use Rattle.reachability.proofs.walk.Terms.{errors-small, sum-fits}
 use Rattle.reachability.proofs.walk.back.Statement.{statement}

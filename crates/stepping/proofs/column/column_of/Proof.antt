@@ -59,7 +59,7 @@ add-up c = omega (arith, few c)
 
 at-most-one : (c : tie.After-fraction) → c .fraction .result ≤ 1
 at-most-one c =
-    subst (λ (k : ℕ). k ≤ 1) (sym (c .fraction .ensures)) (fraction-le-one (toZ w64 (ofZ w64 (c .before .before .product-sum .result))) matrixUnit)
+    subst (λ (k : ℕ). k ≤ 1) (sym (c .fraction .ensures)) (search fraction-le-one)
 
 add-up-2 : tie.Need-add-up-2
 add-up-2 c = omega (arith, at-most-one c, few (c .before))

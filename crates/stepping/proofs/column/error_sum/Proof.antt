@@ -1,6 +1,6 @@
 -- `stepping::column::error_sum` meets its contract: `sum` is the running sum of the products. The measure is what is left of six.
 -- Assumes nothing.
-use Rattle.integers.proofs.Basics.{_≡_, sym, ap, ap₂, subst, _∙_, ℕ, _+_, _*_, _-_, _≤_, arith, needs, ℤ, pos, natAbs, w32, w64, Fits, SFits, toZ, ofZ}
+use Rattle.integers.proofs.Basics.{_≡_, sym, ap, ap₂, subst, _∙_, ℕ, _+_, _*_, _-_, _≤_, _<_, arith, needs, ℤ, pos, natAbs, w32, w64, Fits, SFits, toZ, ofZ}
 use mathlib.Core.List.{List}
 use native.Mathlib.Nat.{mul-le-mul}
 use lib.Dec.{T}
@@ -33,56 +33,61 @@ mul-magnitude-2 c = omega (arith, c .before .before .pre .0)
 element-copy-out-magnitude : tie.Need-element-copy-out-magnitude Inv-loop μ-loop
 element-copy-out-magnitude c = omega (arith, c .before .before .pre .0)
 
--- the entry of a turn
-module _ (c : tie.After-magnitude-arg Inv-loop μ-loop) where
+cast-magnitude : tie.Need-cast-magnitude Inv-loop μ-loop
+cast-magnitude c = fits-wide w32 w64 {z = vector (c .before .before .before .args .matrix .now) _} tt (record { sfits = c .magnitude-arg .given })
+
+-- a turn adds the product of an entry's magnitude and a value
+module _ (c : tie.After-sum Inv-loop μ-loop) where
   abbrev at-loop : tie.At-loop Inv-loop μ-loop
-  at-loop = c .before .before
+  at-loop = c .before .before .before .before
+
+  abbrev start : tie.Start Inv-loop μ-loop
+  start = at-loop .before
+
+  abbrev m : List ℤ
+  m = start .args .matrix .now
+
+  abbrev i : ℕ
+  i = start .args .i
 
   abbrev p : ℕ
   p = at-loop .loop .p
 
-  abbrev entry : ℤ
-  entry = matrixOf (at-loop .before .args .matrix .now) p (at-loop .before .args .i)
-
-  entry-fits : SFits w32 entry
-  entry-fits = record { sfits = c .magnitude-arg .given }
-
-cast-magnitude : tie.Need-cast-magnitude Inv-loop μ-loop
-cast-magnitude c = fits-wide w32 w64 tt (entry-fits c)
-
--- its product with the value of the turn
-module _ (c : tie.After-sum Inv-loop μ-loop) where
-  abbrev b : tie.After-magnitude-arg Inv-loop μ-loop
-  b = c .before .before
-
   abbrev value : ℤ
-  value = vector (at-loop b .before .args .e .now) (p b)
+  value = vector (start .args .e .now) p
+
+  taken : p < 6
+  taken = c .before .before .before .loop-test .taken
 
   value-small : natAbs value ≤ errorLimit
-  value-small = at-loop b .before .pre .1 .bounded .values (p b) (omega arith)
+  value-small = start .pre .1 .bounded .values p taken
 
   read-value : toZ w64 (ofZ w64 value) ≡ value
   read-value = read-given w64 value (c .sum .given)
 
-  product-is : c .before .magnitude .result * natAbs (toZ w64 (ofZ w64 value)) ≡ natAbs (entry b) * natAbs value
-  product-is = ap₂ _*_ (c .before .magnitude .ensures ∙ ap natAbs (read-wide w32 w64 tt (entry-fits b))) (ap natAbs read-value)
+  small : (k : ℕ) → natAbs (vector m k) * natAbs value ≤ entryLimit * errorLimit
+  small k = mul-le-mul (start .pre .1 .bounded .entries k) value-small
 
-  small : natAbs (entry b) * natAbs value ≤ entryLimit * errorLimit
-  small = mul-le-mul (at-loop b .before .pre .1 .bounded .entries (6 * p b + at-loop b .before .args .i)) value-small
+  -- it fits with any entry of the matrix: which one it is, is settled where the sum is
+  product-is : (k : ℕ) → SFits w32 (vector m k) → c .before .magnitude .result ≡ natAbs (toZ w64 (ofZ w64 (toZ w32 (ofZ w32 (vector m k))))) → c .before .magnitude .result * natAbs (toZ w64 (ofZ w64 value)) ≡ natAbs (vector m k) * natAbs value
+  product-is k f is = ap₂ _*_ (is ∙ ap natAbs (read-wide w32 w64 tt f)) (ap natAbs read-value)
+
+  product-small : c .before .magnitude .result * natAbs (toZ w64 (ofZ w64 value)) ≤ entryLimit * errorLimit
+  product-small = subst (λ (n : ℕ). n ≤ entryLimit * errorLimit) (sym (product-is _ (record { sfits = c .before .before .magnitude-arg .given }) (c .before .magnitude .ensures))) (small _)
 
 cast-sum : tie.Need-cast-sum Inv-loop μ-loop
-cast-sum c =
-    subst (λ (z : ℤ). T (nonNeg z) × Fits w64 (natAbs z)) (sym (read-value c)) (at-loop (b c) .before .pre .1 .natural (p (b c)) (omega arith), record { fits = omega (arith, value-small c) })
+cast-sum c = subst (λ (z : ℤ). T (nonNeg z) × Fits w64 (natAbs z)) (sym (read-value c)) (start c .pre .1 .natural (p c) (taken c), record { fits = omega (arith, value-small c) })
 
 mul-sum-2 : tie.Need-mul-sum-2 Inv-loop μ-loop
-mul-sum-2 c = omega (arith, product-is c, small c)
+mul-sum-2 c = omega (arith, product-small c)
 
 add-sum : tie.Need-add-sum Inv-loop μ-loop
-add-sum c = omega (arith, product-is c, small c, at-loop (b c) .loop .inv .small)
+add-sum c = omega (arith, product-small c, at-loop c .loop .inv .small, taken c)
 
 loop-again : tie.Need-loop-again Inv-loop μ-loop
 loop-again c =
-    running-more (at-loop (b c) .loop .inv) (b c .before .loop-test .taken) (small c) (ap (λ (k : ℕ). pos (at-loop (b c) .loop .sum + k)) (product-is c))
+    running-more (at-loop c .loop .inv) (taken c) (small c (6 * p c + i c))
+    (ap (λ (k : ℕ). pos (at-loop c .loop .sum + k)) (product-is c _ (record { sfits = c .before .before .magnitude-arg .given }) (c .before .magnitude .ensures)))
 
 returns : tie.Need-returns Inv-loop μ-loop
 returns c = running-doneℕ (c .before .loop .inv) (omega arith)

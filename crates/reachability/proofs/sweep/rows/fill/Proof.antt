@@ -1,10 +1,10 @@
 -- `reachability::sweep::rows::fill` meets its contract: what it hands over is the model's own. Assumes nothing.
-use Rattle.integers.proofs.Basics.{_≡_, refl, sym, ap, subst, _∙_, ℕ, _<_, needs, ℤ}
+use Rattle.integers.proofs.Basics.{_≡_, refl, sym, subst, ℕ, _<_, needs, ℤ}
 use mathlib.Core.List.{List}
 use native.Mathlib.Nat.{lt-of-lt-of-le}
 use borrow.Author.Tests.{lt-ltb}
 use Rattle.arrays.specs.Rows.{rowOf}
-use Rattle.integers.specs.Sums.{matrix, tabulate}
+use Rattle.integers.specs.Sums.{tabulate}
 use Rattle.reachability.specs.Runs.{direction}
 use Rattle.reachability.specs.WalkInner.{Begins}
 use Rattle.reachability.specs.declared.model.Model.{Model}

@@ -1,6 +1,6 @@
 -- `reachability::sweep::rows::fill_rows` meets its contract: `SweptSoFar` holds of what the loop carries, and a turn keeps it. The
 -- measure is what is left of the steps. Assumes nothing.
-use Rattle.integers.proofs.Basics.{_≡_, _∙_, ℕ, suc, _+_, _-_, _≤_, arith, needs, set, w64, toZ, ofZ}
+use Rattle.integers.proofs.Basics.{_≡_, ℕ, suc, _+_, _-_, _≤_, arith, needs, set, w64, toZ, ofZ}
 use native.Mathlib.Nat.{le-trans}
 use Rattle.reachability.specs.WalkInner.{WalkAsks, Backs, Ends}
 use Rattle.reachability.specs.declared.model.Model.{Model}
