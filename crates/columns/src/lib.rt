@@ -9,8 +9,8 @@ ghost use lib.ListN.{length};
 ghost use Rattle.coefficients.specs.Binary64.{isZero};
 ghost use Rattle.columns.specs.Columns.{columnZero, unusedZero};
 
-// The bytes of a fitted entry.
-const FITTED: usize = 8;
+// File 3. The bytes of a fitted entry.
+pub const FITTED_WIDTH: usize = 8;
 
 // File 11. The bits are those of a zero, of either sign: none but the sign is set.
 fn is_zero(bits: u64) -> bool
@@ -25,7 +25,7 @@ fn column_zero(first: usize, width: usize, body: &[u8], i: usize) -> bool
     requires { ⌜ i < 6 ⌝ }
     ensures { λ b. ⌜ b ≡ columnZero first width (now (body .entry)) i ⌝ }
 {
-    if width == FITTED {
+    if width == FITTED_WIDTH {
         return is_zero(records::u64_at(body, first + 8 * i));
     }
     records::i32_at(body, first + 4 * i) == 0

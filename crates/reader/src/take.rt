@@ -12,13 +12,19 @@ use crate::store::with_set;
 use coefficients::rows::RowEntries;
 use coefficients::rows::fitted_entries;
 use coefficients::rows::scaled_entries;
+use columns::FITTED_WIDTH;
+use limits::DIRECTION_LIMIT;
+use limits::LEAST_DIRECTION;
+use limits::MOST_STEPS;
 use reachability::entering::entering_within;
+use reachability::sets::REACH_LIMIT;
 use reachability::sets::Set;
 use reachability::sets::reach_within;
 use records::kinds::Layout;
 use records::kinds::Part;
 use records::kinds::Point;
 use records::places::ROWS;
+use stepping::MOST_COORDINATES;
 ghost use mathlib.Core.Path.{_≡_};
 ghost use mathlib.Core.Bool.{false};
 ghost use Prim.Native.Nat.{_≤_, _<_};
@@ -33,17 +39,10 @@ ghost use Rattle.reader.specs.Inner.{Takes};
 // File 4: what steps of 0 stand for.
 const USUAL_STEPS: usize = 120;
 
-// Limits 2.
-const MOST_STEPS: usize = 256;
+// Limits 11. The largest and the least entry of the drift.
+const DRIFT_LIMIT: i32 = REACH_LIMIT as i32;
 
-// Limits 5, of an entry of a direction.
-const DIRECTION_LIMIT: i32 = 1000;
-
-// Limits 4 and 11, of an entry of the drift.
-const REACH_LIMIT: i32 = 1048576;
-
-// The bytes of a fitted entry.
-const FITTED: usize = 8;
+const LEAST_DRIFT: i32 = -DRIFT_LIMIT;
 
 // The number of the value test that the record fails, 0 where it passes, and then the state behind the record.
 pub struct Taken {
@@ -59,7 +58,7 @@ fn take_head(state: State, layout: Layout, body: &[u8]) -> Taken
     if n < 1 {
         return Taken { number: 4, state };
     }
-    if 6 < n {
+    if MOST_COORDINATES < n {
         return Taken { number: 4, state };
     }
     if MOST_STEPS < said {
@@ -117,7 +116,7 @@ fn take_row(state: State, layout: Layout, body: &[u8]) -> Taken
 {
     let model = state.model;
     let n = model.n;
-    if layout.width == FITTED {
+    if layout.width == FITTED_WIDTH {
         let held = fitted_row(body, layout.first);
         let entries = fitted_entries(n, held);
         return store_row(state, layout, held.number, entries);
@@ -134,7 +133,7 @@ fn take_drift(state: State, layout: Layout, body: &[u8]) -> Taken
 {
     let mut model = state.model;
     let drift = six_at(body, layout.first);
-    if !arrays::all_between(-REACH_LIMIT, REACH_LIMIT, &drift) {
+    if !arrays::all_between(LEAST_DRIFT, DRIFT_LIMIT, &drift) {
         return Taken { number: 17, state };
     }
     model.drift = drift;
@@ -232,7 +231,7 @@ fn take_direction(state: State, layout: Layout, body: &[u8]) -> Taken
 {
     let mut model = state.model;
     let six = six_at(body, layout.first);
-    if !arrays::all_between(-DIRECTION_LIMIT, DIRECTION_LIMIT, &six) {
+    if !arrays::all_between(LEAST_DIRECTION, DIRECTION_LIMIT, &six) {
         return Taken { number: 7, state };
     }
     if arrays::zero_outside(0, 0, &six) {

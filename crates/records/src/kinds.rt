@@ -66,32 +66,33 @@ pub enum BodyLength {
     Unknown,
 }
 
-// A centre and 8 generators (Sets 5); of any other part 16 (Refusals 9).
-const ZONOTOPE: u8 = 9;
+// Refusals 9. The most records of a part.
+const MOST: u8 = 16;
 
-const MANY: u8 = 16;
+// Sets 5. The most points of a zonotope: its centre and eight generators.
+const ZONOTOPE: u8 = 9;
 
 // A kind, and what it is: the fields of `Layout` in their order.
 struct Entry(u8, Part, Point, u8, u8, u8, u8, u8);
 
 const KINDS: [Entry; 17] = [
-    Entry(0x01, Head, NoPoint, 3, 0, 0, MANY, ROWS),
-    Entry(0x02, Row, NoPoint, 25, 1, 4, MANY, MATRIX),
-    Entry(0x03, Row, NoPoint, 49, 1, 8, MANY, MATRIX),
-    Entry(0x05, Drift, NoPoint, 24, 0, 4, MANY, DRIFT),
-    Entry(0x10, Initial, Lower, 24, 0, 4, MANY, INITIAL),
-    Entry(0x11, Initial, Upper, 24, 0, 4, MANY, INITIAL + 1),
-    Entry(0x12, Initial, Centre, 24, 0, 4, MANY, INITIAL + 2),
+    Entry(0x01, Head, NoPoint, 3, 0, 0, MOST, ROWS),
+    Entry(0x02, Row, NoPoint, 25, 1, 4, MOST, MATRIX),
+    Entry(0x03, Row, NoPoint, 49, 1, 8, MOST, MATRIX),
+    Entry(0x05, Drift, NoPoint, 24, 0, 4, MOST, DRIFT),
+    Entry(0x10, Initial, Lower, 24, 0, 4, MOST, INITIAL),
+    Entry(0x11, Initial, Upper, 24, 0, 4, MOST, INITIAL + 1),
+    Entry(0x12, Initial, Centre, 24, 0, 4, MOST, INITIAL + 2),
     Entry(0x13, Initial, Generator, 24, 0, 4, ZONOTOPE, INITIAL + 3),
-    Entry(0x14, Initial, Vertex, 24, 0, 4, MANY, INITIAL + 4),
-    Entry(0x20, Input, Lower, 24, 0, 4, MANY, INPUT),
-    Entry(0x21, Input, Upper, 24, 0, 4, MANY, INPUT + 1),
-    Entry(0x22, Input, Centre, 24, 0, 4, MANY, INPUT + 2),
+    Entry(0x14, Initial, Vertex, 24, 0, 4, MOST, INITIAL + 4),
+    Entry(0x20, Input, Lower, 24, 0, 4, MOST, INPUT),
+    Entry(0x21, Input, Upper, 24, 0, 4, MOST, INPUT + 1),
+    Entry(0x22, Input, Centre, 24, 0, 4, MOST, INPUT + 2),
     Entry(0x23, Input, Generator, 24, 0, 4, ZONOTOPE, INPUT + 3),
-    Entry(0x24, Input, Vertex, 24, 0, 4, MANY, INPUT + 4),
-    Entry(0x30, Direction, NoPoint, 24, 0, 4, MANY, DIRECTIONS),
-    Entry(0x40, Guard, NoPoint, 9, 0, 0, MANY, GUARDS),
-    Entry(0xFF, End, NoPoint, 0, 0, 0, MANY, END),
+    Entry(0x24, Input, Vertex, 24, 0, 4, MOST, INPUT + 4),
+    Entry(0x30, Direction, NoPoint, 24, 0, 4, MOST, DIRECTIONS),
+    Entry(0x40, Guard, NoPoint, 9, 0, 0, MOST, GUARDS),
+    Entry(0xFF, End, NoPoint, 0, 0, 0, MOST, END),
 ];
 
 // The table. It is made in a function of its own, so that its numbers stand in no other proof.

@@ -63,7 +63,6 @@ take-direction-spec =
     (tie.spec
     six-at-requires
     (λ c. search needs)
-    (λ c. search needs)
     (λ c κs. search needs)
     returns
     (λ c. search needs)

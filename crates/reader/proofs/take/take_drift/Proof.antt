@@ -27,4 +27,4 @@ returns-2 c =
 
 pub take-drift-spec : {M : Type 1} → statement M
 take-drift-spec =
-    tie.close (tie.spec six-at-requires (λ c. search needs) (λ c. search needs) (λ c κs. search needs) returns returns-2)
+    tie.close (tie.spec six-at-requires (λ c. search needs) (λ c κs. search needs) returns returns-2)
