@@ -20,7 +20,7 @@ rowsIn (e ∷ es) = (e .0, layoutIn e) ∷ rowsIn es
 
 pub record KindTable (table : List Entry) : Type 0 where
   pub rows-are : rowsIn table ≡ kinds
-  pub length-is : length table ≡ 17
+  pub length-is : length table ≡ length kinds
 
 abbrev pub pairsIn : List Pair → List (ℕ × ℕ)
 pairsIn [] = []
@@ -28,4 +28,4 @@ pairsIn (e ∷ es) = (e .0, e .1) ∷ pairsIn es
 
 pub record OrderTable (table : List Pair) : Type 0 where
   pub pairs-are : pairsIn table ≡ order
-  pub length-is : length table ≡ 38
+  pub length-is : length table ≡ length order

@@ -75,7 +75,10 @@ const ZONOTOPE: u8 = 9;
 // A kind, and what it is: the fields of `Layout` in their order.
 struct Entry(u8, Part, Point, u8, u8, u8, u8, u8);
 
-const KINDS: [Entry; 17] = [
+// The number of kinds.
+const COUNT: usize = 17;
+
+const KINDS: [Entry; COUNT] = [
     Entry(0x01, Head, NoPoint, 3, 0, 0, MOST, ROWS),
     Entry(0x02, Row, NoPoint, 25, 1, 4, MOST, MATRIX),
     Entry(0x03, Row, NoPoint, 49, 1, 8, MOST, MATRIX),
@@ -96,7 +99,7 @@ const KINDS: [Entry; 17] = [
 ];
 
 // The table. It is made in a function of its own, so that its numbers stand in no other proof.
-fn table() -> [Entry; 17]
+fn table() -> [Entry; COUNT]
     ensures { λ r. ⌜ KindTable r ⌝ }
 {
     KINDS
@@ -108,7 +111,7 @@ pub(crate) fn body_length(kind: u8) -> BodyLength
 {
     let table = table();
     let mut i: usize = 0;
-    while i < 17 {
+    while i < COUNT {
         let entry = table[i];
         if entry.0 == kind {
             return BodyLength::Bytes(entry.3 as usize);
@@ -124,7 +127,7 @@ pub fn layout_of(kind: u8) -> Layout
 {
     let table = table();
     let mut i: usize = 0;
-    while i < 17 {
+    while i < COUNT {
         let entry = table[i];
         if entry.0 == kind {
             let part = entry.1;

@@ -14,7 +14,10 @@ ghost use Rattle.records.specs.Inner.{OrderTable};
 // A place, and a kind that may stand there.
 struct Pair(u8, u8);
 
-const ORDER: [Pair; 38] = [
+// The number of pairs.
+const COUNT: usize = 38;
+
+const ORDER: [Pair; COUNT] = [
     Pair(START, 0x01),
     Pair(ROWS, 0x02),
     Pair(ROWS, 0x03),
@@ -56,7 +59,7 @@ const ORDER: [Pair; 38] = [
 ];
 
 // The table.
-fn table() -> [Pair; 38]
+fn table() -> [Pair; COUNT]
     ensures { λ r. ⌜ OrderTable r ⌝ }
 {
     ORDER
@@ -69,7 +72,7 @@ pub fn may_follow(place: u8, kind: u8) -> bool
     let table = table();
     let sought = 256 * (place as u16) + (kind as u16);
     let mut i: usize = 0;
-    while i < 38 {
+    while i < COUNT {
         let pair = table[i];
         let at = 256 * (pair.0 as u16) + (pair.1 as u16);
         if at == sought {

@@ -1,6 +1,6 @@
 -- `records::kinds::body_length` meets its contract. The loop's invariant: a search of the entries that are left gives the kind's body length.
 -- At the start the table is the list of `kinds`. The measure is the number of entries left. Assumes nothing.
-use Rattle.integers.proofs.Basics.{_-_, arith, needs}
+use Rattle.integers.proofs.Basics.{_-_, arith, needs, length}
 use borrow.Author.Tests.{eq-eqb, ne-eqb}
 use Rattle.records.specs.declared.kinds.BodyLength.the-variants.{Bytes, Unknown}
 use Rattle.records.specs.Kinds.{bodyLength}
@@ -13,7 +13,7 @@ abbrev Inv-loop : tie.InvT-loop
 Inv-loop kind table i₀ i = InTable (λ l. Bytes (l .length)) Unknown kind table i
 
 abbrev μ-loop : tie.MeasureT-loop
-μ-loop kind table i₀ i = 17 - i
+μ-loop kind table i₀ i = length table - i
 
 loop-holds : tie.Need-loop-holds Inv-loop μ-loop
 loop-holds c = from-start (λ l. Bytes (l .length)) Unknown (c .before .args .kind) (c .table .result) (c .table .ensures)

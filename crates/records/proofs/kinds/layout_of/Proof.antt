@@ -1,6 +1,6 @@
 -- `records::kinds::layout_of` meets its contract. The loop's invariant: a search of the entries that are left tells what the kind is.
 -- At the start the table is the list of `kinds`. The measure is the number of entries left. Assumes nothing.
-use Rattle.integers.proofs.Basics.{_-_, arith, needs}
+use Rattle.integers.proofs.Basics.{_-_, arith, needs, length}
 use borrow.Author.Tests.{eq-eqb, ne-eqb}
 use Rattle.records.specs.Kinds.{noLayout, layoutOf}
 use Rattle.records.proofs.Search.{sought-found, sought-next, sought-none}
@@ -12,7 +12,7 @@ abbrev Inv-loop : tie.InvT-loop
 Inv-loop kind table i₀ i = InTable (λ l. l) noLayout kind table i
 
 abbrev μ-loop : tie.MeasureT-loop
-μ-loop kind table i₀ i = 17 - i
+μ-loop kind table i₀ i = length table - i
 
 loop-holds : tie.Need-loop-holds Inv-loop μ-loop
 loop-holds c = from-start (λ l. l) noLayout (c .before .args .kind) (c .table .result) (c .table .ensures)

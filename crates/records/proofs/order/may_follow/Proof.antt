@@ -1,6 +1,6 @@
 -- `records::order::may_follow` meets its contract. The loop's invariant: a search of the entries that are left gives the answer. At
 -- the start the table is the list of `order`, which antt computes. The measure is the number of entries left. Assumes nothing.
-use Rattle.integers.proofs.Basics.{_≡_, refl, sym, ap, ap₂, _∙_, Bool, true, false, ℕ, _+_, _*_, _-_, _<_, arith, needs}
+use Rattle.integers.proofs.Basics.{_≡_, refl, sym, ap, ap₂, _∙_, Bool, true, false, ℕ, _+_, _*_, _-_, _<_, length, arith, needs}
 use mathlib.Core.Bool.{cond, _&&_, _||_}
 use mathlib.Core.List.{List, [], _∷_}
 use native.Mathlib.Decide.{ℕ-discrete}
@@ -48,7 +48,7 @@ abbrev Inv-loop : tie.InvT-loop
 Inv-loop place kind table sought i₀ i = Sought (same sought) (λ e. true) false (mayFollow place kind) table i
 
 abbrev μ-loop : tie.MeasureT-loop
-μ-loop place kind table sought i₀ i = 38 - i
+μ-loop place kind table sought i₀ i = length table - i
 
 from-start : (place kind : ℕ) → kind < 256 → (table : List Pair) → OrderTable table → Sought (same (packed place kind)) (λ e. true) false (mayFollow place kind) table 0
 unfolding mayFollow
