@@ -19,6 +19,7 @@ use Rattle.records.specs.Kinds.{bodyLength, layoutOf, partOf}
 use Rattle.records.specs.Order.{mayFollow}
 use Rattle.records.specs.Records.{recordAt, recordKind}
 use Rattle.reachability.specs.declared.model.Model.{Model}
+use Rattle.reachability.specs.Sets.{reachLimit}
 use Rattle.columns.proofs.ColumnLaws.{unusedZero-of}
 use Rattle.reader.specs.declared.Status.the-variants.{Read}
 use Rattle.reader.specs.declared.state.State.{State}
@@ -59,7 +60,7 @@ module _ (s : State) (g : AcceptedSoFar s) (rows-in : s .place ≡ matrixPlace) 
   unfolding driftOk zeros allBelow layoutOf
   drift-ok =
       bodyNumber-value s 0x05 zeroBody (unusedZero-of (s .model .n) (layoutOf 0x05) zeroBody (λ i l. entryZero-zeros i))
-      ∙ ap (λ (six : List ℤ). unless (within 1048576 six) 17) sixAt-zeros
+      ∙ ap (λ (six : List ℤ). unless (within reachLimit six) 17) sixAt-zeros
 
   no-drift-yet : s .model .drift ≡ zeros 6
   no-drift-yet = g .drift .none (omega arith)

@@ -1,8 +1,8 @@
-// Records of a model file, "File" of the specification: the table of kinds and body lengths, the record step, the order of kinds,
-// and numbers of several bytes.
+// Records of a model file, "File" of the specification: the table of kinds, the record step, the places of a file and the order of
+// kinds, and numbers of several bytes.
 //
-// No public function has a `requires`: any bytes, any offset gets its answer. How many records a part may have, and what a body may
-// hold, is the reader's.
+// No public function has a `requires`: any bytes, any offset, any kind gets its answer. How many records a part has so far, and what a
+// body may hold, is the reader's.
 pub mod kinds;
 mod numbers;
 pub mod order;

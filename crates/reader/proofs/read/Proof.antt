@@ -2,6 +2,7 @@
 -- the number of bytes left. Assumes nothing.
 use Rattle.integers.proofs.Basics.{_≡_, _≤_, _-_, length, sym, ap, _∙_, arith, needs}
 use Rattle.reachability.specs.declared.model.Model.{Model}
+use Rattle.records.specs.Places.{startPlace}
 use Rattle.reader.specs.declared.Status.the-variants.{Refused}
 use Rattle.reader.specs.declared.advance.Outcome.{Outcome}
 use Rattle.reader.specs.Models.{start, stateOf}
@@ -20,7 +21,7 @@ abbrev μ-loop : tie.MeasureT-loop
 loop-holds : tie.Need-loop-holds Inv-loop μ-loop
 unfolding readModel start
 loop-holds c =
-    (omega arith, ap (λ (m : Model). readFrom (c .before .before .args .file .now) 0 (stateOf 0x00 0 m)) (c .blank-model .ensures))
+    (omega arith, ap (λ (m : Model). readFrom (c .before .before .args .file .now) 0 (stateOf startPlace 0 m)) (c .blank-model .ensures))
 
 -- the record's outcome, put in the reading of the file
 module _ (c : tie.After-after Inv-loop μ-loop) where

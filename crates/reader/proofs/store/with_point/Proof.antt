@@ -1,5 +1,5 @@
 -- `reader::store::with_point` meets its contract. Assumes nothing.
-use Rattle.integers.proofs.Basics.{ap, ap₂, _∙_, ℕ, _+_, needs, ℤ}
+use Rattle.integers.proofs.Basics.{ap, ap₂, _∙_, ℕ, _+_, arith, needs, ℤ}
 use mathlib.Core.List.{List}
 use Rattle.reachability.specs.declared.sets.Set.{Set}
 use Rattle.reachability.specs.declared.sets.Shape.{Shape}
@@ -11,7 +11,7 @@ point : Shape → ℕ → List ℤ → Set
 point shape count points = record { shape = shape; count = count; points = points }
 
 six-at-requires : tie.Need-six-at-requires
-six-at-requires c κs = c .before .before .pre .1
+six-at-requires c κs = omega (arith, c .before .before .pre .1)
 
 returns : tie.Need-returns
 unfolding withPoint point

@@ -20,7 +20,7 @@ unfolding allBelow sixAt
 zeros-is body at = refl
 
 six-at-requires : tie.Need-six-at-requires
-six-at-requires c κs = c .before .before .pre .1
+six-at-requires c κs = omega (arith, c .before .before .pre .1)
 
 returns : tie.Need-returns
 unfolding directionOk

@@ -10,7 +10,7 @@ use Rattle.reader.proofs.take.take_drift.Statement.{statement}
 use Rattle.reader.proofs.take.take_drift.Tie as tie
 
 six-at-requires : tie.Need-six-at-requires
-six-at-requires c κs = c .before .before .pre
+six-at-requires c κs = omega (arith, c .before .before .pre)
 
 returns : tie.Need-returns
 unfolding driftOk

@@ -9,10 +9,10 @@ use Rattle.reader.proofs.take.take_row.Statement.{statement}
 use Rattle.reader.proofs.take.take_row.Tie as tie
 
 fitted-row-requires : tie.Need-fitted-row-requires
-fitted-row-requires c κs = c .before .before .before .before .pre
+fitted-row-requires c κs = omega (arith, c .before .before .before .before .pre)
 
 six-at-requires : tie.Need-six-at-requires
-six-at-requires c κs = c .before .before .before .before .pre
+six-at-requires c κs = omega (arith, c .before .before .before .before .pre)
 
 -- the row number is a byte
 store-row-requires : tie.Need-store-row-requires
