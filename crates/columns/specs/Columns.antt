@@ -1,15 +1,14 @@
--- File 3, File 7 and Refusals 16: the six entries of a body, and that those beyond n are zero. Definitions only. Assumes nothing.
-use mathlib.Core.Bool.{Bool, true, false, cond, not, _||_}
+-- File 3, File 7 and Refusals 16: the six entries of a body, and that those beyond n are zero. Definitions only. Which records have
+-- entries, where the first of them stands and how many bytes each has, is the table's (records *Kinds*). Assumes nothing.
+use mathlib.Core.Bool.{Bool, cond, _||_}
 use mathlib.Core.List.{List}
 use Prim.Native.Nat.{ℕ, _+_, _*_}
 use lib.Dec.{eqb, ltb}
 use lib.IntN.{ℤ, natAbs}
 use Rattle.integers.specs.Sums.{allBelow}
 use Rattle.coefficients.specs.Binary64.{isZero}
-use Rattle.records.specs.declared.order.Part.{Part}
-use Rattle.records.specs.declared.order.Part.the-variants.{Head, Row, Drift, Initial, Input, Direction, Guard, End}
+use Rattle.records.specs.declared.kinds.Layout.{Layout}
 use Rattle.records.specs.Numbers.{littleEndian, signedAt}
-use Rattle.records.specs.Order.{partOf}
 
 -- ---- the entries
 
@@ -17,46 +16,22 @@ use Rattle.records.specs.Order.{partOf}
 abbrev pub entryAt : List ℕ → ℕ → ℕ → ℤ
 entryAt body at i = signedAt 4 body (at + 4 * i)
 
--- File 3: entry i of a scaled row, and the 64 bits of entry i of a fitted row. The row's number stands before them.
-abbrev pub scaledAt : List ℕ → ℕ → ℤ
-scaledAt body i = entryAt body 1 i
+-- File 3: an entry of 8 bytes is fitted; these are its 64 bits.
+abbrev pub fittedWidth : ℕ
+fittedWidth = 8
 
-abbrev pub bitsAt : List ℕ → ℕ → ℕ
-bitsAt body i = littleEndian 8 body (1 + 8 * i)
-
--- ---- which records have them
-
--- File 3: a row, the drift, a point and a direction have six entries; a head, a guard and the end have none.
-abbrev pub hasEntries : Part → Bool
-hasEntries Head = false
-hasEntries Row = true
-hasEntries Drift = true
-hasEntries Initial = true
-hasEntries Input = true
-hasEntries Direction = true
-hasEntries Guard = false
-hasEntries End = false
-
--- File 3: the offset of the first entry in a body. Before those of a row stands its number.
-abbrev pub firstEntry : Part → ℕ
-firstEntry Head = 0
-firstEntry Row = 1
-firstEntry Drift = 0
-firstEntry Initial = 0
-firstEntry Input = 0
-firstEntry Direction = 0
-firstEntry Guard = 0
-firstEntry End = 0
+abbrev pub bitsAt : List ℕ → ℕ → ℕ → ℕ
+bitsAt body at i = littleEndian 8 body (at + 8 * i)
 
 -- ---- those beyond n
 
 abbrev pub entryZero : List ℕ → ℕ → ℕ → Bool
 entryZero body at i = eqb (natAbs (entryAt body at i)) 0
 
--- Entry i is zero. Of a fitted row, kind 03, either zero is.
+-- Entry i is zero, by the bytes of an entry. Of a fitted one either zero is.
 abbrev pub columnZero : ℕ → ℕ → List ℕ → ℕ → Bool
-columnZero at kind body i = cond (eqb kind 0x03) (isZero (bitsAt body i)) (entryZero body at i)
+columnZero at width body i = cond (eqb width fittedWidth) (isZero (bitsAt body at i)) (entryZero body at i)
 
 -- Refusals 16 does not apply: each of the six entries, if there are any, is one of the first n, or zero.
-unfoldable pub unusedZero : ℕ → ℕ → List ℕ → Bool
-unusedZero n kind body = not (hasEntries (partOf kind)) || allBelow 6 (λ i. ltb i n || columnZero (firstEntry (partOf kind)) kind body i)
+unfoldable pub unusedZero : ℕ → Layout → List ℕ → Bool
+unusedZero n l body = eqb (l .width) 0 || allBelow 6 (λ i. ltb i n || columnZero (l .first) (l .width) body i)

@@ -1,45 +1,16 @@
-// The columns of a body that a model does not use (File 7): whether the entries beyond n of a row, drift, point or direction are zero.
+// The columns of a body that a model does not use (File 7): whether the entries beyond n are zero, of whatever record has entries.
 // Where one is not, the record is refused by 16. No binary64 number is compared: a zero is told by its bits.
 //
-// No public function has a `requires`: any n, kind and bytes get their answer.
-use records::order::Part;
-use records::order::part_of;
+// No public function has a `requires`: any n, layout and bytes get their answer.
+use records::kinds::Layout;
 ghost use mathlib.Core.Path.{_≡_};
-ghost use Prim.Native.Nat.{_≤_, _<_};
+ghost use Prim.Native.Nat.{_<_};
+ghost use lib.ListN.{length};
 ghost use Rattle.coefficients.specs.Binary64.{isZero};
-ghost use Rattle.columns.specs.Columns.{hasEntries, firstEntry, columnZero, unusedZero};
+ghost use Rattle.columns.specs.Columns.{columnZero, unusedZero};
 
-// File 3. A record of this part has six entries.
-fn has_entries(part: Part) -> bool
-    ensures { λ b. ⌜ b ≡ hasEntries part ⌝ }
-{
-    match part {
-        Part::Head => false,
-        Part::Row => true,
-        Part::Drift => true,
-        Part::Initial => true,
-        Part::Input => true,
-        Part::Direction => true,
-        Part::Guard => false,
-        Part::End => false,
-    }
-}
-
-// File 3. The offset of the first entry in a body of this part: behind the number of a row.
-fn first_entry(part: Part) -> usize
-    ensures { λ r. ⌜ r ≡ firstEntry part ⌝ }
-{
-    match part {
-        Part::Head => 0,
-        Part::Row => 1,
-        Part::Drift => 0,
-        Part::Initial => 0,
-        Part::Input => 0,
-        Part::Direction => 0,
-        Part::Guard => 0,
-        Part::End => 0,
-    }
-}
+// File 3. The bytes of a fitted entry.
+pub const FITTED_WIDTH: usize = 8;
 
 // File 11. The bits are those of a zero, of either sign: none but the sign is set.
 fn is_zero(bits: u64) -> bool
@@ -48,30 +19,34 @@ fn is_zero(bits: u64) -> bool
     bits % 0x8000_0000_0000_0000 == 0
 }
 
-// Entry i of a body is zero, its entries being of 4 bytes from the offset `at` on or, of kind 03, fitted.
-fn column_zero(at: usize, kind: u8, body: &[u8], i: usize) -> bool
-    requires { ⌜ at ≤ 1 ⌝ }
+// Entry i of a body is zero, its entries being of so many bytes from the offset `first` on. A fitted one has either zero.
+fn column_zero(first: usize, width: usize, body: &[u8], i: usize) -> bool
+    requires { ⌜ first < length (now body) ⌝ }
     requires { ⌜ i < 6 ⌝ }
-    ensures { λ b. ⌜ b ≡ columnZero at kind (now (body .entry)) i ⌝ }
+    ensures { λ b. ⌜ b ≡ columnZero first width (now (body .entry)) i ⌝ }
 {
-    if kind == 0x03 {
-        return is_zero(records::u64_at(body, 1 + 8 * i));
+    if width == FITTED_WIDTH {
+        return is_zero(records::u64_at(body, first + 8 * i));
     }
-    records::i32_at(body, at + 4 * i) == 0
+    records::i32_at(body, first + 4 * i) == 0
 }
 
-// Routines 19. The entries beyond the first n of a body are zero, or it has no entries.
-pub fn unused_zero(n: usize, kind: u8, body: &[u8]) -> bool
-    ensures { λ b. ⌜ b ≡ unusedZero n kind (now (body .entry)) ⌝ }
+// Routines 19. The entries beyond the first n of a body of this layout are zero, or it has no entries.
+pub fn unused_zero(n: usize, layout: Layout, body: &[u8]) -> bool
+    ensures { λ b. ⌜ b ≡ unusedZero n layout (now (body .entry)) ⌝ }
 {
-    let part = part_of(kind);
-    if !has_entries(part) {
+    let first = layout.first;
+    let width = layout.width;
+    if width == 0 {
         return true;
     }
-    let at = first_entry(part);
+    // Bytes beyond the end count as 0.
+    if body.len() <= first {
+        return true;
+    }
     let mut i = n;
     while i < 6 {
-        if !column_zero(at, kind, body, i) {
+        if !column_zero(first, width, body, i) {
             return false;
         }
         i += 1;

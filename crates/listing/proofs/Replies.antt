@@ -16,7 +16,8 @@ use Rattle.records.specs.Records.{recordAt}
 use Rattle.records.proofs.RecordAt.{Reaches}
 use Rattle.reader.specs.Refusals.{refusal}
 use Rattle.reader.specs.Reading.{stopFor, readModel}
-use Rattle.reader.specs.NoInput.{NoInputAt, zeroCorners, putIn, movedStatus}
+use Rattle.reader.specs.LeftOut.{putIn, movedStatus}
+use Rattle.reader.specs.NoInput.{NoInputAt, zeroCorners}
 use Rattle.reader.specs.NoDrift.{NoDriftAt, zeroDrift}
 use Rattle.reader.specs.declared.Reading.{Reading}
 use Rattle.reader.specs.declared.Status.{Status}

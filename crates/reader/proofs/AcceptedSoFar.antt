@@ -5,7 +5,7 @@ use mathlib.Core.Bool.{Bool, true, false, cond, _&&_, _||_}
 use mathlib.Core.List.{List}
 use Prim.Native.Nat.{ℕ, _+_, _*_, _≤_, _<_}
 use native.Mathlib.Omega.{arith}
-use borrow.Author.Tests.{le-leb, leb-true, ltb-true, eqb-true, eqb-false, leb-false}
+use borrow.Author.Tests.{le-leb, leb-true, ltb-true, eqb-true, eqb-false}
 use lib.Dec.{leb, ltb, eqb}
 use lib.ListN.{length-set, replicate}
 use lib.IntN.{natAbs}
@@ -25,31 +25,33 @@ use Rattle.records.specs.Numbers.{littleEndian, signedAt}
 use Rattle.limits.specs.Limits.{directionLimit, stepsOk}
 use Rattle.reachability.specs.declared.sets.Shape.the-variants.{Box}
 use Rattle.reachability.specs.Sets.{points, orderedOk, zeroBox}
-use Rattle.records.specs.declared.order.Part.{Part}
-use Rattle.records.specs.declared.order.Part.the-variants.{Head, Row, Drift, Initial, Input, Direction, Guard, End}
+use Rattle.records.specs.declared.kinds.Part.{Part}
+use Rattle.records.specs.declared.kinds.Part.the-variants.{Head, Row, Drift, Initial, Input, Direction, Guard, End}
 use Rattle.reader.specs.declared.state.State.{State}
-use Rattle.records.specs.Order.{partOf}
-use Rattle.columns.proofs.ColumnLaws.{partZero, unusedZero-at}
-use Rattle.reader.specs.Order.{mostOf}
-use Rattle.reader.specs.Models.{zeros, blankSet, blankModel, start, firstByte, usualSteps, defaultSteps, rowAnswer, rowPlace, withHead, withRow, withDrift, withPoint, withSetPoint, inputAt, withDirection, withGuard}
+use Rattle.records.specs.declared.kinds.Layout.{Layout}
+use Rattle.records.specs.Places.{startPlace, rowsPlace, matrixPlace, driftPlace, initialPlace, inputPlace, directionPlace, guardPlace}
+use Rattle.records.specs.Kinds.{layoutOf, partOf}
+use Rattle.records.proofs.KnownKinds.{most-le}
+use Rattle.columns.specs.Columns.{unusedZero}
+use Rattle.reader.specs.Models.{zeros, blankSet, blankModel, start, firstByte, sixAt, usualSteps, defaultSteps, rowAnswer, rowPlace, withHead, withRow, withDrift, withPoint, withSetPoint, inputAt, withDirection, withGuard}
 use Rattle.reader.specs.Values.{headOk, driftOk, pointOk, enteringPointOk, directionOk, guardOk, valueNumber, bodyNumber}
 use Rattle.reader.specs.Refusals.{countOf, kindNumber, storedIn, stored}
 use Rattle.reader.proofs.BodyNumbers.{passed, bodyNumber-zero}
-use Rattle.reader.proofs.order.KindNumbers.{kindNumber-zero, lt-of-mostOf}
+use Rattle.reader.proofs.order.KindNumbers.{count-few, kindNumber-zero}
 use Rattle.reader.proofs.RowAnswers.{rowAnswer-ind}
 use Rattle.reader.proofs.RowsOfSix.{vector-zeros, zeros-blank, small-blank, nonzero-none, guarded-more, guarded-set}
-use Rattle.reader.proofs.OrderFacts.{isDone, pointMay, point-low, point-high, fact, order-fact, isDone-late, isDone-early}
+use Rattle.reader.proofs.OrderFacts.{isDone, isDone-late, isDone-early, isPlain, pointFact, PointOf, point-of, point-low, point-high, fact, order-fact}
 use Rattle.reader.proofs.PartsSoFar.{Beyond, sixAt-beyond, FrameAt, n-least, frame-on, frame-row, SetAt, set-early, set-late, set-point, DriftAt, drift-early, drift-blank, drift-new, drift-point, drift-late, drift-zero-box, DirectionsAt, directions-early, directions-late, directions-more, GuardsAt}
 
 -- ---- the whole state
 
 pub record AcceptedSoFar (s : State) : Type 0 where
-  pub first : s .last ≡ 0 → s ≡ start
-  pub frame : FrameAt (s .last) (s .rows) (s .model .n) (s .model .steps) (s .model .motion .matrix)
-  pub initial : SetAt 0x10 (s .last) (s .model .n) (s .model .initial)
-  pub input : SetAt 0x20 (s .last) (s .model .n) (s .model .input)
-  pub drift : DriftAt (s .last) (s .model .n) (s .model .input) (s .model .drift)
-  pub directions : DirectionsAt (s .last) (s .model .n) (s .model .questions .directions) (s .model .questions .entries)
+  pub first : s .place ≡ startPlace → s ≡ start
+  pub frame : FrameAt (s .place) (s .rows) (s .model .n) (s .model .steps) (s .model .motion .matrix)
+  pub initial : SetAt initialPlace (s .place) (s .model .n) (s .model .initial)
+  pub input : SetAt inputPlace (s .place) (s .model .n) (s .model .input)
+  pub drift : DriftAt (s .place) (s .model .n) (s .model .input) (s .model .drift)
+  pub directions : DirectionsAt (s .place) (s .model .n) (s .model .questions .directions) (s .model .questions .entries)
   pub guards : GuardsAt (s .model .questions .directions) (s .model .questions .guards) (s .model .questions .watched) (s .model .questions .levels)
 
 -- corners of zeros are in order
@@ -62,26 +64,26 @@ blank-set base place n h =
     record {
       held = record { length-is = refl; outside = zeros-blank 96 0 n; most = omega arith };
       none = λ l. refl;
-      shaped = λ l m. absurd (omega arith);
-      one = λ e. absurd (omega arith);
-      some = λ l m. absurd (omega arith);
+      box = λ e. absurd (omega arith);
+      zonotope = λ l m. absurd (omega arith);
+      vertices = λ e. absurd (omega arith);
       done = λ t. absurd (isDone-early base place (omega arith) t);
     }
 
 -- File 10: behind a direction, the input set that no record told.
-zero-box : (place n : ℕ) → 0x24 < place → SetAt 0x20 place n zeroBox
+zero-box : (place n : ℕ) → inputPlace + 4 < place → SetAt inputPlace place n zeroBox
 unfolding zeros zeroBox allBelow
 zero-box place n h =
     record {
       held = record { length-is = refl; outside = zeros-blank 96 2 n; most = omega arith };
       none = λ l. absurd (omega arith);
-      shaped = λ l m. absurd (omega arith);
-      one = λ e. absurd (omega arith);
-      some = λ l m. absurd (omega arith);
+      box = λ e. absurd (omega arith);
+      zonotope = λ l m. absurd (omega arith);
+      vertices = λ e. absurd (omega arith);
       done = λ t. ap₂ _&&_ (zeroOutside-of 2 n (zeros 96) (zeros-blank 96 2 n)) (ordered-zeros n);
     }
 
-blank-directions : (place n : ℕ) → place < 0x30 → DirectionsAt place n 0 (zeros 96)
+blank-directions : (place n : ℕ) → place < directionPlace → DirectionsAt place n 0 (zeros 96)
 unfolding zeros
 blank-directions place n h =
     record {
@@ -116,10 +118,10 @@ acceptedSoFar-start =
             matrix-zeros = zeros-blank 36 0 0;
             matrix-small = small-blank entryLimit 36;
           };
-      initial = blank-set 0x10 0 0 (omega arith);
-      input = blank-set 0x20 0 0 (omega arith);
-      drift = drift-blank 0 (omega arith);
-      directions = blank-directions 0 0 (omega arith);
+      initial = blank-set initialPlace startPlace 0 (omega arith);
+      input = blank-set inputPlace startPlace 0 (omega arith);
+      drift = drift-blank startPlace (omega arith);
+      directions = blank-directions startPlace 0 (omega arith);
       guards = blank-guards;
     }
 
@@ -132,9 +134,9 @@ default-ok k h = split (eqb k 0) refl
     split true e = refl
     split false e = ap₂ _&&_ (le-leb 1 k (omega (arith, eqb-false k 0 e))) h
 
-so-far-head : (body : List ℕ) → headOk body ≡ true → AcceptedSoFar (withHead start body)
+so-far-head : (l : Layout) (body : List ℕ) → l .place ≡ rowsPlace → headOk body ≡ true → AcceptedSoFar (withHead start l body)
 unfolding zeros start blankModel withHead
-so-far-head body ok =
+so-far-head l body next ok =
     let n = firstByte body in
     let both = and-true (dimensionOk n) (leb (littleEndian 2 body 1) 256) ok in
     record {
@@ -149,129 +151,124 @@ so-far-head body ok =
             matrix-zeros = zeros-blank 36 0 n;
             matrix-small = small-blank entryLimit 36;
           };
-      initial = blank-set 0x10 1 n (omega arith);
-      input = blank-set 0x20 1 n (omega arith);
-      drift = drift-blank 1 (omega arith);
-      directions = blank-directions 1 n (omega arith);
+      initial = blank-set initialPlace (l .place) n (omega arith);
+      input = blank-set inputPlace (l .place) n (omega arith);
+      drift = drift-blank (l .place) (omega arith);
+      directions = blank-directions (l .place) n (omega arith);
       guards = blank-guards;
     }
 
-row-place-range : (rows n : ℕ) → (0 < rowPlace rows n) × (rowPlace rows n < 3)
-row-place-range rows n = split (ltb rows n)
+row-place-range : (l : Layout) (rows n : ℕ) → l .place ≡ matrixPlace → (startPlace < rowPlace l rows n) × (rowPlace l rows n < driftPlace)
+row-place-range l rows n next = split (ltb rows n)
   where
-    split : (b : Bool) → (0 < cond b 0x01 0x02) × (cond b 0x01 0x02 < 3)
+    split : (b : Bool) → (startPlace < cond b rowsPlace (l .place)) × (cond b rowsPlace (l .place) < driftPlace)
     split true = (omega arith, omega arith)
     split false = (omega arith, omega arith)
 
 -- Limits 3: what a row stores, scaled or fitted, is within the limit
-answer-within : (kind : ℕ) (body : List ℕ) (i : ℕ) → natAbs (entryValue (rowAnswer kind body i)) ≤ entryLimit
+answer-within : (l : Layout) (body : List ℕ) (i : ℕ) → natAbs (entryValue (rowAnswer l body i)) ≤ entryLimit
 answer-within =
     rowAnswer-ind (λ a. natAbs (entryValue a) ≤ entryLimit)
     (λ bits. entryOfBits-ind (λ a. natAbs (entryValue a) ≤ entryLimit) bits (λ h. h) (omega arith))
     (λ entry. scaledEntry-ind (λ a. natAbs (entryValue a) ≤ entryLimit) entry (λ h. h) (omega arith))
 
-module _ (s : State) (kind : ℕ) (body : List ℕ) (g : AcceptedSoFar s) where
-  so-far-row : s .last ≡ 1 → AcceptedSoFar (withRow s kind body)
+module _ (s : State) (l : Layout) (body : List ℕ) (g : AcceptedSoFar s) where
+  so-far-row : s .place ≡ rowsPlace → l .place ≡ matrixPlace → AcceptedSoFar (withRow s l body)
   unfolding withRow
-  so-far-row e =
-      let r = row-place-range (s .rows + 1) (s .model .n) in
-      let p = rowPlace (s .rows + 1) (s .model .n) in
+  so-far-row e next =
+      let r = row-place-range l (s .rows + 1) (s .model .n) next in
+      let p = rowPlace l (s .rows + 1) (s .model .n) in
       record {
         first = λ z. absurd (omega (arith, r .0));
-        frame = frame-row (g .frame) (storedSix (s .model .n) (rowAnswer kind body)) e (storedSix-within (s .model .n) (rowAnswer kind body) (answer-within kind body)) (storedSix-beyond (s .model .n) (rowAnswer kind body));
+        frame = frame-row (g .frame) l (storedSix (s .model .n) (rowAnswer l body)) e next (storedSix-within (s .model .n) (rowAnswer l body) (answer-within l body)) (storedSix-beyond (s .model .n) (rowAnswer l body));
         initial = set-early (g .initial) p (omega arith) (omega (arith, r .1));
         input = set-early (g .input) p (omega arith) (omega (arith, r .1));
-        drift = drift-early p (omega (arith, r .1)) (λ l. g .drift .none (omega arith)) (g .drift .beyond) (g .drift .small);
+        drift = drift-early p (omega (arith, r .1)) (λ k. g .drift .none (omega arith)) (g .drift .beyond) (g .drift .small);
         directions = directions-early (g .directions) p (omega (arith, r .1));
         guards = g .guards;
       }
 
-  so-far-drift : kind ≡ 0x05 → s .last ≡ 0x02 → Beyond (s .model .n) body → driftOk body ≡ true → AcceptedSoFar (withDrift s kind body)
+  so-far-drift : s .place ≡ matrixPlace → l .place ≡ driftPlace → Beyond (s .model .n) (sixAt body (l .first)) → driftOk l body ≡ true → AcceptedSoFar (withDrift s l body)
   unfolding withDrift
-  so-far-drift k place beyond ok =
+  so-far-drift e next beyond ok =
       record {
         first = λ z. absurd (omega arith);
-        frame = frame-on (g .frame) kind (omega arith) (omega arith);
-        initial = set-early (g .initial) kind (omega arith) (omega arith);
-        input = set-early (g .input) kind (omega arith) (omega arith);
-        drift = drift-new kind body (omega arith) (omega arith) beyond ok;
-        directions = directions-early (g .directions) kind (omega arith);
+        frame = frame-on (g .frame) (l .place) (omega arith) (omega arith);
+        initial = set-early (g .initial) (l .place) (omega arith) (omega arith);
+        input = set-early (g .input) (l .place) (omega arith) (omega arith);
+        drift = drift-new l body (omega arith) (omega arith) beyond ok;
+        directions = directions-early (g .directions) (l .place) (omega arith);
         guards = g .guards;
       }
 
-  so-far-initial : pointMay 0x10 (s .last) kind ≡ true → leb 0x02 (s .last) ≡ true → ltb (s .last) 0x20 ≡ true → s .model .initial .count < mostOf kind → Beyond (s .model .n) body → pointOk (s .model .n) kind (withPoint (s .model .initial) kind body) ≡ true → AcceptedSoFar (withSetPoint false s kind body)
+  so-far-initial : PointOf initialPlace (s .place) l → matrixPlace ≤ s .place → s .place < inputPlace → s .model .initial .count < l .most → Beyond (s .model .n) (sixAt body (l .first)) → pointOk (s .model .n) (l .point) (withPoint (s .model .initial) l body) ≡ true → AcceptedSoFar (withSetPoint false s l body)
   unfolding withSetPoint
-  so-far-initial may late early few beyond ok =
-      let l = leb-true 0x02 (s .last) late in
-      let h = ltb-true (s .last) 0x20 early in
-      let p = set-point 0x10 (s .last) (s .model .n) (s .model .initial) kind body (g .initial) refl may few beyond ok in
-      let a = point-low 0x10 (s .last) kind may in
-      let b = point-high 0x10 (s .last) kind may in
+  so-far-initial of late early few beyond ok =
+      let a = point-low of in
+      let b = point-high of in
       record {
         first = λ z. absurd (omega arith);
-        frame = frame-on (g .frame) kind (omega arith) (omega arith);
-        initial = p;
-        input = set-early (g .input) kind h (omega arith);
-        drift = drift-early kind (omega arith) (λ k. absurd (omega arith)) (g .drift .beyond) (g .drift .small);
-        directions = directions-early (g .directions) kind (omega arith);
+        frame = frame-on (g .frame) (l .place) (omega arith) (omega arith);
+        initial = set-point initialPlace (s .place) (s .model .n) (s .model .initial) l body (g .initial) of few beyond ok;
+        input = set-early (g .input) (l .place) early (omega arith);
+        drift = drift-early (l .place) (omega arith) (λ k. absurd (omega arith)) (g .drift .beyond) (g .drift .small);
+        directions = directions-early (g .directions) (l .place) (omega arith);
         guards = g .guards;
       }
 
-  so-far-input : pointMay 0x20 (s .last) kind ≡ true → isDone 0x10 (s .last) ≡ true → leb 0x02 (s .last) ≡ true → s .model .input .count < mostOf kind → Beyond (s .model .n) body → pointOk (s .model .n) kind (withPoint (s .model .input) kind body) ≡ true → enteringPointOk true (withPoint (s .model .input) kind body) (s .model .drift) ≡ true → AcceptedSoFar (withSetPoint true s kind body)
+  so-far-input : PointOf inputPlace (s .place) l → isDone initialPlace (s .place) ≡ true → matrixPlace ≤ s .place → s .model .input .count < l .most → Beyond (s .model .n) (sixAt body (l .first)) → pointOk (s .model .n) (l .point) (withPoint (s .model .input) l body) ≡ true → enteringPointOk true (withPoint (s .model .input) l body) (s .model .drift) ≡ true → AcceptedSoFar (withSetPoint true s l body)
   unfolding withSetPoint
-  so-far-input may done late few beyond ok enters =
-      let l = leb-true 0x02 (s .last) late in
-      let p = set-point 0x20 (s .last) (s .model .n) (s .model .input) kind body (g .input) refl may few beyond ok in
-      let a = point-low 0x20 (s .last) kind may in
-      let b = point-high 0x20 (s .last) kind may in
+  so-far-input of done late few beyond ok enters =
+      let a = point-low of in
+      let b = point-high of in
       record {
         first = λ z. absurd (omega arith);
-        frame = frame-on (g .frame) kind (omega arith) (omega arith);
-        initial = set-late (g .initial) kind (omega arith) done;
-        input = p;
-        drift = drift-point (g .drift) kind body (omega arith) enters;
-        directions = directions-early (g .directions) kind (omega arith);
+        frame = frame-on (g .frame) (l .place) (omega arith) (omega arith);
+        initial = set-late (g .initial) (l .place) (omega arith) done;
+        input = set-point inputPlace (s .place) (s .model .n) (s .model .input) l body (g .input) of few beyond ok;
+        drift = drift-point (g .drift) l body (omega arith) enters;
+        directions = directions-early (g .directions) (l .place) (omega arith);
         guards = g .guards;
       }
 
   -- the input set that a direction finds or, straight after the initial set, leaves
-  so-far-input-at : 0x24 < kind → ltb (s .last) 0x20 || isDone 0x20 (s .last) ≡ true → SetAt 0x20 kind (s .model .n) (inputAt (s .last) (s .model))
-  so-far-input-at h t = split (ltb (s .last) 0x20) refl t
+  so-far-input-at : inputPlace + 4 < l .place → ltb (s .place) inputPlace || isDone inputPlace (s .place) ≡ true → SetAt inputPlace (l .place) (s .model .n) (inputAt (s .place) (s .model))
+  so-far-input-at h t = split (ltb (s .place) inputPlace) refl t
     where
-      split : (b : Bool) → ltb (s .last) 0x20 ≡ b → b || isDone 0x20 (s .last) ≡ true → SetAt 0x20 kind (s .model .n) (cond b zeroBox (s .model .input))
-      split true e t = zero-box kind (s .model .n) h
-      split false e t = set-late (g .input) kind h t
+      split : (b : Bool) → ltb (s .place) inputPlace ≡ b → b || isDone inputPlace (s .place) ≡ true → SetAt inputPlace (l .place) (s .model .n) (cond b zeroBox (s .model .input))
+      split true e t = zero-box (l .place) (s .model .n) h
+      split false e t = set-late (g .input) (l .place) h t
 
-  so-far-drift-at : 0x24 < kind → ltb (s .last) 0x20 || isDone 0x20 (s .last) ≡ true → DriftAt kind (s .model .n) (inputAt (s .last) (s .model)) (s .model .drift)
-  so-far-drift-at h t = split (ltb (s .last) 0x20) t
+  so-far-drift-at : inputPlace + 4 < l .place → ltb (s .place) inputPlace || isDone inputPlace (s .place) ≡ true → DriftAt (l .place) (s .model .n) (inputAt (s .place) (s .model)) (s .model .drift)
+  so-far-drift-at h t = split (ltb (s .place) inputPlace) t
     where
-      split : (b : Bool) → b || isDone 0x20 (s .last) ≡ true → DriftAt kind (s .model .n) (cond b zeroBox (s .model .input)) (s .model .drift)
-      split true t = drift-zero-box (g .drift) kind (omega arith)
-      split false t = drift-late (g .drift) kind (omega arith) t
+      split : (b : Bool) → b || isDone inputPlace (s .place) ≡ true → DriftAt (l .place) (s .model .n) (cond b zeroBox (s .model .input)) (s .model .drift)
+      split true t = drift-zero-box (g .drift) (l .place) (omega arith)
+      split false t = drift-late (g .drift) (l .place) (omega arith) t
 
-  so-far-direction : kind ≡ 0x30 → isDone 0x10 (s .last) ≡ true → 0x02 ≤ s .last → ltb (s .last) 0x20 || isDone 0x20 (s .last) ≡ true → s .model .questions .directions < 16 → Beyond (s .model .n) body → directionOk body ≡ true → AcceptedSoFar (withDirection s kind body)
+  so-far-direction : l .place ≡ directionPlace → isDone initialPlace (s .place) ≡ true → matrixPlace ≤ s .place → ltb (s .place) inputPlace || isDone inputPlace (s .place) ≡ true → s .model .questions .directions < 16 → Beyond (s .model .n) (sixAt body (l .first)) → directionOk l body ≡ true → AcceptedSoFar (withDirection s l body)
   unfolding withDirection
-  so-far-direction k done late input few beyond ok =
+  so-far-direction next done late input few beyond ok =
       record {
         first = λ z. absurd (omega arith);
-        frame = frame-on (g .frame) kind (omega arith) (omega arith);
-        initial = set-late (g .initial) kind (omega arith) done;
+        frame = frame-on (g .frame) (l .place) (omega arith) (omega arith);
+        initial = set-late (g .initial) (l .place) (omega arith) done;
         input = so-far-input-at (omega arith) input;
         drift = so-far-drift-at (omega arith) input;
-        directions = directions-more (g .directions) kind body few beyond ok;
+        directions = directions-more (g .directions) l body few beyond ok;
         guards = record { watched-length = g .guards .watched-length; few = g .guards .few; guarded = guarded-more _ _ _ _ (g .guards .guarded) };
       }
 
-  so-far-guard : kind ≡ 0x40 → 0x30 ≤ s .last → s .model .questions .guards < 16 → guardOk s body ≡ true → AcceptedSoFar (withGuard s kind body)
+  so-far-guard : l .place ≡ guardPlace → directionPlace ≤ s .place → s .model .questions .guards < 16 → guardOk s body ≡ true → AcceptedSoFar (withGuard s l body)
   unfolding withGuard
-  so-far-guard k late few ok =
+  so-far-guard next late few ok =
       record {
         first = λ z. absurd (omega arith);
-        frame = frame-on (g .frame) kind (omega arith) (omega arith);
-        initial = set-late (g .initial) kind (omega arith) (isDone-late 0x10 (s .last) (omega arith));
-        input = set-late (g .input) kind (omega arith) (isDone-late 0x20 (s .last) (omega arith));
-        drift = drift-late (g .drift) kind (omega arith) (isDone-late 0x20 (s .last) (omega arith));
-        directions = directions-late (g .directions) kind late;
+        frame = frame-on (g .frame) (l .place) (omega arith) (omega arith);
+        initial = set-late (g .initial) (l .place) (omega arith) (isDone-late initialPlace (s .place) (omega arith));
+        input = set-late (g .input) (l .place) (omega arith) (isDone-late inputPlace (s .place) (omega arith));
+        drift = drift-late (g .drift) (l .place) (omega arith) (isDone-late inputPlace (s .place) (omega arith));
+        directions = directions-late (g .directions) (l .place) late;
         guards =
             record {
               watched-length = length-set (s .model .questions .watched) (s .model .questions .guards) (firstByte body) ∙ g .guards .watched-length;
@@ -284,41 +281,43 @@ module _ (s : State) (kind : ℕ) (body : List ℕ) (g : AcceptedSoFar s) where
             };
       }
 
-  so-far-part : (p : Part) → fact p (s .last) kind ≡ true → countOf p s < mostOf kind → ((i : ℕ) → s .model .n ≤ i → i < 6 → partZero p kind body i ≡ true) → valueNumber p s kind body ≡ 0 → AcceptedSoFar (storedIn p s kind body)
+  so-far-part : (p : Part) → fact p (s .place) l ≡ true → countOf p s < l .most → l .most ≤ 16 → unusedZero (s .model .n) l body ≡ true → valueNumber p s l body ≡ 0 → AcceptedSoFar (storedIn p s l body)
   unfolding fact
-  so-far-part Head f few beyond z =
-      subst (λ (x : State). AcceptedSoFar (withHead x body)) (sym (g .first (eqb-true (s .last) 0x00 f))) (so-far-head body (passed (headOk body) 4 (omega arith) z))
-  so-far-part Row f few beyond z = so-far-row (eqb-true (s .last) 0x01 f)
-  so-far-part Drift f few beyond z =
-      let both = and-true (eqb kind 0x05) (eqb (s .last) 0x02) f in
-      so-far-drift (eqb-true kind 0x05 (both .0)) (eqb-true (s .last) 0x02 (both .1)) (sixAt-beyond (s .model .n) body beyond) (passed _ 17 (omega arith) z)
-  so-far-part Initial f few beyond z =
-      let a = and-true (pointMay 0x10 (s .last) kind) (leb 0x02 (s .last) && ltb (s .last) 0x20) f in
-      let b = and-true (leb 0x02 (s .last)) (ltb (s .last) 0x20) (a .1) in
-      so-far-initial (a .0) (b .0) (b .1) few (sixAt-beyond (s .model .n) body beyond) (passed _ 6 (omega arith) (firstOf-zero _ _ z .0))
-  so-far-part Input f few beyond z =
-      let a = and-true (pointMay 0x20 (s .last) kind) (isDone 0x10 (s .last) && leb 0x02 (s .last)) f in
-      let b = and-true (isDone 0x10 (s .last)) (leb 0x02 (s .last)) (a .1) in
+  so-far-part Head f few most unused z =
+      let both = and-true (eqb (s .place) startPlace) (eqb (l .place) rowsPlace) f in
+      subst (λ (x : State). AcceptedSoFar (withHead x l body)) (sym (g .first (eqb-true (s .place) startPlace (both .0)))) (so-far-head l body (eqb-true (l .place) rowsPlace (both .1)) (passed (headOk body) 4 (omega arith) z))
+  so-far-part Row f few most unused z =
+      let both = and-true (eqb (s .place) rowsPlace) (eqb (l .place) matrixPlace) f in
+      so-far-row (eqb-true (s .place) rowsPlace (both .0)) (eqb-true (l .place) matrixPlace (both .1))
+  so-far-part Drift f few most unused z =
+      let a = and-true (eqb (s .place) matrixPlace) (eqb (l .place) driftPlace && isPlain l) f in
+      let b = and-true (eqb (l .place) driftPlace) (isPlain l) (a .1) in
+      so-far-drift (eqb-true (s .place) matrixPlace (a .0)) (eqb-true (l .place) driftPlace (b .0)) (sixAt-beyond (s .model .n) l body (eqb-true (l .width) 4 (b .1)) unused) (passed _ 17 (omega arith) z)
+  so-far-part Initial f few most unused z =
+      let a = and-true (pointFact initialPlace (s .place) l) (leb matrixPlace (s .place) && ltb (s .place) inputPlace) f in
+      let b = and-true (leb matrixPlace (s .place)) (ltb (s .place) inputPlace) (a .1) in
+      let of = point-of initialPlace (s .place) l (a .0) in
+      so-far-initial of (leb-true matrixPlace (s .place) (b .0)) (ltb-true (s .place) inputPlace (b .1)) few (sixAt-beyond (s .model .n) l body (of .plain) unused) (passed _ 6 (omega arith) (firstOf-zero _ _ z .0))
+  so-far-part Input f few most unused z =
+      let a = and-true (pointFact inputPlace (s .place) l) (isDone initialPlace (s .place) && leb matrixPlace (s .place)) f in
+      let b = and-true (isDone initialPlace (s .place)) (leb matrixPlace (s .place)) (a .1) in
+      let of = point-of inputPlace (s .place) l (a .0) in
       let numbers = firstOf-zero _ _ z in
-      so-far-input (a .0) (b .0) (b .1) few (sixAt-beyond (s .model .n) body beyond) (passed _ 6 (omega arith) (numbers .0)) (passed _ 17 (omega arith) (numbers .1))
-  so-far-part Direction f few beyond z =
-      let a = and-true (eqb kind 0x30) ((isDone 0x10 (s .last) && leb 0x02 (s .last)) && (ltb (s .last) 0x20 || isDone 0x20 (s .last))) f in
-      let b = and-true (isDone 0x10 (s .last) && leb 0x02 (s .last)) (ltb (s .last) 0x20 || isDone 0x20 (s .last)) (a .1) in
-      let d = and-true (isDone 0x10 (s .last)) (leb 0x02 (s .last)) (b .0) in
-      so-far-direction (eqb-true kind 0x30 (a .0)) (d .0) (leb-true 0x02 (s .last) (d .1)) (b .1) (lt-of-mostOf kind few) (sixAt-beyond (s .model .n) body beyond) (passed _ 7 (omega arith) z)
-  so-far-part Guard f few beyond z =
-      let a = and-true (eqb kind 0x40) (leb 0x30 (s .last)) f in
-      so-far-guard (eqb-true kind 0x40 (a .0)) (leb-true 0x30 (s .last) (a .1)) (lt-of-mostOf kind few) (passed _ 8 (omega arith) z)
-  so-far-part End f few beyond z = g
+      so-far-input of (b .0) (leb-true matrixPlace (s .place) (b .1)) few (sixAt-beyond (s .model .n) l body (of .plain) unused) (passed _ 6 (omega arith) (numbers .0)) (passed _ 17 (omega arith) (numbers .1))
+  so-far-part Direction f few most unused z =
+      let a = and-true (eqb (l .place) directionPlace && isPlain l) ((isDone initialPlace (s .place) && leb matrixPlace (s .place)) && (ltb (s .place) inputPlace || isDone inputPlace (s .place))) f in
+      let e = and-true (eqb (l .place) directionPlace) (isPlain l) (a .0) in
+      let b = and-true (isDone initialPlace (s .place) && leb matrixPlace (s .place)) (ltb (s .place) inputPlace || isDone inputPlace (s .place)) (a .1) in
+      let d = and-true (isDone initialPlace (s .place)) (leb matrixPlace (s .place)) (b .0) in
+      so-far-direction (eqb-true (l .place) directionPlace (e .0)) (d .0) (leb-true matrixPlace (s .place) (d .1)) (b .1) (omega (arith, few, most)) (sixAt-beyond (s .model .n) l body (eqb-true (l .width) 4 (e .1)) unused) (passed _ 7 (omega arith) z)
+  so-far-part Guard f few most unused z =
+      let a = and-true (eqb (l .place) guardPlace) (leb directionPlace (s .place)) f in
+      so-far-guard (eqb-true (l .place) guardPlace (a .0)) (leb-true directionPlace (s .place) (a .1)) (omega (arith, few, most)) (passed _ 8 (omega arith) z)
+  so-far-part End f few most unused z = g
 
-  pub acceptedSoFar-stored : kindNumber s kind ≡ 0 → bodyNumber s kind body ≡ 0 → AcceptedSoFar (stored s kind body)
-  unfolding stored
-  acceptedSoFar-stored k z =
-      let both = kindNumber-zero s kind k in
-      let numbers = bodyNumber-zero s kind body z in
-      so-far-part (partOf kind) (order-fact (s .last) kind (both .0)) (fewer (countOf (partOf kind) s) (mostOf kind) (both .1))
-      (unusedZero-at (s .model .n) kind body (numbers .0) (partOf kind) refl)
-      (numbers .1)
-    where
-      fewer : (a b : ℕ) → leb b a ≡ false → a < b
-      fewer a b e = omega (arith, leb-false b a e)
+pub acceptedSoFar-stored : (s : State) (kind : ℕ) (body : List ℕ) → AcceptedSoFar s → kindNumber s kind ≡ 0 → bodyNumber s kind body ≡ 0 → AcceptedSoFar (stored s kind body)
+unfolding stored
+acceptedSoFar-stored s kind body g k z =
+    let both = kindNumber-zero s kind k in
+    let numbers = bodyNumber-zero s kind body z in
+    so-far-part s (layoutOf kind) body g (partOf kind) (order-fact (s .place) kind (both .0)) (count-few s (layoutOf kind) (both .1)) (most-le kind) (numbers .0) (numbers .1)

@@ -14,13 +14,15 @@ use Rattle.coefficients.specs.Entries.{entryNumber}
 use Rattle.coefficients.proofs.RowLaws.{entriesNumber-ind, scaledEntry-ind, entryOfBits-ind}
 use Rattle.records.specs.Records.{Record, whole, short, unknown, nothing, recordAt}
 use Rattle.records.proofs.RecordAt.{whole-of}
-use Rattle.records.specs.declared.order.Part.{Part}
-use Rattle.records.specs.declared.order.Part.the-variants.{Head, Row, Drift, Initial, Input, Direction, Guard, End}
+use Rattle.records.specs.declared.kinds.Layout.{Layout}
+use Rattle.records.specs.declared.kinds.Point.{Point}
+use Rattle.records.specs.declared.kinds.Part.{Part}
+use Rattle.records.specs.declared.kinds.Part.the-variants.{Head, Row, Drift, Initial, Input, Direction, Guard, End}
 use Rattle.reachability.specs.declared.sets.Set.{Set}
 use Rattle.columns.specs.Columns.{unusedZero}
 use Rattle.reader.specs.declared.Status.the-variants.{Refused}
 use Rattle.reader.specs.declared.state.State.{State}
-use Rattle.records.specs.Order.{partOf}
+use Rattle.records.specs.Kinds.{layoutOf, partOf}
 use Rattle.reader.specs.Models.{start, firstByte, rowAnswer, withPoint}
 use Rattle.reader.specs.Values.{headOk, driftOk, pointOk, enteringPointOk, directionOk, guardOk, unless, rowNumber, pointNumberOf, valueNumber, bodyNumber}
 use Rattle.reader.specs.Refusals.{kindNumber, refusal}
@@ -40,37 +42,37 @@ unless-known : (ok : Bool) (number : ℕ) → FileNumber number → FileNumber (
 unless-known true number h = inl (omega arith)
 unless-known false number h = h
 
-answer-known : (kind : ℕ) (body : List ℕ) (i : ℕ) → FileNumber (entryNumber (rowAnswer kind body i))
+answer-known : (l : Layout) (body : List ℕ) (i : ℕ) → FileNumber (entryNumber (rowAnswer l body i))
 answer-known =
     rowAnswer-ind (λ a. FileNumber (entryNumber a))
     (λ bits. entryOfBits-ind (λ a. FileNumber (entryNumber a)) bits (λ h. inl (omega arith)) (inr (omega arith, omega arith)))
     (λ entry. scaledEntry-ind (λ a. FileNumber (entryNumber a)) entry (λ h. inl (omega arith)) (inl (omega arith)))
 
-rowNumber-known : (s : State) (kind : ℕ) (body : List ℕ) → FileNumber (rowNumber s kind body)
+rowNumber-known : (s : State) (l : Layout) (body : List ℕ) → FileNumber (rowNumber s l body)
 unfolding rowNumber
-rowNumber-known s kind body =
+rowNumber-known s l body =
     firstOf-ind FileNumber
     (unless-known (eqb (firstByte body) (s .rows)) 5 (inl (omega arith)))
-    (entriesNumber-ind FileNumber (s .model .n) (rowAnswer kind body) (inl (omega arith)) (answer-known kind body))
+    (entriesNumber-ind FileNumber (s .model .n) (rowAnswer l body) (inl (omega arith)) (answer-known l body))
 
-pointNumber-known : (input : Bool) (n kind : ℕ) (set : Set) (drift : List ℤ) → FileNumber (pointNumberOf input n kind set drift)
-pointNumber-known input n kind set drift =
-    firstOf-ind FileNumber (unless-known (pointOk n kind set) 6 (inl (omega arith))) (unless-known (enteringPointOk input set drift) 17 (inr (omega arith, omega arith)))
+pointNumber-known : (input : Bool) (n : ℕ) (point : Point) (set : Set) (drift : List ℤ) → FileNumber (pointNumberOf input n point set drift)
+pointNumber-known input n point set drift =
+    firstOf-ind FileNumber (unless-known (pointOk n point set) 6 (inl (omega arith))) (unless-known (enteringPointOk input set drift) 17 (inr (omega arith, omega arith)))
 
-valueNumber-known : (p : Part) (s : State) (kind : ℕ) (body : List ℕ) → FileNumber (valueNumber p s kind body)
-valueNumber-known Head s kind body = unless-known (headOk body) 4 (inl (omega arith))
-valueNumber-known Row s kind body = rowNumber-known s kind body
-valueNumber-known Drift s kind body = unless-known (driftOk body) 17 (inr (omega arith, omega arith))
-valueNumber-known Initial s kind body = pointNumber-known false (s .model .n) kind (withPoint (s .model .initial) kind body) (s .model .drift)
-valueNumber-known Input s kind body = pointNumber-known true (s .model .n) kind (withPoint (s .model .input) kind body) (s .model .drift)
-valueNumber-known Direction s kind body = unless-known (directionOk body) 7 (inl (omega arith))
-valueNumber-known Guard s kind body = unless-known (guardOk s body) 8 (inl (omega arith))
-valueNumber-known End s kind body = inl (omega arith)
+valueNumber-known : (p : Part) (s : State) (l : Layout) (body : List ℕ) → FileNumber (valueNumber p s l body)
+valueNumber-known Head s l body = unless-known (headOk body) 4 (inl (omega arith))
+valueNumber-known Row s l body = rowNumber-known s l body
+valueNumber-known Drift s l body = unless-known (driftOk l body) 17 (inr (omega arith, omega arith))
+valueNumber-known Initial s l body = pointNumber-known false (s .model .n) (l .point) (withPoint (s .model .initial) l body) (s .model .drift)
+valueNumber-known Input s l body = pointNumber-known true (s .model .n) (l .point) (withPoint (s .model .input) l body) (s .model .drift)
+valueNumber-known Direction s l body = unless-known (directionOk l body) 7 (inl (omega arith))
+valueNumber-known Guard s l body = unless-known (guardOk s body) 8 (inl (omega arith))
+valueNumber-known End s l body = inl (omega arith)
 
 bodyNumber-known : (s : State) (kind : ℕ) (body : List ℕ) → FileNumber (bodyNumber s kind body)
 unfolding bodyNumber
 bodyNumber-known s kind body =
-    firstOf-ind FileNumber (unless-known (unusedZero (s .model .n) kind body) 16 (inr (omega arith, omega arith))) (valueNumber-known (partOf kind) s kind body)
+    firstOf-ind FileNumber (unless-known (unusedZero (s .model .n) (layoutOf kind) body) 16 (inr (omega arith, omega arith))) (valueNumber-known (partOf kind) s (layoutOf kind) body)
 
 refusal-known : (s : State) (r : Record) → FileNumber (refusal s r)
 unfolding refusal

@@ -6,7 +6,7 @@ use Prim.Native.Nat.{ℕ, _<_}
 use native.Mathlib.Omega.{arith}
 use Rattle.arrays.specs.Tests.{firstOf}
 use Rattle.arrays.proofs.FirstOf.{firstOf-zero}
-use Rattle.records.specs.Order.{partOf}
+use Rattle.records.specs.Kinds.{layoutOf, partOf}
 use Rattle.columns.specs.Columns.{unusedZero}
 use Rattle.reader.specs.declared.state.State.{State}
 use Rattle.reader.specs.Values.{unless, valueNumber, bodyNumber}
@@ -16,13 +16,13 @@ passed true number h e = refl
 passed false number h e = absurd (omega arith)
 
 module _ (s : State) (kind : ℕ) (body : List ℕ) where
-  pub bodyNumber-zero : bodyNumber s kind body ≡ 0 → (unusedZero (s .model .n) kind body ≡ true) × (valueNumber (partOf kind) s kind body ≡ 0)
+  pub bodyNumber-zero : bodyNumber s kind body ≡ 0 → (unusedZero (s .model .n) (layoutOf kind) body ≡ true) × (valueNumber (partOf kind) s (layoutOf kind) body ≡ 0)
   unfolding bodyNumber
   bodyNumber-zero z =
-      let both = firstOf-zero (unless (unusedZero (s .model .n) kind body) 16) (valueNumber (partOf kind) s kind body) z in
-      (passed (unusedZero (s .model .n) kind body) 16 (omega arith) (both .0), both .1)
+      let both = firstOf-zero (unless (unusedZero (s .model .n) (layoutOf kind) body) 16) (valueNumber (partOf kind) s (layoutOf kind) body) z in
+      (passed (unusedZero (s .model .n) (layoutOf kind) body) 16 (omega arith) (both .0), both .1)
 
   -- with nothing beyond n it is that of the other values
-  pub bodyNumber-value : unusedZero (s .model .n) kind body ≡ true → bodyNumber s kind body ≡ valueNumber (partOf kind) s kind body
+  pub bodyNumber-value : unusedZero (s .model .n) (layoutOf kind) body ≡ true → bodyNumber s kind body ≡ valueNumber (partOf kind) s (layoutOf kind) body
   unfolding bodyNumber
-  bodyNumber-value z = ap (λ (b : Bool). firstOf (unless b 16) (valueNumber (partOf kind) s kind body)) z
+  bodyNumber-value z = ap (λ (b : Bool). firstOf (unless b 16) (valueNumber (partOf kind) s (layoutOf kind) body)) z

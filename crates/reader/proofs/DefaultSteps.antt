@@ -4,9 +4,9 @@ use mathlib.Core.Bool.{Bool, true, false, _&&_}
 use mathlib.Core.List.{List, _∷_, []}
 use Prim.Native.Nat.{ℕ}
 use native.Mathlib.Omega.{arith}
-use Rattle.records.specs.Kinds.{bodyLength}
+use Rattle.records.specs.Kinds.{bodyLength, layoutOf}
 use Rattle.records.specs.Numbers.{littleEndian}
-use Rattle.records.specs.Order.{mayFollow, partOf}
+use Rattle.records.specs.Order.{mayFollow}
 use Rattle.records.proofs.RecordAt.{recordAt-stands}
 use Rattle.stepping.specs.Refusals.{dimensionOk}
 use Rattle.columns.proofs.ColumnLaws.{unusedZero-none}
@@ -28,20 +28,20 @@ module _ (n : ℕ) (rest : List ℕ) where
   headed steps = 0x01 ∷ n ∷ steps ∷ 0 ∷ rest
 
   fits : kindNumber start 0x01 ≡ 0
-  unfolding kindNumber mayFollow partOf start
+  unfolding kindNumber mayFollow layoutOf start
   fits = refl
 
   -- a head has no entries
   values : (steps : ℕ) → bodyNumber start 0x01 (body steps) ≡ unless (headOk (body steps)) 4
-  unfolding partOf
-  values steps = bodyNumber-value start 0x01 (body steps) (unusedZero-none (start .model .n) 0x01 (body steps) refl)
+  unfolding layoutOf
+  values steps = bodyNumber-value start 0x01 (body steps) (unusedZero-none (start .model .n) (layoutOf 0x01) (body steps) refl)
 
-  taken : (steps : ℕ) → headOk (body steps) ≡ true → readModel (headed steps) ≡ readFrom (headed steps) 4 (withHead start (body steps))
-  unfolding readModel bodyLength partOf stored
-  taken steps ok = readFrom-stands [] 0x01 (body steps) rest start refl fits (values steps ∙ ap (λ (b : Bool). unless b 4) ok) (λ e. omega arith)
+  taken : (steps : ℕ) → headOk (body steps) ≡ true → readModel (headed steps) ≡ readFrom (headed steps) 4 (withHead start (layoutOf 0x01) (body steps))
+  unfolding readModel bodyLength layoutOf stored
+  taken steps ok = readFrom-stands [] 0x01 (body steps) rest start refl fits (values steps ∙ ap (λ (b : Bool). unless b 4) ok) refl
 
   told : (steps : ℕ) → headOk (body steps) ≡ false → readModel (headed steps) ≡ refused 4 0
-  unfolding readModel bodyLength partOf
+  unfolding readModel bodyLength layoutOf
   told steps ok =
       readFrom-refused (headed steps) 0 start
       (ap (refusal start) (recordAt-stands [] 0x01 (body steps) rest refl) ∙ refusal-whole start 0x01 (body steps) fits ∙ values steps ∙ ap (λ (b : Bool). unless b 4) ok)
@@ -55,7 +55,7 @@ module _ (n : ℕ) (rest : List ℕ) where
       split : (b : Bool) → dimensionOk n ≡ b → readModel (headed 0) ≡ readModel (headed usualSteps)
       split true e =
           let ok = ap (λ (b : Bool). b && true) e in
-          taken 0 ok ∙ readFrom-rest (0x01 ∷ body 0) (0x01 ∷ body usualSteps) rest (withHead start (body 0)) refl ∙ sym (taken usualSteps ok)
+          taken 0 ok ∙ readFrom-rest (0x01 ∷ body 0) (0x01 ∷ body usualSteps) rest (withHead start (layoutOf 0x01) (body 0)) refl ∙ sym (taken usualSteps ok)
       split false e =
           let ok = ap (λ (b : Bool). b && true) e in
           told 0 ok ∙ sym (told usualSteps ok)

@@ -7,10 +7,10 @@ use lib.ListN.{replicate}
 use Rattle.integers.specs.Sums.{allBelow, sumℕ, maxℕ}
 use Rattle.coefficients.specs.Entries.{scaledEntry}
 use Rattle.coefficients.specs.Rows.{firstNumber}
-use Rattle.records.specs.Kinds.{bodyLength}
+use Rattle.records.specs.Kinds.{bodyLength, layoutOf}
 use Rattle.records.specs.Records.{recordAt}
 use Rattle.records.specs.Numbers.{littleEndian}
-use Rattle.records.specs.Order.{mayFollow, partOf}
+use Rattle.records.specs.Order.{mayFollow}
 use Rattle.reader.specs.declared.Status.the-variants.{Read}
 use Rattle.reader.specs.Models.{zeros, blankSet, blankModel, start, sixAt, putRow, withHead, withRow, withDrift, withPoint, withSetPoint, withDirection}
 use Rattle.columns.specs.Columns.{unusedZero}
@@ -36,13 +36,13 @@ drifting more high =
     ++ (0xFF ∷ [])
 
 pub drift-filled : readModel (drifting 0 0) .status ≡ Read
-unfolding allBelow unusedZero sumℕ maxℕ bodyLength recordAt littleEndian mayFollow partOf zeros blankSet blankModel start sixAt putRow withHead withRow withDrift withPoint withSetPoint withDirection scaledEntry firstNumber rowNumber driftOk pointOk directionOk bodyNumber kindNumber refusal stored stopFor numberAt readingAt readFrom readModel
+unfolding allBelow unusedZero sumℕ maxℕ bodyLength recordAt littleEndian mayFollow layoutOf zeros blankSet blankModel start sixAt putRow withHead withRow withDrift withPoint withSetPoint withDirection scaledEntry firstNumber rowNumber driftOk pointOk directionOk bodyNumber kindNumber refusal stored stopFor numberAt readingAt readFrom readModel
 drift-filled = refl
 
 pub drift-and-input : readModel (drifting 0 1) ≡ refused 17 130
-unfolding allBelow unusedZero sumℕ maxℕ bodyLength recordAt littleEndian mayFollow partOf zeros blankSet blankModel start sixAt putRow withHead withRow withDrift withPoint withSetPoint scaledEntry firstNumber rowNumber driftOk pointOk bodyNumber kindNumber refusal stored stopFor numberAt offsetAt readingAt readFrom readModel
+unfolding allBelow unusedZero sumℕ maxℕ bodyLength recordAt littleEndian mayFollow layoutOf zeros blankSet blankModel start sixAt putRow withHead withRow withDrift withPoint withSetPoint scaledEntry firstNumber rowNumber driftOk pointOk bodyNumber kindNumber refusal stored stopFor numberAt offsetAt readingAt readFrom readModel
 drift-and-input = refl
 
 pub drift-beyond : readModel (drifting 1 0) ≡ refused 17 30
-unfolding allBelow unusedZero bodyLength recordAt littleEndian mayFollow partOf zeros blankSet blankModel start sixAt putRow withHead withRow scaledEntry firstNumber rowNumber driftOk bodyNumber kindNumber refusal stored stopFor numberAt offsetAt readingAt readFrom readModel
+unfolding allBelow unusedZero bodyLength recordAt littleEndian mayFollow layoutOf zeros blankSet blankModel start sixAt putRow withHead withRow scaledEntry firstNumber rowNumber driftOk bodyNumber kindNumber refusal stored stopFor numberAt offsetAt readingAt readFrom readModel
 drift-beyond = refl

@@ -13,6 +13,7 @@ pub mod ReadModels
 pub mod OnePointMore
 pub mod Places
 pub mod ZeroBody
+pub mod LeftOut
 pub mod NoInput
 pub mod NoDrift
 pub mod Unused

@@ -1,195 +1,114 @@
--- File 15: a file whose last row no drift follows is read as with a drift of zeros put in there, and its model has no drift. In order: a
--- state in which all rows are in; the drift behind it; such files. Assumes nothing.
-use mathlib.Core.Path.{_≡_, refl, sym, ap, ap₂, subst, _∙_}
-use mathlib.Core.Bool.{Bool, true, false, cond, not, _&&_, _||_}
+-- File 15: a file whose last row no drift follows is read as with a drift of zeros put in there, and its model has no drift. By the law of
+-- a part that is left out. In order: a state in which all rows are in; such files. Assumes nothing.
+use mathlib.Core.Path.{_≡_, refl, sym, ap, _∙_}
+use mathlib.Core.Bool.{Bool, true, cond, _&&_}
 use mathlib.Core.List.{List, _++_}
-use Prim.Native.Nat.{ℕ, _≤_, _<_}
-use native.Mathlib.Decide.{decLt}
+use Prim.Native.Nat.{ℕ, _≤_}
 use native.Mathlib.Omega.{arith}
-use borrow.Author.Tests.{eq-eqb, ne-eqb, eqb-true, eqb-false, leb-true, le-leb, lt-leb, ltb-true}
-use lib.Dec.{eqb, leb, ltb}
+use borrow.Author.Tests.{eq-eqb, eqb-true, leb-true}
+use lib.Dec.{eqb, leb}
 use lib.ListN.{length}
 use lib.IntN.{ℤ}
-use Rattle.integers.proofs.Booleans.{and-true, or-false}
-use Rattle.arrays.specs.Tests.{firstOf}
-use Rattle.records.specs.Kinds.{bodyLength}
-use Rattle.records.specs.Order.{mayFollow, partOf}
-use Rattle.records.specs.Records.{Record, whole, short, unknown, nothing, recordAt, recordKind, recordBody}
-use Rattle.records.specs.declared.order.Part.{Part}
-use Rattle.records.specs.declared.order.Part.the-variants.{Head, Row, Drift, Initial, Input, Direction, Guard, End}
-use Rattle.reachability.specs.declared.model.Model.{Model}
 use Rattle.integers.specs.Sums.{allBelow}
-use Rattle.columns.specs.Columns.{unusedZero}
+use Rattle.integers.proofs.Booleans.{and-true}
+use Rattle.records.specs.declared.kinds.Layout.{Layout}
+use Rattle.records.specs.declared.kinds.Part.{Part}
+use Rattle.records.specs.declared.kinds.Part.the-variants.{Head, Row, Drift, Initial, Input, Direction, Guard, End}
+use Rattle.records.specs.Places.{startPlace, rowsPlace, matrixPlace, driftPlace, initialPlace, inputPlace, directionPlace, guardPlace}
+use Rattle.records.specs.Kinds.{bodyLength, layoutOf, partOf}
+use Rattle.records.specs.Order.{mayFollow}
+use Rattle.records.specs.Records.{recordAt, recordKind}
+use Rattle.reachability.specs.declared.model.Model.{Model}
 use Rattle.columns.proofs.ColumnLaws.{unusedZero-of}
 use Rattle.reader.specs.declared.Status.the-variants.{Read}
 use Rattle.reader.specs.declared.state.State.{State}
-use Rattle.reader.specs.Models.{zeros, start, setDrift, stateOf, withDrift, withSetPoint, withDirection, withGuard}
-use Rattle.reader.specs.Values.{rowNumber, driftOk, unless, within, valueNumber, bodyNumber}
-use Rattle.reader.specs.Order.{mostOf}
-use Rattle.reader.specs.Refusals.{countOf, kindNumber, refusal, storedIn, stored}
-use Rattle.reader.specs.Reading.{behind, storedRecord, stopFor, readFrom, readModel}
-use Rattle.reader.specs.NoInput.{zeroBody, putIn, moved}
+use Rattle.reader.specs.Models.{zeros, start, setDrift, stateOf, withHead, withRow, withDrift, withSetPoint, withDirection, withGuard}
+use Rattle.reader.specs.Values.{driftOk, unless, within, bodyNumber}
+use Rattle.reader.specs.Refusals.{kindNumber, stored}
+use Rattle.reader.specs.Reading.{stopFor, readFrom, readModel}
+use Rattle.reader.specs.LeftOut.{LeftOutAt, zeroBody, putIn, moved}
 use Rattle.reader.specs.NoDrift.{NoDriftAt, zeroDrift}
 use Rattle.reader.proofs.BodyNumbers.{bodyNumber-value}
-use Rattle.reader.proofs.OrderFacts.{order-at}
-use Rattle.reader.proofs.order.KindNumbers.{kindNumber-zero}
-use Rattle.reader.proofs.ReadingOn.{refusal-zero, whole-of-refusal, goesOn-true, readFrom-next, readFrom-refused, readFrom-nothing}
+use Rattle.reader.proofs.OrderFacts.{isPlain, pointFact, point-of, point-low, fact, order-fact}
 use Rattle.reader.proofs.RecordInPlace.{readFrom-behind}
 use Rattle.reader.proofs.ZeroBody.{sixAt-zeros, entryZero-zeros}
 use Rattle.reader.proofs.AcceptedSoFar.{AcceptedSoFar}
 use Rattle.reader.proofs.ReadModels.{reachable-stop}
-use Rattle.reader.proofs.Places.{readModel-put-in, readModel-behind}
+use Rattle.reader.proofs.LeftOut.{no-end, follows-place, Skipped, Filled, Keeps, readModel-left-out, readModel-left-as}
 
 -- ---- a state in which all rows are in
 
+-- A drift may begin there, and the initial set stands behind it.
+abbrev rowsIn : ℕ → Bool
+rowsIn place = eqb place matrixPlace
+
+skipped : Skipped rowsIn driftPlace initialPlace
+unfolding allBelow mayFollow layoutOf
+skipped = record { early = λ place e. omega (arith, eqb-true place matrixPlace e); on = refl; back = refl }
+
 -- The same state behind a drift of zeros.
 abbrev driftRead : State → State
-driftRead s = stateOf 0x05 (s .rows) (s .model)
+driftRead s = stateOf driftPlace (s .rows) (s .model)
 
-module _ (s : State) (g : AcceptedSoFar s) (rows-in : s .last ≡ 0x02) where
+module _ (s : State) (g : AcceptedSoFar s) (rows-in : s .place ≡ matrixPlace) where
   drift-allowed : kindNumber s 0x05 ≡ 0
-  unfolding kindNumber mayFollow partOf
+  unfolding kindNumber mayFollow layoutOf
   drift-allowed = ap (λ (p : ℕ). cond (mayFollow p 0x05) 0 3) rows-in
 
   drift-ok : bodyNumber s 0x05 zeroBody ≡ 0
-  unfolding driftOk zeros allBelow partOf
+  unfolding driftOk zeros allBelow layoutOf
   drift-ok =
-      bodyNumber-value s 0x05 zeroBody (unusedZero-of (s .model .n) 0x05 zeroBody (λ i l. entryZero-zeros i))
+      bodyNumber-value s 0x05 zeroBody (unusedZero-of (s .model .n) (layoutOf 0x05) zeroBody (λ i l. entryZero-zeros i))
       ∙ ap (λ (six : List ℤ). unless (within 1048576 six) 17) sixAt-zeros
 
   no-drift-yet : s .model .drift ≡ zeros 6
   no-drift-yet = g .drift .none (omega arith)
 
   drift-stored : stored s 0x05 zeroBody ≡ driftRead s
-  unfolding stored partOf withDrift
-  drift-stored = ap (λ (six : List ℤ). stateOf 0x05 (s .rows) (setDrift (s .model) six)) (sixAt-zeros ∙ sym no-drift-yet)
+  unfolding stored layoutOf withDrift
+  drift-stored = ap (λ (six : List ℤ). stateOf driftPlace (s .rows) (setDrift (s .model) six)) (sixAt-zeros ∙ sym no-drift-yet)
 
-  -- It is read wherever it stands.
-  read-drift : (before rest : List ℕ) → readFrom (before ++ (zeroDrift ++ rest)) (length before) s ≡ readFrom ((before ++ zeroDrift) ++ rest) (length (before ++ zeroDrift)) (driftRead s)
-  unfolding bodyLength partOf
-  read-drift before rest =
-      readFrom-behind before 0x05 zeroBody rest s refl drift-allowed drift-ok (λ e. omega arith)
-      ∙ ap (readFrom ((before ++ zeroDrift) ++ rest) (length (before ++ zeroDrift))) drift-stored
+  -- It is read wherever it stands, and any kind that may follow follows behind it too.
+  filled : Filled initialPlace s zeroDrift (driftRead s)
+  unfolding bodyLength layoutOf
+  filled =
+      record {
+        brings =
+            λ before rest. readFrom-behind before 0x05 zeroBody rest s refl drift-allowed drift-ok refl
+            ∙ ap (readFrom ((before ++ zeroDrift) ++ rest) (length (before ++ zeroDrift))) drift-stored;
+        follows = λ kind m k. follows-place s driftPlace (omega arith) (omega arith) kind (no-end (s .place) kind (omega arith) m);
+      }
 
-  -- Any other kind is let in behind it as without it.
-  may-same : (kind : ℕ) → (kind ≡ 0x05 → ⊥) → mayFollow (s .last) kind ≡ mayFollow 0x05 kind
-  unfolding mayFollow
-  may-same kind ne = ap (λ (p : ℕ). mayFollow p kind) rows-in ∙ ap (λ (b : Bool). b || (eqb 0x10 kind || (eqb 0x12 kind || (eqb 0x14 kind || false)))) (ne-eqb 0x05 kind (λ e. ne (sym e)))
-
-  count-same : (p : Part) → countOf p s ≡ countOf p (driftRead s)
-  count-same Head = refl
-  count-same Row = refl
-  count-same Drift = refl
-  count-same Initial = refl
-  count-same Input = refl
-  count-same Direction = refl
-  count-same Guard = refl
-  count-same End = refl
-
-  kind-same : (kind : ℕ) → (kind ≡ 0x05 → ⊥) → kindNumber s kind ≡ kindNumber (driftRead s) kind
-  unfolding kindNumber
-  kind-same kind ne = ap₂ (λ (a : Bool) (k : ℕ). cond a (cond (leb (mostOf kind) k) 9 0) 3) (may-same kind ne) (count-same (partOf kind))
-
-  value-same : (p : Part) (kind : ℕ) (body : List ℕ) → valueNumber p s kind body ≡ valueNumber p (driftRead s) kind body
-  unfolding rowNumber
-  value-same Head kind body = refl
-  value-same Row kind body = refl
-  value-same Drift kind body = refl
-  value-same Initial kind body = refl
-  value-same Input kind body = refl
-  value-same Direction kind body = refl
-  value-same Guard kind body = refl
-  value-same End kind body = refl
-
-  body-same : (kind : ℕ) (body : List ℕ) → bodyNumber s kind body ≡ bodyNumber (driftRead s) kind body
-  unfolding bodyNumber
-  body-same kind body = ap (firstOf (unless (unusedZero (s .model .n) kind body) 16)) (value-same (partOf kind) kind body)
-
-  number-same : (r : Record) → (recordKind r ≡ 0x05 → ⊥) → refusal s r ≡ refusal (driftRead s) r
-  unfolding refusal
-  number-same nothing ne = refl
-  number-same (unknown kind) ne = refl
-  number-same (short kind) ne = ap (λ (k : ℕ). firstOf k 1) (kind-same kind ne)
-  number-same (whole kind body) ne = ap₂ firstOf (kind-same kind ne) (body-same kind body)
-
-  -- Where it is let in, it is a point of the initial set.
-  let-in : (kind : ℕ) → kindNumber s kind ≡ 0 → (kind ≡ 0x05 → ⊥) → (partOf kind ≡ Initial) × (0x10 ≤ kind) × (kind ≤ 0x14)
-  unfolding partOf
-  let-in kind z ne =
-      let test = order-at (λ a b. not (eqb a 0x02) || (eqb b 0x05 || (leb 0x10 b && leb b 0x14))) refl (s .last) kind (kindNumber-zero s kind z .0) in
-      let range = and-true (leb 0x10 kind) (leb kind 0x14) (or-false (eqb kind 0x05) _ (or-false (not (eqb (s .last) 0x02)) _ test (ap not (eq-eqb (s .last) 0x02 rows-in))) (ne-eqb kind 0x05 ne)) in
-      let low = leb-true 0x10 kind (range .0) in
-      let high = leb-true kind 0x14 (range .1) in
-      (simp (lt-leb kind 0x01 (omega arith), lt-leb kind 0x03 (omega arith), lt-leb kind 0x05 (omega arith), le-leb kind 0x14 high), low, high)
-
-  stored-same : (kind : ℕ) (body : List ℕ) → partOf kind ≡ Initial → stored s kind body ≡ stored (driftRead s) kind body
-  unfolding stored withSetPoint
-  stored-same kind body e = ap (λ (p : Part). storedIn p s kind body) e ∙ sym (ap (λ (p : Part). storedIn p (driftRead s) kind body) e)
-
-  -- So the file is read on from there as behind it.
-  read-on : (file : List ℕ) (at : ℕ) → (recordKind (recordAt file at) ≡ 0x05 → ⊥) → readFrom file at (driftRead s) ≡ readFrom file at s
-  read-on file at ne = by (eqb (refusal s here) 0) refl
-    where
-      here : Record
-      here = recordAt file at
-
-      same : refusal s here ≡ refusal (driftRead s) here
-      same = number-same here ne
-
-      by : (b : Bool) → eqb (refusal s here) 0 ≡ b → readFrom file at (driftRead s) ≡ readFrom file at s
-      by true t =
-          let z = eqb-true (refusal s here) 0 t in
-          let allowed = refusal-zero s (recordKind here) (recordBody here) (sym (ap (refusal s) (whole-of-refusal s here z)) ∙ z) .0 in
-          let inside = let-in (recordKind here) allowed ne in
-          let other : recordKind here ≡ 0xFF → ⊥ = λ e. omega (arith, inside .2) in
-          readFrom-next file at (driftRead s) (goesOn-true file at (driftRead s) (ap₂ _&&_ (eq-eqb (refusal (driftRead s) here) 0 (sym same ∙ z)) (ap not (ne-eqb (recordKind here) 0xFF other))))
-          ∙ ap (readFrom file (behind at here)) (sym (stored-same (recordKind here) (recordBody here) (inside .0)))
-          ∙ sym (readFrom-next file at s (goesOn-true file at s (ap₂ _&&_ t (ap not (ne-eqb (recordKind here) 0xFF other)))))
-      by false t =
-          let none = eqb-false (refusal s here) 0 t in
-          elim (decLt at (length file)) [ yes h ↦ readFrom-refused file at (driftRead s) (sym same) none h ∙ sym (readFrom-refused file at s refl none h) | no k ↦ readFrom-nothing file at (driftRead s) (sym same) none (omega (arith, k)) ∙ sym (readFrom-nothing file at s refl none (omega (arith, k))) ]
-
--- ---- the drift behind it
-
--- A place that no drift comes behind, and none was told.
-record NoDriftSince (s : State) : Type 0 where
-  late : 0x05 < s .last
-  zero : s .model .drift ≡ zeros 6
-
--- behind the initial set's first point no record changes the drift
-abbrev isLate : Part → Bool
-isLate Head = false
-isLate Row = false
-isLate Drift = false
-isLate Initial = true
-isLate Input = true
-isLate Direction = true
-isLate Guard = true
-isLate End = true
-
-zero-kept : (p : Part) (s : State) (kind : ℕ) (body : List ℕ) → isLate p ≡ true → 0x05 < kind → NoDriftSince s → NoDriftSince (storedIn p s kind body)
-unfolding withSetPoint withDirection withGuard
-zero-kept Initial s kind body t h z = record { late = h; zero = z .zero }
-zero-kept Input s kind body t h z = record { late = h; zero = z .zero }
-zero-kept Direction s kind body t h z = record { late = h; zero = z .zero }
-zero-kept Guard s kind body t h z = record { late = h; zero = z .zero }
-zero-kept End s kind body t h z = z
-zero-kept Head s kind body t h z = let y : _≡_ {A = ℕ} 0 1 = cc in absurd (omega arith)
-zero-kept Row s kind body t h z = let y : _≡_ {A = ℕ} 0 1 = cc in absurd (omega arith)
-zero-kept Drift s kind body t h z = let y : _≡_ {A = ℕ} 0 1 = cc in absurd (omega arith)
-
-zero-stored : (s : State) (kind : ℕ) (body : List ℕ) → kindNumber s kind ≡ 0 → NoDriftSince s → NoDriftSince (stored s kind body)
-unfolding stored partOf
-zero-stored s kind body allowed z =
-    let test = order-at (λ a b. leb a 0x05 || (isLate (partOf b) && ltb 0x05 b)) refl (s .last) kind (kindNumber-zero s kind allowed .0) in
-    let both = and-true (isLate (partOf kind)) (ltb 0x05 kind) (or-false (leb (s .last) 0x05) _ test (lt-leb (s .last) 0x05 (z .late))) in
-    zero-kept (partOf kind) s kind body (both .0) (ltb-true 0x05 kind (both .1)) z
-
-zero-first : (s : State) (kind : ℕ) (body : List ℕ) → partOf kind ≡ Initial → 0x05 < kind → s .model .drift ≡ zeros 6 → NoDriftSince (stored s kind body)
-unfolding stored withSetPoint
-zero-first s kind body e h z = subst (λ (p : Part). NoDriftSince (storedIn p s kind body)) (sym e) (record { late = h; zero = z })
+-- Behind a place where all rows are in stands a drift, or what belongs behind it.
+other-behind : (p : Part) (place : ℕ) (l : Layout) → place ≡ matrixPlace → (p ≡ Drift → ⊥) → fact p place l ≡ true → initialPlace ≤ l .place
+unfolding fact
+other-behind Head place l e ne f = absurd (omega (arith, eqb-true place startPlace (and-true (eqb place startPlace) (eqb (l .place) rowsPlace) f .0)))
+other-behind Row place l e ne f = absurd (omega (arith, eqb-true place rowsPlace (and-true (eqb place rowsPlace) (eqb (l .place) matrixPlace) f .0)))
+other-behind Drift place l e ne f = absurd (ne refl)
+other-behind Initial place l e ne f = point-low (point-of initialPlace place l (and-true (pointFact initialPlace place l) _ f .0))
+other-behind Input place l e ne f = omega (arith, point-low (point-of inputPlace place l (and-true (pointFact inputPlace place l) _ f .0)))
+other-behind Direction place l e ne f =
+    omega (arith, eqb-true (l .place) directionPlace (and-true (eqb (l .place) directionPlace) (isPlain l) (and-true (eqb (l .place) directionPlace && isPlain l) _ f .0) .0))
+other-behind Guard place l e ne f = omega (arith, eqb-true (l .place) guardPlace (and-true (eqb (l .place) guardPlace) (leb directionPlace place) f .0))
+other-behind End place l e ne f = absurd (omega (arith, leb-true directionPlace place f))
 
 -- ---- files whose last row no drift follows
+
+-- No record behind the drift changes it.
+abbrev NoDriftIn : Model → Type 0
+NoDriftIn m = m .drift ≡ zeros 6
+
+kept : Keeps initialPlace (omega arith) NoDriftIn
+unfolding fact withHead withRow withSetPoint withDirection withGuard
+kept Head u l body k f z = z
+kept Row u l body k f z = z
+kept Drift u l body k f z =
+    absurd (omega (arith, eqb-true (l .place) driftPlace (and-true (eqb (l .place) driftPlace) (isPlain l) (and-true (eqb (u .place) matrixPlace) (eqb (l .place) driftPlace && isPlain l) f .1) .0)))
+kept Initial u l body k f z = z
+kept Input u l body k f z = z
+kept Direction u l body k f z = z
+kept Guard u l body k f z = z
+kept End u l body k f z = z
 
 -- A place of such a file: where reading comes to after so many records, all rows are in, and no drift is next.
 module _ (file : List ℕ) (turns : ℕ) (place : NoDriftAt file (stopFor turns file 0 start)) where
@@ -202,24 +121,23 @@ module _ (file : List ℕ) (turns : ℕ) (place : NoDriftAt file (stopFor turns 
   so-far : AcceptedSoFar s
   so-far = reachable-stop file turns .so-far
 
+  left-out : LeftOutAt rowsIn initialPlace file (stopFor turns file 0 start)
+  left-out =
+      record {
+        begins-here = eq-eqb (s .place) matrixPlace (place .rows-in);
+        next-behind = λ m. other-behind (partOf (recordKind (recordAt file at))) (s .place) (layoutOf (recordKind (recordAt file at))) (place .rows-in) (place .other) (order-fact (s .place) (recordKind (recordAt file at)) m);
+      }
+
   -- The file is read as the file with a drift of zeros put in there: the same model, or the same number with the offset 25 higher.
   pub readModel-no-drift : readModel (putIn zeroDrift at file) ≡ moved 25 (readModel file)
-  readModel-no-drift = readModel-put-in file turns zeroDrift (driftRead s) (read-drift s so-far (place .rows-in)) (read-on s so-far (place .rows-in) file at (place .other))
+  readModel-no-drift = readModel-left-out file turns left-out skipped zeroDrift (driftRead s) refl (filled s so-far (place .rows-in))
 
   -- Its model, where it has one, has no drift.
   pub readModel-zero-drift : readModel file .status ≡ Read → readModel file .model .drift ≡ zeros 6
-  readModel-zero-drift e =
-      let w = readModel-behind NoDriftSince zero-stored file turns brings e in
-      ap (λ (m : Model). m .drift) (w .2) ∙ w .1 .zero
-    where
-      here : Record
-      here = recordAt file at
-
-      initial : refusal s here ≡ 0 → (partOf (recordKind here) ≡ Initial) × (0x10 ≤ recordKind here) × (recordKind here ≤ 0x14)
-      initial z = let-in s so-far (place .rows-in) (recordKind here) (refusal-zero s (recordKind here) (recordBody here) (sym (ap (refusal s) (whole-of-refusal s here z)) ∙ z) .0) (place .other)
-
-      brings : refusal s here ≡ 0 → (recordKind here ≡ 0xFF → ⊥) × NoDriftSince (storedRecord s here)
-      brings z = (
-        (λ f. omega (arith, initial z .2)),
-        zero-first s (recordKind here) (recordBody here) (initial z .0) (omega (arith, initial z .1)) (no-drift-yet s so-far (place .rows-in)),
-      )
+  unfolding stored
+  readModel-zero-drift =
+      readModel-left-as file turns left-out (omega arith) NoDriftIn kept
+      (λ kind body m k. (
+        no-end (s .place) kind (omega (arith, place .rows-in)) m,
+        kept (partOf kind) s (layoutOf kind) body k (order-fact (s .place) kind m) (no-drift-yet s so-far (place .rows-in)),
+      ))

@@ -1,25 +1,26 @@
--- File 10: files in which a direction stands straight after a complete initial set. In order: what the two records of zero corners and
--- the direction make of the state there; the input set behind the direction; the reading of the file with the two records, the input
--- set of its model, and that model's runs (Runs 8); files that are refused before. Assumes nothing.
+-- File 10: files in which a direction stands straight after a complete initial set, by the law of a part that is left out. In order: where
+-- the initial set is complete; what the two records of zero corners and the direction make of the state there; the reading of the file with
+-- the two records, the input set of its model, and that model's runs (Runs 8); files that are refused before. Assumes nothing.
 use mathlib.Core.Path.{_≡_, refl, sym, ap, ap₂, subst, _∙_}
 use mathlib.Core.Bool.{Bool, true, false, cond, _&&_, _||_}
 use mathlib.Core.List.{List, _∷_, _++_, append-assoc}
-use Prim.Native.Nat.{ℕ, zero, _+_, _≤_, _<_}
-use native.Mathlib.Decide.{decLt}
+use Prim.Native.Nat.{ℕ, _+_, _≤_, _<_}
 use native.Mathlib.Omega.{arith}
-use borrow.Author.Tests.{eqb-true, lt-ltb, le-ltb, ltb-true, le-leb, leb-true}
+use borrow.Author.Tests.{eqb-true, lt-ltb, ltb-true, le-leb, leb-true}
 use lib.Dec.{eqb, leb, ltb}
 use lib.ListN.{length, drop}
 use lib.IntN.{ℤ, pos}
 use Rattle.integers.specs.Sums.{allBelow}
-use Rattle.integers.proofs.Booleans.{and-true, or-false}
+use Rattle.integers.proofs.Booleans.{and-true}
 use Rattle.arrays.specs.Tests.{firstOf}
-use Rattle.records.specs.Kinds.{bodyLength}
-use Rattle.records.specs.Order.{mayFollow, partOf}
-use Rattle.records.specs.Records.{Record, whole, short, unknown, nothing, recordAt, recordKind, recordBody}
-use Rattle.records.specs.declared.order.Part.{Part}
-use Rattle.records.specs.declared.order.Part.the-variants.{Head, Row, Drift, Initial, Input, Direction, Guard, End}
-use Rattle.records.proofs.RecordAt.{recordAt-nothing, Reaches}
+use Rattle.records.specs.declared.kinds.Layout.{Layout}
+use Rattle.records.specs.declared.kinds.Part.{Part}
+use Rattle.records.specs.declared.kinds.Part.the-variants.{Head, Row, Drift, Initial, Input, Direction, Guard, End}
+use Rattle.records.specs.Places.{startPlace, rowsPlace, matrixPlace, driftPlace, initialPlace, inputPlace, directionPlace}
+use Rattle.records.specs.Kinds.{bodyLength, layoutOf, partOf}
+use Rattle.records.specs.Order.{mayFollow}
+use Rattle.records.specs.Records.{recordAt, recordKind}
+use Rattle.records.proofs.RecordAt.{Reaches}
 use Rattle.reachability.specs.declared.sets.Shape.{Shape}
 use Rattle.reachability.specs.declared.sets.Shape.the-variants.{Box}
 use Rattle.reachability.specs.declared.sets.Set.{Set}
@@ -27,195 +28,200 @@ use Rattle.reachability.specs.declared.model.Model.{Model}
 use Rattle.reachability.specs.Sets.{zeroBox}
 use Rattle.reachability.specs.Runs.{Run}
 use Rattle.reachability.proofs.ZeroInput.{inputs-zero}
-use Rattle.reader.specs.declared.state.State.{State}
-use Rattle.reader.specs.Order.{shapeOf}
-use Rattle.reader.specs.Models.{zeros, blankSet, start, sixAt, putRow, setSet, setDirections, stateOf, withPoint, withSetPoint, inputAt, withDirection, withGuard}
-use Rattle.reader.specs.Values.{pointOk, enteringPointOk, unless, pointNumberOf, bodyNumber}
-use Rattle.reader.specs.Refusals.{oneTooMany, kindNumber, refusal, storedIn, stored}
-use Rattle.reader.specs.NoInput.{completesInitial, NoInputAt, zeroBody, zeroCorners, putIn, moved}
+use Rattle.columns.specs.Columns.{unusedZero}
 use Rattle.columns.proofs.ColumnLaws.{unusedZero-of}
-use Rattle.reader.proofs.BodyNumbers.{bodyNumber-value}
-use Rattle.reader.proofs.OrderFacts.{order-at}
-use Rattle.reader.proofs.order.KindNumbers.{kindNumber-zero}
 use Rattle.reader.specs.declared.Status.the-variants.{Read}
-use Rattle.reader.specs.Reading.{storedRecord, stopFor, readFrom, readModel}
-use Rattle.reader.proofs.ReadingOn.{readFrom-alike}
+use Rattle.reader.specs.declared.state.State.{State}
+use Rattle.reader.specs.Order.{shapeOf, isEnd}
+use Rattle.reader.specs.Models.{zeros, blankSet, start, sixAt, putRow, setSet, setDirections, stateOf, withHead, withRow, withDrift, withPoint, withSetPoint, inputAt, withDirection, withGuard}
+use Rattle.reader.specs.Values.{pointOk, enteringPointOk, unless, pointNumberOf, valueNumber, bodyNumber}
+use Rattle.reader.specs.Refusals.{countOf, kindNumber, refusal, storedIn, stored}
+use Rattle.reader.specs.Reading.{stopFor, readFrom, readModel}
+use Rattle.reader.specs.LeftOut.{LeftOutAt, zeroBody, putIn, moved}
+use Rattle.reader.specs.NoInput.{completesInitial, NoInputAt, zeroCorners}
+use Rattle.reader.proofs.BodyNumbers.{bodyNumber-value}
+use Rattle.reader.proofs.OrderFacts.{isPlain, pointFact, point-of, point-high, fact, order-fact}
 use Rattle.reader.proofs.RecordInPlace.{readFrom-behind}
 use Rattle.reader.proofs.ReadingRest.{readFrom-refused-before}
 use Rattle.reader.proofs.ZeroBody.{sixAt-zeros, entryZero-zeros}
 use Rattle.reader.proofs.PartsSoFar.{n-most, entering-zeros}
 use Rattle.reader.proofs.AcceptedSoFar.{AcceptedSoFar, ordered-zeros}
 use Rattle.reader.proofs.ReadModels.{reachable-stop}
-use Rattle.reader.proofs.Places.{readModel-put-in, readModel-behind}
+use Rattle.reader.proofs.LeftOut.{Follows, Skipped, Filled, Keeps, readModel-left-out, readModel-left-as}
+
+-- ---- where the initial set is complete
+
+-- what holds at the three places holds there
+at-place : (test : ℕ → Bool) → test (initialPlace + 1) ≡ true → test (initialPlace + 3) ≡ true → test (initialPlace + 4) ≡ true → (place : ℕ) → completesInitial place ≡ true → test place ≡ true
+at-place test a b d place complete = by (eqb place (initialPlace + 1)) refl (eqb place (initialPlace + 3)) refl complete
+  where
+    is : (k : ℕ) → eqb place k ≡ true → test k ≡ true → test place ≡ true
+    is k e t = ap test (eqb-true place k e) ∙ t
+
+    by : (x : Bool) → eqb place (initialPlace + 1) ≡ x → (y : Bool) → eqb place (initialPlace + 3) ≡ y → x || (y || eqb place (initialPlace + 4)) ≡ true → test place ≡ true
+    by true e y f t = is (initialPlace + 1) e a
+    by false e true f t = is (initialPlace + 3) f b
+    by false e false f t = is (initialPlace + 4) t d
+
+complete-early : (place : ℕ) → completesInitial place ≡ true → place < inputPlace
+complete-early place e = ltb-true place inputPlace (at-place (λ k. ltb k inputPlace) refl refl refl place e)
+
+-- The input set may begin there, and directions stand behind it.
+skipped : Skipped completesInitial (inputPlace + 1) directionPlace
+unfolding allBelow mayFollow layoutOf
+skipped = record { early = λ place e. omega (arith, complete-early place e); on = refl; back = refl }
+
+-- What stands there and behind the input set is a direction.
+direction-only : (p : Part) (place : ℕ) (l : Layout) → place < inputPlace → directionPlace ≤ l .place → fact p place l ≡ true → p ≡ Direction
+unfolding fact
+direction-only Head place l e k f = absurd (omega (arith, eqb-true (l .place) rowsPlace (and-true (eqb place startPlace) (eqb (l .place) rowsPlace) f .1)))
+direction-only Row place l e k f = absurd (omega (arith, eqb-true (l .place) matrixPlace (and-true (eqb place rowsPlace) (eqb (l .place) matrixPlace) f .1)))
+direction-only Drift place l e k f =
+    absurd (omega (arith, eqb-true (l .place) driftPlace (and-true (eqb (l .place) driftPlace) (isPlain l) (and-true (eqb place matrixPlace) (eqb (l .place) driftPlace && isPlain l) f .1) .0)))
+direction-only Initial place l e k f = absurd (omega (arith, point-high (point-of initialPlace place l (and-true (pointFact initialPlace place l) _ f .0))))
+direction-only Input place l e k f = absurd (omega (arith, point-high (point-of inputPlace place l (and-true (pointFact inputPlace place l) _ f .0))))
+direction-only Direction place l e k f = refl
+direction-only Guard place l e k f = absurd (omega (arith, leb-true directionPlace place (and-true (eqb (l .place) _) (leb directionPlace place) f .1)))
+direction-only End place l e k f = absurd (omega (arith, leb-true directionPlace place f))
 
 -- ---- a state straight after the initial set
-
-inside-file : (file : List ℕ) (at : ℕ) → recordKind (recordAt file at) ≡ 0x30 → at < length file
-inside-file file at e = elim (decLt at (length file)) [ yes h ↦ h | no k ↦ absurd (omega (arith, sym e ∙ ap recordKind (recordAt-nothing file at (omega (arith, k))))) ]
 
 -- A box of which so many corners are read, all of zeros.
 abbrev zeroSet : ℕ → Set
 zeroSet count = record { shape = Box; count = count; points = zeros 96 }
 
--- A state with the place of this kind and so many corners of zeros for its input set.
+-- A state with this place and so many corners of zeros for its input set.
 abbrev withCorners : State → ℕ → ℕ → State
-withCorners s kind count = stateOf kind (s .rows) (setSet true (s .model) (zeroSet count))
+withCorners s place count = stateOf place (s .rows) (setSet true (s .model) (zeroSet count))
 
-module _ (s : State) (g : AcceptedSoFar s) (complete : completesInitial (s .last) ≡ true) where
-  -- what holds at the three kinds holds at the place
-  at-place : (test : ℕ → Bool) → test 0x11 ≡ true → test 0x13 ≡ true → test 0x14 ≡ true → test (s .last) ≡ true
-  at-place test a b d = by (eqb (s .last) 0x11) refl (eqb (s .last) 0x13) refl complete
-    where
-      is : (kind : ℕ) → eqb (s .last) kind ≡ true → test kind ≡ true → test (s .last) ≡ true
-      is kind e t = ap test (eqb-true (s .last) kind e) ∙ t
-
-      by : (x : Bool) → eqb (s .last) 0x11 ≡ x → (y : Bool) → eqb (s .last) 0x13 ≡ y → x || (y || eqb (s .last) 0x14) ≡ true → test (s .last) ≡ true
-      by true e y f t = is 0x11 e a
-      by false e true f t = is 0x13 f b
-      by false e false f t = is 0x14 t d
-
-  early : s .last < 0x20
-  early = ltb-true (s .last) 0x20 (at-place (λ k. ltb k 0x20) refl refl refl)
+module _ (s : State) (g : AcceptedSoFar s) (complete : completesInitial (s .place) ≡ true) where
+  early : s .place < inputPlace
+  early = complete-early (s .place) complete
 
   dimension : s .model .n ≤ 6
-  dimension = n-most (s .model .n) (g .frame .dimension (ltb-true 0 (s .last) (at-place (λ k. ltb 0 k) refl refl refl)))
+  dimension = n-most (s .model .n) (g .frame .dimension (ltb-true startPlace (s .place) (at-place (λ k. ltb startPlace k) refl refl refl (s .place) complete)))
 
   blank : s .model .input ≡ zeroSet 0
   unfolding blankSet
   blank = g .input .none early
 
-  with-corner : (kind count : ℕ) → shapeOf kind ≡ Box → putRow (zeros 96) count (zeros 6) ≡ zeros 96 → withPoint (zeroSet count) kind zeroBody ≡ zeroSet (count + 1)
+  -- a corner of zeros
+  with-corner : (l : Layout) (count : ℕ) → shapeOf (l .point) ≡ Box → l .first ≡ 0 → putRow (zeros 96) count (zeros 6) ≡ zeros 96 → withPoint (zeroSet count) l zeroBody ≡ zeroSet (count + 1)
   unfolding withPoint
-  with-corner kind count box still =
+  with-corner l count box first still =
       ap₂ (λ (shape : Shape) (xs : List ℤ). record { shape = shape; count = count + 1; points = xs }) box
-      (ap (putRow (zeros 96) count) sixAt-zeros ∙ still)
+      (ap (putRow (zeros 96) count) (ap (sixAt zeroBody) first ∙ sixAt-zeros) ∙ still)
 
-  with-lower : withPoint (s .model .input) 0x20 zeroBody ≡ zeroSet 1
-  unfolding putRow zeros
-  with-lower = ap (λ (x : Set). withPoint x 0x20 zeroBody) blank ∙ with-corner 0x20 0 refl refl
+  with-lower : withPoint (s .model .input) (layoutOf 0x20) zeroBody ≡ zeroSet 1
+  unfolding putRow zeros layoutOf
+  with-lower = ap (λ (x : Set). withPoint x (layoutOf 0x20) zeroBody) blank ∙ with-corner (layoutOf 0x20) 0 refl refl refl
 
-  with-upper : withPoint (zeroSet 1) 0x21 zeroBody ≡ zeroSet 2
-  unfolding putRow zeros
-  with-upper = with-corner 0x21 1 refl refl
+  with-upper : withPoint (zeroSet 1) (layoutOf 0x21) zeroBody ≡ zeroSet 2
+  unfolding putRow zeros layoutOf
+  with-upper = with-corner (layoutOf 0x21) 1 refl refl refl
 
   lower-allowed : kindNumber s 0x20 ≡ 0
-  unfolding kindNumber mayFollow partOf
-  lower-allowed = ap₂ (λ (a : Bool) (x : Set). cond a (cond (leb 16 (x .count)) 9 0) 3) (at-place (λ k. mayFollow k 0x20) refl refl refl) blank
+  unfolding kindNumber mayFollow layoutOf
+  lower-allowed = ap₂ (λ (a : Bool) (x : Set). cond a (cond (leb 16 (x .count)) 9 0) 3) (at-place (λ k. mayFollow k 0x20) refl refl refl (s .place) complete) blank
 
   -- a corner of zeros passes the test of number 17
   enters-ok : (count : ℕ) → 1 ≤ count → count ≤ 16 → enteringPointOk true (zeroSet count) (s .model .drift) ≡ true
   enters-ok count a b = ap₂ _&&_ (ap₂ _&&_ (le-leb 1 count a) (le-leb count 16 b)) (entering-zeros (g .drift) count)
 
   -- and the other test settles its number
-  corner-number : (kind count : ℕ) {set : Set} → 1 ≤ count → count ≤ 16 → set ≡ zeroSet count → pointOk (s .model .n) kind (zeroSet count) ≡ true → pointNumberOf true (s .model .n) kind set (s .model .drift) ≡ 0
-  corner-number kind count a b e ok =
-      ap (λ (x : Set). pointNumberOf true (s .model .n) kind x (s .model .drift)) e
+  corner-number : (l : Layout) (count : ℕ) {set : Set} → 1 ≤ count → count ≤ 16 → set ≡ zeroSet count → pointOk (s .model .n) (l .point) (zeroSet count) ≡ true → pointNumberOf true (s .model .n) (l .point) set (s .model .drift) ≡ 0
+  corner-number l count a b e ok =
+      ap (λ (x : Set). pointNumberOf true (s .model .n) (l .point) x (s .model .drift)) e
       ∙ ap₂ (λ (p q : Bool). firstOf (unless p 6) (unless q 17)) ok (enters-ok count a b)
 
   lower-ok : bodyNumber s 0x20 zeroBody ≡ 0
-  unfolding pointOk zeros allBelow partOf
+  unfolding pointOk zeros allBelow layoutOf
   lower-ok =
-      bodyNumber-value s 0x20 zeroBody (unusedZero-of (s .model .n) 0x20 zeroBody (λ i l. entryZero-zeros i))
-      ∙ corner-number 0x20 1 (omega arith) (omega arith) with-lower refl
+      bodyNumber-value s 0x20 zeroBody (unusedZero-of (s .model .n) (layoutOf 0x20) zeroBody (λ i l. entryZero-zeros i))
+      ∙ corner-number (layoutOf 0x20) 1 (omega arith) (omega arith) with-lower refl
 
-  upper-allowed : kindNumber (withCorners s 0x20 1) 0x21 ≡ 0
-  unfolding kindNumber mayFollow partOf
+  upper-allowed : kindNumber (withCorners s inputPlace 1) 0x21 ≡ 0
+  unfolding kindNumber mayFollow layoutOf
   upper-allowed = refl
 
-  upper-ok : bodyNumber (withCorners s 0x20 1) 0x21 zeroBody ≡ 0
-  unfolding pointOk zeros allBelow partOf
+  upper-ok : bodyNumber (withCorners s inputPlace 1) 0x21 zeroBody ≡ 0
+  unfolding pointOk zeros allBelow layoutOf
   upper-ok =
-      bodyNumber-value (withCorners s 0x20 1) 0x21 zeroBody (unusedZero-of (s .model .n) 0x21 zeroBody (λ i l. entryZero-zeros i))
-      ∙ corner-number 0x21 2 (omega arith) (omega arith) with-upper (ap₂ _&&_ (le-leb (s .model .n) 6 dimension) (ordered-zeros (s .model .n)))
+      bodyNumber-value (withCorners s inputPlace 1) 0x21 zeroBody (unusedZero-of (s .model .n) (layoutOf 0x21) zeroBody (λ i l. entryZero-zeros i))
+      ∙ corner-number (layoutOf 0x21) 2 (omega arith) (omega arith) with-upper (ap₂ _&&_ (le-leb (s .model .n) 6 dimension) (ordered-zeros (s .model .n)))
 
-  lower-stored : stored s 0x20 zeroBody ≡ withCorners s 0x20 1
-  unfolding stored partOf withSetPoint
-  lower-stored = ap (λ (x : Set). stateOf 0x20 (s .rows) (setSet true (s .model) x)) with-lower
+  lower-stored : stored s 0x20 zeroBody ≡ withCorners s inputPlace 1
+  unfolding stored layoutOf withSetPoint
+  lower-stored = ap (λ (x : Set). stateOf inputPlace (s .rows) (setSet true (s .model) x)) with-lower
 
-  upper-stored : stored (withCorners s 0x20 1) 0x21 zeroBody ≡ withCorners s 0x21 2
-  unfolding stored partOf withSetPoint
-  upper-stored = ap (λ (x : Set). stateOf 0x21 (s .rows) (setSet true (s .model) x)) with-upper
+  upper-stored : stored (withCorners s inputPlace 1) 0x21 zeroBody ≡ withCorners s (inputPlace + 1) 2
+  unfolding stored layoutOf withSetPoint
+  upper-stored = ap (λ (x : Set). stateOf (inputPlace + 1) (s .rows) (setSet true (s .model) x)) with-upper
 
   -- The two records are read wherever they stand.
-  read-corners : (before rest : List ℕ) → readFrom (before ++ (zeroCorners ++ rest)) (length before) s ≡ readFrom ((before ++ zeroCorners) ++ rest) (length (before ++ zeroCorners)) (withCorners s 0x21 2)
-  unfolding bodyLength partOf
+  read-corners : (before rest : List ℕ) → readFrom (before ++ (zeroCorners ++ rest)) (length before) s ≡ readFrom ((before ++ zeroCorners) ++ rest) (length (before ++ zeroCorners)) (withCorners s (inputPlace + 1) 2)
+  unfolding bodyLength layoutOf
   read-corners before rest =
-      readFrom-behind before 0x20 zeroBody ((0x21 ∷ zeroBody) ++ rest) s refl lower-allowed lower-ok (λ e. omega arith)
+      readFrom-behind before 0x20 zeroBody ((0x21 ∷ zeroBody) ++ rest) s refl lower-allowed lower-ok refl
       ∙ ap (readFrom ((before ++ (0x20 ∷ zeroBody)) ++ ((0x21 ∷ zeroBody) ++ rest)) (length (before ++ (0x20 ∷ zeroBody)))) lower-stored
-      ∙ readFrom-behind (before ++ (0x20 ∷ zeroBody)) 0x21 zeroBody rest (withCorners s 0x20 1) refl upper-allowed upper-ok (λ e. omega arith)
+      ∙ readFrom-behind (before ++ (0x20 ∷ zeroBody)) 0x21 zeroBody rest (withCorners s inputPlace 1) refl upper-allowed upper-ok refl
       ∙ ap₂ (λ (x : List ℕ) (t : State). readFrom (x ++ rest) (length x) t) (append-assoc before (0x20 ∷ zeroBody) (0x21 ∷ zeroBody)) upper-stored
 
-  -- A direction is let in, tested and stored behind them as without them.
-  direction-allowed : kindNumber s 0x30 ≡ kindNumber (withCorners s 0x21 2) 0x30
-  unfolding kindNumber mayFollow partOf
-  direction-allowed = ap (λ (a : Bool). cond a (cond (oneTooMany s 0x30) 9 0) 3) (at-place (λ k. mayFollow k 0x30) refl refl refl)
+  -- A direction is tested and stored behind them as without them.
+  abbrev filledState : State
+  filledState = withCorners s (inputPlace + 1) 2
 
-  direction-number : (r : Record) → recordKind r ≡ 0x30 → refusal s r ≡ refusal (withCorners s 0x21 2) r
-  unfolding refusal bodyNumber partOf
-  direction-number nothing e = refl
-  direction-number (unknown kind) e = refl
-  direction-number (short kind) e = subst (λ (k : ℕ). firstOf (kindNumber s k) 1 ≡ firstOf (kindNumber (withCorners s 0x21 2) k) 1) (sym e) (ap (λ (k : ℕ). firstOf k 1) direction-allowed)
-  direction-number (whole kind body) e =
-      subst (λ (k : ℕ). firstOf (kindNumber s k) (bodyNumber s k body) ≡ firstOf (kindNumber (withCorners s 0x21 2) k) (bodyNumber (withCorners s 0x21 2) k body)) (sym e)
-      (ap (λ (k : ℕ). firstOf k (bodyNumber s 0x30 body)) direction-allowed)
-
-  zero-input : inputAt (s .last) (s .model) ≡ zeroSet 2
+  zero-input : inputAt (s .place) (s .model) ≡ zeroSet 2
   unfolding zeroBox zeros
-  zero-input = ap (λ (b : Bool). cond b zeroBox (s .model .input)) (lt-ltb (s .last) 0x20 early)
+  zero-input = ap (λ (b : Bool). cond b zeroBox (s .model .input)) (lt-ltb (s .place) inputPlace early)
 
-  direction-stored : (body : List ℕ) → stored s 0x30 body ≡ stored (withCorners s 0x21 2) 0x30 body
-  unfolding stored partOf withDirection
-  direction-stored body =
-      ap (λ (x : Set). stateOf 0x30 (s .rows) (setDirections (setSet true (s .model) x) (s .model .questions .directions + 1) (putRow (s .model .questions .entries) (s .model .questions .directions) (sixAt body 0)))) zero-input
+  direction-stored : (l : Layout) (body : List ℕ) → storedIn Direction s l body ≡ storedIn Direction filledState l body
+  unfolding withDirection
+  direction-stored l body =
+      ap (λ (x : Set). stateOf (l .place) (s .rows) (setDirections (setSet true (s .model) x) (s .model .questions .directions + 1) (putRow (s .model .questions .entries) (s .model .questions .directions) (sixAt body (l .first))))) zero-input
 
-  -- So the file is read on from there as behind them.
-  read-direction : (file : List ℕ) (at : ℕ) → recordKind (recordAt file at) ≡ 0x30 → readFrom file at (withCorners s 0x21 2) ≡ readFrom file at s
-  read-direction file at e =
-      sym (readFrom-alike file at s (withCorners s 0x21 2) (inside-file file at e) (λ f. omega arith) (direction-number (recordAt file at) e)
-      (subst (λ (k : ℕ). stored s k (recordBody (recordAt file at)) ≡ stored (withCorners s 0x21 2) k (recordBody (recordAt file at))) (sym e) (direction-stored (recordBody (recordAt file at)))))
+  by-part : (kind : ℕ) → partOf kind ≡ Direction → Follows s filledState kind
+  unfolding bodyNumber stored
+  by-part kind e =
+      record {
+        other = ap isEnd e;
+        count-same = ap (λ (p : Part). countOf p s) e ∙ sym (ap (λ (p : Part). countOf p filledState) e);
+        body-same =
+            λ body. ap (λ (p : Part). firstOf (unless (unusedZero (s .model .n) (layoutOf kind) body) 16) (valueNumber p s (layoutOf kind) body)) e
+            ∙ sym (ap (λ (p : Part). firstOf (unless (unusedZero (s .model .n) (layoutOf kind) body) 16) (valueNumber p filledState (layoutOf kind) body)) e);
+        stored-same =
+            λ body. ap (λ (p : Part). storedIn p s (layoutOf kind) body) e ∙ direction-stored (layoutOf kind) body
+            ∙ sym (ap (λ (p : Part). storedIn p filledState (layoutOf kind) body) e);
+      }
 
--- ---- the input set behind a direction
-
--- A direction has been read, and the input set is the box from zero to zero.
-record ZeroInput (s : State) : Type 0 where
-  late : 0x30 ≤ s .last
-  zero : s .model .input ≡ zeroBox
-
--- behind a direction come directions, guards and the end, and none changes the input set
-abbrev isLate : Part → Bool
-isLate Head = false
-isLate Row = false
-isLate Drift = false
-isLate Initial = false
-isLate Input = false
-isLate Direction = true
-isLate Guard = true
-isLate End = true
-
-zero-kept : (p : Part) (s : State) (kind : ℕ) (body : List ℕ) → isLate p ≡ true → 0x30 ≤ kind → ZeroInput s → ZeroInput (storedIn p s kind body)
-unfolding withDirection withGuard
-zero-kept Direction s kind body t h z =
-    record { late = h; zero = ap (λ (b : Bool). cond b zeroBox (s .model .input)) (le-ltb (s .last) 0x20 (omega (arith, z .late))) ∙ z .zero }
-zero-kept Guard s kind body t h z = record { late = h; zero = z .zero }
-zero-kept End s kind body t h z = z
-zero-kept Head s kind body t h z = let y : _≡_ {A = ℕ} 0 1 = cc in absurd (omega arith)
-zero-kept Row s kind body t h z = let y : _≡_ {A = ℕ} 0 1 = cc in absurd (omega arith)
-zero-kept Drift s kind body t h z = let y : _≡_ {A = ℕ} 0 1 = cc in absurd (omega arith)
-zero-kept Initial s kind body t h z = let y : _≡_ {A = ℕ} 0 1 = cc in absurd (omega arith)
-zero-kept Input s kind body t h z = let y : _≡_ {A = ℕ} 0 1 = cc in absurd (omega arith)
-
-zero-stored : (s : State) (kind : ℕ) (body : List ℕ) → kindNumber s kind ≡ 0 → ZeroInput s → ZeroInput (stored s kind body)
-unfolding stored partOf
-zero-stored s kind body allowed z =
-    let test = order-at (λ a b. ltb a 0x30 || (isLate (partOf b) && leb 0x30 b)) refl (s .last) kind (kindNumber-zero s kind allowed .0) in
-    let both = and-true (isLate (partOf kind)) (leb 0x30 kind) (or-false (ltb (s .last) 0x30) _ test (le-ltb (s .last) 0x30 (z .late))) in
-    zero-kept (partOf kind) s kind body (both .0) (leb-true 0x30 kind (both .1)) z
-
-zero-first : (s : State) (body : List ℕ) → s .last < 0x20 → ZeroInput (stored s 0x30 body)
-unfolding stored partOf withDirection
-zero-first s body early = record { late = omega arith; zero = ap (λ (b : Bool). cond b zeroBox (s .model .input)) (lt-ltb (s .last) 0x20 early) }
+  filled : Filled directionPlace s zeroCorners filledState
+  filled = record { brings = read-corners; follows = λ kind m k. by-part kind (direction-only (partOf kind) (s .place) (layoutOf kind) early k (order-fact (s .place) kind m)) }
 
 -- ---- files in which a direction stands straight after a complete initial set
+
+-- No record behind the input set changes a box from zero to zero.
+abbrev ZeroInputIn : Model → Type 0
+ZeroInputIn m = m .input ≡ zeroBox
+
+kept : Keeps directionPlace (omega arith) ZeroInputIn
+unfolding fact withHead withRow withDrift withSetPoint withDirection withGuard
+kept Head u l body k f z = z
+kept Row u l body k f z = z
+kept Drift u l body k f z = z
+kept Initial u l body k f z = z
+kept Input u l body k f z = absurd (omega (arith, point-high (point-of inputPlace (u .place) l (and-true (pointFact inputPlace (u .place) l) _ f .0))))
+kept Direction u l body k f z = by (ltb (u .place) inputPlace)
+  where
+    by : (b : Bool) → cond b zeroBox (u .model .input) ≡ zeroBox
+    by true = refl
+    by false = z
+kept Guard u l body k f z = z
+kept End u l body k f z = z
+
+-- the direction itself brings it
+brought : (s : State) (l : Layout) (body : List ℕ) → s .place < inputPlace → storedIn Direction s l body .model .input ≡ zeroBox
+unfolding withDirection
+brought s l body early = ap (λ (b : Bool). cond b zeroBox (s .model .input)) (lt-ltb (s .place) inputPlace early)
 
 -- A place of such a file: where reading comes to after so many records, the initial set is complete, and a direction is next.
 module _ (file : List ℕ) (turns : ℕ) (place : NoInputAt file (stopFor turns file 0 start)) where
@@ -228,25 +234,32 @@ module _ (file : List ℕ) (turns : ℕ) (place : NoInputAt file (stopFor turns 
   so-far : AcceptedSoFar s
   so-far = reachable-stop file turns .so-far
 
+  direction-place : (l : Layout) → fact Direction (s .place) l ≡ true → directionPlace ≤ l .place
+  unfolding fact
+  direction-place l f = omega (arith, eqb-true (l .place) directionPlace (and-true (eqb (l .place) directionPlace) (isPlain l) (and-true (eqb (l .place) directionPlace && isPlain l) _ f .0) .0))
+
+  left-out : LeftOutAt completesInitial directionPlace file (stopFor turns file 0 start)
+  left-out =
+      record {
+        begins-here = place .complete;
+        next-behind =
+            λ m. direction-place (layoutOf (recordKind (recordAt file at)))
+            (subst (λ (p : Part). fact p (s .place) (layoutOf (recordKind (recordAt file at))) ≡ true) (place .direction) (order-fact (s .place) (recordKind (recordAt file at)) m));
+      }
+
   -- The file is read as the file with two records of zero corners put before that direction: the same model, or the same number with
   -- the offset 50 higher.
   pub readModel-no-input : readModel (putIn zeroCorners at file) ≡ moved 50 (readModel file)
-  readModel-no-input = readModel-put-in file turns zeroCorners (withCorners s 0x21 2) (read-corners s so-far (place .complete)) (read-direction s so-far (place .complete) file at (place .direction))
+  readModel-no-input = readModel-left-out file turns left-out skipped zeroCorners (withCorners s (inputPlace + 1) 2) refl (filled s so-far (place .complete))
 
   -- Its model, where it has one, has the box from zero to zero for its input set.
   pub readModel-zero-input : readModel file .status ≡ Read → readModel file .model .input ≡ zeroBox
-  readModel-zero-input e =
-      let w = readModel-behind ZeroInput zero-stored file turns brings e in
-      ap (λ (m : Model). m .input) (w .2) ∙ w .1 .zero
-    where
-      here : Record
-      here = recordAt file at
-
-      brings : refusal s here ≡ 0 → (recordKind here ≡ 0xFF → ⊥) × ZeroInput (storedRecord s here)
-      brings z = (
-        (λ f. omega (arith, place .direction)),
-        subst (λ (k : ℕ). ZeroInput (stored s k (recordBody here))) (sym (place .direction)) (zero-first s (recordBody here) (early s so-far (place .complete))),
-      )
+  unfolding stored
+  readModel-zero-input =
+      readModel-left-as file turns left-out (omega arith) ZeroInputIn kept
+      (λ kind body m k.
+      let e = direction-only (partOf kind) (s .place) (layoutOf kind) (complete-early (s .place) (place .complete)) k (order-fact (s .place) kind m) in
+      (ap isEnd e, ap (λ (p : Part). storedIn p s (layoutOf kind) body .model .input) e ∙ brought s (layoutOf kind) body (complete-early (s .place) (place .complete))))
 
   -- Runs 8: its runs have no other input than zero.
   pub no-input-runs : readModel file .status ≡ Read → {q : ℕ} (run : Run (readModel file .model) q) (j : ℕ) → j < readModel file .model .steps → (i : ℕ) → i < readModel file .model .n → run .inputs j i ≡ pos 0

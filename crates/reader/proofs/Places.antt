@@ -6,18 +6,20 @@ use mathlib.Core.List.{List, _++_}
 use Prim.Native.Nat.{ℕ, suc, _-_, _≤_}
 use native.Mathlib.Decide.{decLt}
 use native.Mathlib.Omega.{arith}
-use borrow.Author.Tests.{ne-eqb, eqb-true, eqb-false}
+use borrow.Author.Tests.{eqb-true, eqb-false}
 use lib.Dec.{eqb}
 use lib.ListN.{length, take, drop, take-append-drop}
 use lib.Seq.{length-take-le}
+use Rattle.records.specs.Kinds.{partOf}
 use Rattle.records.specs.Records.{Record, recordAt, recordKind}
 use Rattle.reader.specs.declared.Status.the-variants.{Read}
 use Rattle.reader.specs.declared.Reading.{Reading}
 use Rattle.reader.specs.declared.state.State.{State}
+use Rattle.reader.specs.Order.{isEnd}
 use Rattle.reader.specs.Models.{start}
 use Rattle.reader.specs.Refusals.{kindNumber, refusal, stored}
 use Rattle.reader.specs.Reading.{behind, storedRecord, stopFor, stopFrom, refused, readFrom, readModel, statusNumber}
-use Rattle.reader.specs.NoInput.{putIn, moved}
+use Rattle.reader.specs.LeftOut.{putIn, moved}
 use Rattle.reader.proofs.ReadingOn.{goesOn-true, stopFor-ind, stopFor-inside, readFrom-next, readFrom-refused, readFrom-nothing, readFrom-comes}
 use Rattle.reader.proofs.ReadingRest.{readFrom-more-before, readFrom-same-start}
 use Rattle.reader.proofs.ReadModels.{readFrom-model}
@@ -57,7 +59,7 @@ readModel-put-in file turns more t brings on =
 
 -- Of a file that is read: what the record at a place brings, which is then not the end, and every later one keeps, holds of the state
 -- whose model is read.
-pub readModel-behind : (P : State → Type 0) → ((s : State) (kind : ℕ) (body : List ℕ) → kindNumber s kind ≡ 0 → P s → P (stored s kind body)) → (file : List ℕ) (turns : ℕ) → (refusal (stopFor turns file 0 start .state) (recordAt file (stopFor turns file 0 start .at)) ≡ 0 → (recordKind (recordAt file (stopFor turns file 0 start .at)) ≡ 0xFF → ⊥) × P (storedRecord (stopFor turns file 0 start .state) (recordAt file (stopFor turns file 0 start .at)))) → readModel file .status ≡ Read → (last : State) × P last × (readModel file .model ≡ last .model)
+pub readModel-behind : (P : State → Type 0) → ((s : State) (kind : ℕ) (body : List ℕ) → kindNumber s kind ≡ 0 → P s → P (stored s kind body)) → (file : List ℕ) (turns : ℕ) → (refusal (stopFor turns file 0 start .state) (recordAt file (stopFor turns file 0 start .at)) ≡ 0 → (isEnd (partOf (recordKind (recordAt file (stopFor turns file 0 start .at)))) ≡ false) × P (storedRecord (stopFor turns file 0 start .state) (recordAt file (stopFor turns file 0 start .at)))) → readModel file .status ≡ Read → (last : State) × P last × (readModel file .model ≡ last .model)
 unfolding readModel
 readModel-behind P keeps file turns brings e = by (eqb (refusal s here) 0) refl
   where
@@ -79,7 +81,7 @@ readModel-behind P keeps file turns brings e = by (eqb (refusal s here) 0) refl
     by : (b : Bool) → eqb (refusal s here) 0 ≡ b → (last : State) × P last × (readFrom file 0 start .model ≡ last .model)
     by true t =
         let z = eqb-true (refusal s here) 0 t in
-        let is = comes ∙ readFrom-next file at s (goesOn-true file at s (ap₂ _&&_ t (ap not (ne-eqb (recordKind here) 0xFF (brings z .0))))) in (
+        let is = comes ∙ readFrom-next file at s (goesOn-true file at s (ap₂ _&&_ t (ap not (brings z .0)))) in (
           stopFrom file (behind at here) (storedRecord s here) .state,
           stopFor-ind file (λ p. P (p .state)) (λ a u kind body k g. keeps u kind body (g .allowed) k) (suc (length file - behind at here)) (behind at here) (storedRecord s here) (brings z .1),
           ap (λ (r : Reading). r .model) is ∙ readFrom-model file (behind at here) (storedRecord s here) (sym (ap (λ (r : Reading). r .status) is) ∙ e),

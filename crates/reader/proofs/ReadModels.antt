@@ -23,7 +23,12 @@ use Rattle.reachability.specs.Limits.{accepted}
 use Rattle.reader.specs.declared.Status.the-variants.{Read}
 use Rattle.reader.specs.declared.Reading.{Reading}
 use Rattle.reader.specs.declared.state.State.{State}
-use Rattle.records.specs.Order.{mayFollow, partOf}
+use Rattle.records.specs.declared.kinds.Layout.{Layout}
+use Rattle.records.specs.declared.kinds.Part.{Part}
+use Rattle.records.specs.declared.kinds.Part.the-variants.{Head, Row, Drift, Initial, Input, Direction, Guard, End}
+use Rattle.records.specs.Places.{initialPlace, inputPlace, directionPlace}
+use Rattle.records.specs.Kinds.{layoutOf, partOf}
+use Rattle.reader.specs.Order.{isEnd}
 use Rattle.reader.specs.Models.{blankModel, start}
 use Rattle.reader.specs.Refusals.{refusal, stored}
 use Rattle.reader.specs.Reading.{Stop, stopHere, goesOn, behind, storedRecord, stopFor, stopFrom, numberAt, offsetAt, refused, readAs, readingAt, readFrom, readModel, readNumber, readOffset, statusNumber, statusOffset, Reads}
@@ -82,17 +87,29 @@ reachable-start = record { so-far = acceptedSoFar-start; within = omega arith }
 pub record Reached (file : List ℕ) (r : Reading) : Type 0 where
   pub last : Stop
   pub reachable : Reachable last
-  pub ends : mayFollow (last .state .last) 0xFF ≡ true
+  pub ends : directionPlace ≤ last .state .place
   pub length-le : length file ≤ last .at + 1
   pub model-is : r .model ≡ last .state .model
+
+-- where an end may stand
+pub end-place : (p : Part) (place : ℕ) (l : Layout) → isEnd p ≡ true → fact p place l ≡ true → directionPlace ≤ place
+unfolding fact
+end-place Head place l e f = let z : _≡_ {A = ℕ} 0 1 = cc in absurd (omega arith)
+end-place Row place l e f = let z : _≡_ {A = ℕ} 0 1 = cc in absurd (omega arith)
+end-place Drift place l e f = let z : _≡_ {A = ℕ} 0 1 = cc in absurd (omega arith)
+end-place Initial place l e f = let z : _≡_ {A = ℕ} 0 1 = cc in absurd (omega arith)
+end-place Input place l e f = let z : _≡_ {A = ℕ} 0 1 = cc in absurd (omega arith)
+end-place Direction place l e f = let z : _≡_ {A = ℕ} 0 1 = cc in absurd (omega arith)
+end-place Guard place l e f = let z : _≡_ {A = ℕ} 0 1 = cc in absurd (omega arith)
+end-place End place l e f = leb-true directionPlace place f
 
 module _ (file : List ℕ) (p : Stop) where
   abbrev here : Record
   here = recordAt file (p .at)
 
   -- not refused, the record that reading stops at is the end
-  end-here : goesOn (p .state) here ≡ false → refusal (p .state) here ≡ 0 → (b : Bool) → eqb (recordKind here) 0xFF ≡ b → recordKind here ≡ 0xFF
-  end-here stops z true t = eqb-true (recordKind here) 0xFF t
+  end-here : goesOn (p .state) here ≡ false → refusal (p .state) here ≡ 0 → (b : Bool) → isEnd (partOf (recordKind here)) ≡ b → isEnd (partOf (recordKind here)) ≡ true
+  end-here stops z true t = t
   end-here stops z false t =
       let u : _≡_ {A = ℕ} 0 1 = cc (sym stops ∙ ap₂ (λ (a b : Bool). a && not b) (eq-eqb (refusal (p .state) here) 0 z) t) in
       absurd (omega arith)
@@ -118,7 +135,7 @@ module _ (file : List ℕ) (p : Stop) where
       record {
         last = p;
         reachable = r;
-        ends = ap (mayFollow (p .state .last)) (sym (end-here stops (both .0) (eqb (recordKind here) 0xFF) refl)) ∙ kindNumber-zero (p .state) (recordKind here) allowed .0;
+        ends = end-place (partOf (recordKind here)) (p .state .place) (layoutOf (recordKind here)) (end-here stops (both .0) (isEnd (partOf (recordKind here))) refl) (order-fact (p .state .place) (recordKind here) (kindNumber-zero (p .state) (recordKind here) allowed .0));
         length-le = no-more (ltb (p .at + 1) (length file)) refl (both .1);
         model-is = readingAt-model n;
       }
@@ -142,13 +159,13 @@ readModel-reached file e =
 
 -- ---- a model that was read is accepted: number 11 never follows a good read
 
-accepted-state : (s : State) → AcceptedSoFar s → 0x30 ≤ s .last → accepted (s .model) ≡ true
+accepted-state : (s : State) → AcceptedSoFar s → directionPlace ≤ s .place → accepted (s .model) ≡ true
 accepted-state s g late =
     accepted-of (s .model) (record {
       motion = motionOk-of (s .model .n) (s .model .steps) (s .model .motion) (g .frame .dimension (omega arith)) (g .frame .steps-ok (omega arith)) matrix-passes;
-      initial = g .initial .done (isDone-late 0x10 (s .last) (omega arith));
-      input = g .input .done (isDone-late 0x20 (s .last) (omega arith));
-      drift = ap₂ _&&_ beyond (g .drift .entering (isDone-late 0x20 (s .last) (omega arith)));
+      initial = g .initial .done (isDone-late initialPlace (s .place) (omega arith));
+      input = g .input .done (isDone-late inputPlace (s .place) (omega arith));
+      drift = ap₂ _&&_ beyond (g .drift .entering (isDone-late inputPlace (s .place) (omega arith)));
       questions = ap₂ _&&_ directions (guardsOk-of (s .model .questions .directions) (s .model .questions .guards) (s .model .questions .watched) (s .model .questions .levels) (g .guards .few) (g .guards .guarded));
     })
   where
@@ -171,14 +188,10 @@ accepted-state s g late =
         (ap₂ _&&_ (zeroOutside-of (s .model .questions .directions) (s .model .n) (s .model .questions .entries) (g .directions .entries-zeros))
         (ap₂ _&&_ (allBetween-of directionLimit (s .model .questions .entries) (g .directions .entries-small)) (someNonzero-of (s .model .questions .directions) (s .model .questions .entries) (g .directions .nonzero))))
 
-end-place : (place : ℕ) → mayFollow place 0xFF ≡ true → 0x30 ≤ place
-unfolding fact partOf
-end-place place m = leb-true 0x30 place (order-fact place 0xFF m)
-
 pub readModel-accepted : (file : List ℕ) → readModel file .status ≡ Read → accepted (readModel file .model) ≡ true
 readModel-accepted file e =
     let r = readModel-reached file e in
-    ap accepted (r .model-is) ∙ accepted-state (r .last .state) (r .reachable .so-far) (end-place (r .last .state .last) (r .ends))
+    ap accepted (r .model-is) ∙ accepted-state (r .last .state) (r .reachable .so-far) (r .ends)
 
 -- ---- File 9
 

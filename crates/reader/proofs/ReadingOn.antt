@@ -4,15 +4,18 @@ use mathlib.Core.Path.{_≡_, refl, sym, ap, ap₂, _∙_}
 use mathlib.Core.Bool.{Bool, true, false, cond, not, _&&_}
 use mathlib.Core.List.{List}
 use Prim.Native.Nat.{ℕ, zero, suc, _+_, _-_, _≤_, _<_}
+use native.Mathlib.Decide.{decLt}
 use native.Mathlib.Omega.{arith}
 use borrow.Author.Tests.{eq-eqb, ne-eqb, eqb-true, eqb-false, lt-ltb, le-ltb, not-true}
 use lib.Dec.{eqb, ltb}
 use lib.ListN.{length}
 use Rattle.integers.proofs.Booleans.{and-true, and-false}
 use Rattle.arrays.proofs.FirstOf.{firstOf-none, firstOf-some, firstOf-zero}
+use Rattle.records.specs.Kinds.{partOf}
 use Rattle.records.specs.Records.{Record, whole, short, unknown, nothing, recordAt, recordKind, recordBody}
 use Rattle.records.proofs.RecordAt.{whole-of}
 use Rattle.reader.specs.declared.state.State.{State}
+use Rattle.reader.specs.Order.{isEnd}
 use Rattle.reader.specs.Values.{bodyNumber}
 use Rattle.reader.specs.Refusals.{kindNumber, refusal, stored}
 use Rattle.reader.specs.Reading.{Stop, stopHere, goesOn, behind, storedRecord, stopFor, numberAt, offsetAt, refused, readAs, readingAt, readFrom}
@@ -57,7 +60,7 @@ pub record GoesOn (file : List ℕ) (at : ℕ) (s : State) (kind : ℕ) (body : 
   pub stands : recordAt file at ≡ whole kind body
   pub allowed : kindNumber s kind ≡ 0
   pub passes : bodyNumber s kind body ≡ 0
-  pub other : kind ≡ 0xFF → ⊥
+  pub other : isEnd (partOf kind) ≡ false
 
 module _ (file : List ℕ) (at : ℕ) (s : State) where
   abbrev here : Record
@@ -66,11 +69,11 @@ module _ (file : List ℕ) (at : ℕ) (s : State) where
   pub goesOn-of : (kind : ℕ) (body : List ℕ) → GoesOn file at s kind body → goesOn s here ≡ true
   goesOn-of kind body g =
       ap (goesOn s) (g .stands)
-      ∙ ap₂ _&&_ (eq-eqb (refusal s (whole kind body)) 0 (refusal-whole s kind body (g .allowed) ∙ g .passes)) (ap not (ne-eqb kind 0xFF (g .other)))
+      ∙ ap₂ _&&_ (eq-eqb (refusal s (whole kind body)) 0 (refusal-whole s kind body (g .allowed) ∙ g .passes)) (ap not (g .other))
 
   pub goesOn-true : goesOn s here ≡ true → GoesOn file at s (recordKind here) (recordBody here)
   goesOn-true t =
-      let both = and-true (eqb (refusal s here) 0) (not (eqb (recordKind here) 0xFF)) t in
+      let both = and-true (eqb (refusal s here) 0) (not (isEnd (partOf (recordKind here)))) t in
       let z = eqb-true (refusal s here) 0 (both .0) in
       let w = whole-of-refusal s here z in
       let parts = refusal-zero s (recordKind here) (recordBody here) (sym (ap (refusal s) w) ∙ z) in
@@ -78,11 +81,11 @@ module _ (file : List ℕ) (at : ℕ) (s : State) where
         stands = w;
         allowed = parts .0;
         passes = parts .1;
-        other = eqb-false (recordKind here) 0xFF (not-true _ (both .1));
+        other = not-true _ (both .1);
       }
 
   goesOn-refused : (refusal s here ≡ 0 → ⊥) → goesOn s here ≡ false
-  goesOn-refused ne = ap (λ (t : Bool). t && not (eqb (recordKind here) 0xFF)) (ne-eqb (refusal s here) 0 ne)
+  goesOn-refused ne = ap (λ (t : Bool). t && not (isEnd (partOf (recordKind here)))) (ne-eqb (refusal s here) 0 ne)
 
   -- ---- where reading stops
 
@@ -176,12 +179,12 @@ module _ (file : List ℕ) (at : ℕ) (s : State) where
     readFrom-nothing h = told (ap (λ (b : Bool). cond b at (length file)) (le-ltb at (length file) h))
 
   -- the end
-  module _ {kind : ℕ} {body : List ℕ} (is : recordAt file at ≡ whole kind body) (z : refusal s (whole kind body) ≡ 0) (end : kind ≡ 0xFF) where
+  module _ {kind : ℕ} {body : List ℕ} (is : recordAt file at ≡ whole kind body) (z : refusal s (whole kind body) ≡ 0) (end : isEnd (partOf kind) ≡ true) where
     ends : {number : ℕ} → cond (ltb (at + 1) (length file)) 10 0 ≡ number → readFrom file at s ≡ cond (eqb number 0) (readAs (s .model)) (refused number (at + 1))
     unfolding readingAt numberAt offsetAt
     ends {number} more =
         let none : refusal s (recordAt file at) ≡ 0 = ap (refusal s) is ∙ z in
-        readFrom-here (ap (goesOn s) is ∙ ap (λ (b : Bool). eqb (refusal s (whole kind body)) 0 && not b) (eq-eqb kind 0xFF end) ∙ and-false (eqb (refusal s (whole kind body)) 0))
+        readFrom-here (ap (goesOn s) is ∙ ap (λ (b : Bool). eqb (refusal s (whole kind body)) 0 && not b) end ∙ and-false (eqb (refusal s (whole kind body)) 0))
         ∙ ap₂ (λ (n o : ℕ). cond (eqb n 0) (readAs (s .model)) (refused n o)) (firstOf-none _ none ∙ more)
         (ap (λ (b : Bool). cond b (at + 1) (cond (ltb at (length file)) at (length file))) (eq-eqb (refusal s (recordAt file at)) 0 none))
 
@@ -195,20 +198,21 @@ module _ (file : List ℕ) (at : ℕ) (s : State) where
 pub readFrom-comes : (file : List ℕ) (turns at : ℕ) (s : State) → readFrom file at s ≡ readFrom file (stopFor turns file at s .at) (stopFor turns file at s .state)
 readFrom-comes file turns at s = stopFor-ind file (λ p. readFrom file at s ≡ readFrom file (p .at) (p .state)) (λ a t kind body e g. e ∙ readFrom-next file a t g) turns at s refl
 
--- Two states in which the record at the offset has the same number, and behind which they are the same.
-pub readFrom-alike : (file : List ℕ) (at : ℕ) (s t : State) → at < length file → (recordKind (recordAt file at) ≡ 0xFF → ⊥) → refusal s (recordAt file at) ≡ refusal t (recordAt file at) → storedRecord s (recordAt file at) ≡ storedRecord t (recordAt file at) → readFrom file at s ≡ readFrom file at t
-readFrom-alike file at s t inside other number next = split (eqb (refusal s here) 0) refl
+-- Two states in which the record at the offset has the same number and, where it is not refused, is not the end and leaves the same.
+pub readFrom-alike : (file : List ℕ) (at : ℕ) (s t : State) → refusal s (recordAt file at) ≡ refusal t (recordAt file at) → (refusal s (recordAt file at) ≡ 0 → (isEnd (partOf (recordKind (recordAt file at))) ≡ false) × (storedRecord s (recordAt file at) ≡ storedRecord t (recordAt file at))) → readFrom file at s ≡ readFrom file at t
+readFrom-alike file at s t number next = split (eqb (refusal s here) 0) refl
   where
     here : Record
     here = recordAt file at
 
-    on : (u : State) → refusal u here ≡ 0 → readFrom file at u ≡ readFrom file (behind at here) (storedRecord u here)
-    on u z = readFrom-next file at u (goesOn-true file at u (ap₂ _&&_ (eq-eqb (refusal u here) 0 z) (ap not (ne-eqb (recordKind here) 0xFF other))))
+    on : (u : State) → refusal u here ≡ 0 → isEnd (partOf (recordKind here)) ≡ false → readFrom file at u ≡ readFrom file (behind at here) (storedRecord u here)
+    on u z other = readFrom-next file at u (goesOn-true file at u (ap₂ _&&_ (eq-eqb (refusal u here) 0 z) (ap not other)))
 
     split : (b : Bool) → eqb (refusal s here) 0 ≡ b → readFrom file at s ≡ readFrom file at t
     split true e =
         let z = eqb-true (refusal s here) 0 e in
-        on s z ∙ ap (readFrom file (behind at here)) next ∙ sym (on t (sym number ∙ z))
+        let same = next z in
+        on s z (same .0) ∙ ap (readFrom file (behind at here)) (same .1) ∙ sym (on t (sym number ∙ z) (same .0))
     split false e =
         let ne = eqb-false (refusal s here) 0 e in
-        readFrom-refused file at s refl ne inside ∙ sym (readFrom-refused file at t (sym number) ne inside)
+        elim (decLt at (length file)) [ yes h ↦ readFrom-refused file at s refl ne h ∙ sym (readFrom-refused file at t (sym number) ne h) | no k ↦ readFrom-nothing file at s refl ne (omega (arith, k)) ∙ sym (readFrom-nothing file at t (sym number) ne (omega (arith, k))) ]

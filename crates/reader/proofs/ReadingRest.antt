@@ -20,7 +20,7 @@ use Rattle.reader.specs.declared.Reading.{Reading}
 use Rattle.reader.specs.declared.state.State.{State}
 use Rattle.reader.specs.Refusals.{refusal}
 use Rattle.reader.specs.Reading.{Stop, stopHere, goesOn, behind, storedRecord, stopFor, numberAt, offsetAt, refused, readAs, readingAt, readFrom}
-use Rattle.reader.specs.NoInput.{movedStatus, moved}
+use Rattle.reader.specs.LeftOut.{movedStatus, moved}
 use Rattle.reader.proofs.ReadingOn.{goesOn-true, stopFor-forward, readFrom-next, readFrom-refused, readFrom-comes}
 
 -- ---- one byte more before an offset

@@ -7,13 +7,13 @@ use lib.IntN.{pos}
 use Rattle.integers.specs.Sums.{allBelow, sumℕ, maxℕ}
 use Rattle.coefficients.specs.Entries.{scaledEntry}
 use Rattle.coefficients.specs.Rows.{firstNumber}
-use Rattle.records.specs.Kinds.{bodyLength}
+use Rattle.records.specs.Kinds.{bodyLength, layoutOf}
 use Rattle.records.specs.Records.{recordAt}
 use Rattle.records.specs.Numbers.{littleEndian}
 use Rattle.reachability.specs.declared.sets.Shape.the-variants.{Box}
 use Rattle.reachability.specs.declared.model.Model.{Model}
 use Rattle.reader.specs.declared.Status.the-variants.{Read}
-use Rattle.records.specs.Order.{mayFollow, partOf}
+use Rattle.records.specs.Order.{mayFollow}
 use Rattle.reader.specs.Models.{zeros, blankSet, blankModel, start, sixAt, putRow, withHead, withRow, withPoint, withSetPoint, withDirection, withGuard}
 use Rattle.columns.specs.Columns.{unusedZero}
 use Rattle.reader.specs.Values.{bodyNumber, rowNumber, pointOk, directionOk}
@@ -64,7 +64,7 @@ unfolding sample
 sample-length = refl
 
 pub sample-read : readModel sample ≡ record { status = Read; model = sampleModel }
-unfolding allBelow unusedZero sumℕ maxℕ bodyLength recordAt littleEndian mayFollow partOf zeros blankSet blankModel start sixAt putRow withHead withRow withPoint withSetPoint withDirection withGuard scaledEntry firstNumber rowNumber pointOk directionOk bodyNumber kindNumber refusal stored stopFor numberAt offsetAt readingAt readFrom readModel sample sampleModel
+unfolding allBelow unusedZero sumℕ maxℕ bodyLength recordAt littleEndian mayFollow layoutOf zeros blankSet blankModel start sixAt putRow withHead withRow withPoint withSetPoint withDirection withGuard scaledEntry firstNumber rowNumber pointOk directionOk bodyNumber kindNumber refusal stored stopFor numberAt offsetAt readingAt readFrom readModel sample sampleModel
 sample-read = refl
 
 -- Figures 14.

@@ -3,30 +3,31 @@
 use mathlib.Core.Path.{_≡_, refl, sym, ap, subst, _∙_}
 use mathlib.Core.Bool.{Bool, true, false, cond}
 use mathlib.Core.List.{List, []}
-use mathlib.Core.Logic.{_⊎_}
-use Prim.Native.Nat.{ℕ, zero, suc, _+_, _*_, _-_, _^_, _≤_, _<_}
+use Prim.Native.Nat.{ℕ, zero, suc, _+_, _*_, _-_, _≤_, _<_}
 use native.Mathlib.Omega.{arith}
-use borrow.Author.Tests.{eq-eqb, ne-eqb, eqb-true}
+use borrow.Author.Tests.{eqb-true}
 use lib.Dec.{eqb, ltb}
 use lib.ListN.{length}
+use Rattle.integers.proofs.Booleans.{and-true}
 use Rattle.arrays.proofs.FirstOf.{firstOf-zero}
-use Rattle.coefficients.specs.Binary64.{isZero}
 use Rattle.coefficients.proofs.ZeroBits.{zero-patterns}
-use Rattle.records.specs.declared.order.Part.{Part}
-use Rattle.records.specs.declared.order.Part.the-variants.{Head, Row, Drift, Initial, Input, Direction, Guard, End}
-use Rattle.records.specs.Order.{partOf}
+use Rattle.records.specs.declared.kinds.Part.{Part}
+use Rattle.records.specs.declared.kinds.Part.the-variants.{Head, Row, Drift, Initial, Input, Direction, Guard, End}
+use Rattle.records.specs.declared.kinds.Layout.{Layout}
+use Rattle.records.specs.Places.{startPlace, rowsPlace}
+use Rattle.records.specs.Kinds.{layoutOf, partOf}
 use Rattle.records.specs.Records.{Record, whole, nothing, recordAt, recordKind, recordBody}
 use Rattle.records.proofs.LittleEndian.{AllBytes, littleEndian-lt}
 use Rattle.records.proofs.RecordAt.{recordAt-nothing, whole-of, whole-bytes}
-use Rattle.columns.specs.Columns.{entryAt, scaledAt, bitsAt, entryZero, unusedZero}
-use Rattle.columns.proofs.ColumnLaws.{entryZero-is, partZero, unusedZero-at, unusedZero-none}
+use Rattle.columns.specs.Columns.{bitsAt, unusedZero}
+use Rattle.columns.proofs.ColumnLaws.{entryZero-is, columnZero-fitted, columnZero-whole, unusedZero-at, unusedZero-none}
 use Rattle.reader.specs.declared.Status.the-variants.{Read}
 use Rattle.reader.specs.declared.state.State.{State}
 use Rattle.reader.specs.Models.{blankModel, start, withRow, withDrift, withSetPoint, withDirection, withGuard}
 use Rattle.reader.specs.Values.{bodyNumber}
 use Rattle.reader.specs.Refusals.{refusal, storedIn, stored}
 use Rattle.reader.specs.Reading.{Stop, stopHere, goesOn, behind, storedRecord, stopFor, numberAt, readModel}
-use Rattle.reader.specs.Unused.{offsetOf, recordNo, ZeroFrom, Unused, UnusedIn}
+use Rattle.reader.specs.Unused.{offsetOf, recordNo, Unused, UnusedIn}
 use Rattle.reader.proofs.order.KindNumbers.{kindNumber-zero}
 use Rattle.reader.proofs.BodyNumbers.{bodyNumber-zero}
 use Rattle.reader.proofs.ReadingOn.{refusal-zero, whole-of-refusal, GoesOn, goesOn-true, stopFor-ind}
@@ -36,50 +37,28 @@ use Rattle.reader.proofs.ReadModels.{no-more, readFrom-number, readFrom
 
 -- ---- what the test of one record says
 
-module _ (n kind : ℕ) (body : List ℕ) (z : unusedZero n kind body ≡ true) where
-  row-zero : partOf kind ≡ Row → {b : Bool} → eqb kind 0x03 ≡ b → (i : ℕ) → n ≤ i → i < 6 → cond b (isZero (bitsAt body i)) (entryZero body 1 i) ≡ true
-  row-zero e {b} is i h l =
-      sym (ap (λ (t : Bool). cond t (isZero (bitsAt body i)) (entryZero body 1 i)) is) ∙ unusedZero-at n kind body z Row e i h l
-
-  scaled-zero : kind ≡ 0x02 → ZeroFrom n (scaledAt body)
-  unfolding partOf
-  scaled-zero e i h l = entryZero-is body 1 i (row-zero (ap partOf e) (ne-eqb kind 0x03 (λ t. omega (arith, e, t))) i h l)
-
-  fitted-zero : kind ≡ 0x03 → AllBytes body → (i : ℕ) → n ≤ i → i < 6 → (bitsAt body i ≡ 0) ⊎ (bitsAt body i ≡ 2 ^ 63)
-  unfolding partOf
-  fitted-zero e bytes i h l =
-      zero-patterns (bitsAt body i) (littleEndian-lt 8 body (1 + 8 * i) bytes) (row-zero (ap partOf e) (eq-eqb kind 0x03 e) i h l)
-
-  six-zero : (p : Part) → ((i : ℕ) → partZero p kind body i ≡ entryZero body 0 i) → partOf kind ≡ p → ZeroFrom n (entryAt body 0)
-  six-zero p is e i h l = entryZero-is body 0 i (sym (is i) ∙ unusedZero-at n kind body z p e i h l)
-
-  unused-of : AllBytes body → Unused n kind body
+module _ (n : ℕ) (l : Layout) (body : List ℕ) (z : unusedZero n l body ≡ true) where
+  unused-of : AllBytes body → Unused n l body
   unused-of bytes =
       record {
-        scaled = scaled-zero;
-        fitted = λ e. fitted-zero e bytes;
-        drift = six-zero Drift (λ i. refl);
-        initial = six-zero Initial (λ i. refl);
-        input = six-zero Input (λ i. refl);
-        direction = six-zero Direction (λ i. refl);
+        whole = λ some ne i h k. entryZero-is body (l .first) i (sym (columnZero-whole (l .first) (l .width) body i ne) ∙ unusedZero-at n l body z some i h k);
+        fitted =
+            λ e i h k. zero-patterns (bitsAt body (l .first) i) (littleEndian-lt 8 body (l .first + 8 * i) bytes)
+            (sym (columnZero-fitted (l .first) (l .width) body i e) ∙ unusedZero-at n l body z (omega (arith, e)) i h k);
       }
 
 -- with more coordinates fewer entries lie beyond them
-unused-more : {n m kind : ℕ} {body : List ℕ} → n ≤ m → Unused n kind body → Unused m kind body
+unused-more : {n m : ℕ} {l : Layout} {body : List ℕ} → n ≤ m → Unused n l body → Unused m l body
 unused-more h u =
     record {
-      scaled = λ e i k. u .scaled e i (omega (arith, h, k));
+      whole = λ some ne i k. u .whole some ne i (omega (arith, h, k));
       fitted = λ e i k. u .fitted e i (omega (arith, h, k));
-      drift = λ e i k. u .drift e i (omega (arith, h, k));
-      initial = λ e i k. u .initial e i (omega (arith, h, k));
-      input = λ e i k. u .input e i (omega (arith, h, k));
-      direction = λ e i k. u .direction e i (omega (arith, h, k));
     }
 
 -- where no record stands there is no entry
 unused-nothing : (n : ℕ) → UnusedIn n nothing
-unfolding partOf
-unused-nothing n = unused-of n 0 [] (unusedZero-none n 0 [] refl) (λ i. record { fits = omega arith })
+unfolding layoutOf
+unused-nothing n = unused-of n (layoutOf 0) [] (unusedZero-none n (layoutOf 0) [] refl) (λ i. record { fits = omega arith })
 
 -- ---- n never falls: before the head it is 0, and no other record changes it
 
@@ -87,16 +66,16 @@ start-n : start .model .n ≡ 0
 unfolding start blankModel
 start-n = refl
 
-n-onward : (s : State) (kind : ℕ) (body : List ℕ) → AcceptedSoFar s → (p : Part) → fact p (s .last) kind ≡ true → s .model .n ≤ storedIn p s kind body .model .n
+n-onward : (s : State) (l : Layout) (body : List ℕ) → AcceptedSoFar s → (p : Part) → fact p (s .place) l ≡ true → s .model .n ≤ storedIn p s l body .model .n
 unfolding fact withRow withDrift withSetPoint withDirection withGuard
-n-onward s kind body g Head f = omega (arith, ap (λ (x : State). x .model .n) (g .first (eqb-true (s .last) 0x00 f)), start-n)
-n-onward s kind body g Row f = omega arith
-n-onward s kind body g Drift f = omega arith
-n-onward s kind body g Initial f = omega arith
-n-onward s kind body g Input f = omega arith
-n-onward s kind body g Direction f = omega arith
-n-onward s kind body g Guard f = omega arith
-n-onward s kind body g End f = omega arith
+n-onward s l body g Head f = omega (arith, ap (λ (x : State). x .model .n) (g .first (eqb-true (s .place) startPlace (and-true (eqb (s .place) startPlace) (eqb (l .place) rowsPlace) f .0))), start-n)
+n-onward s l body g Row f = omega arith
+n-onward s l body g Drift f = omega arith
+n-onward s l body g Initial f = omega arith
+n-onward s l body g Input f = omega arith
+n-onward s l body g Direction f = omega arith
+n-onward s l body g Guard f = omega arith
+n-onward s l body g End f = omega arith
 
 record Onward (n : ℕ) (p : Stop) : Type 0 where
   so-far : AcceptedSoFar (p .state)
@@ -107,7 +86,7 @@ unfolding stored
 onward-next file n at s kind body o g =
     record {
       so-far = acceptedSoFar-stored s kind body (o .so-far) (g .allowed) (g .passes);
-      least = omega (arith, o .least, n-onward s kind body (o .so-far) (partOf kind) (order-fact (s .last) kind (kindNumber-zero s kind (g .allowed) .0)));
+      least = omega (arith, o .least, n-onward s (layoutOf kind) body (o .so-far) (partOf kind) (order-fact (s .place) kind (kindNumber-zero s kind (g .allowed) .0)));
     }
 
 -- ---- the records from an offset on
@@ -119,7 +98,7 @@ module _ (file : List ℕ) (bytes : AllBytes file) where
   -- a record whose body passes
   unused-here : (s : State) (at : ℕ) → here at ≡ whole (recordKind (here at)) (recordBody (here at)) → bodyNumber s (recordKind (here at)) (recordBody (here at)) ≡ 0 → UnusedIn (s .model .n) (here at)
   unused-here s at w z =
-      unused-of (s .model .n) (recordKind (here at)) (recordBody (here at)) (bodyNumber-zero s (recordKind (here at)) (recordBody (here at)) z .0)
+      unused-of (s .model .n) (layoutOf (recordKind (here at))) (recordBody (here at)) (bodyNumber-zero s (recordKind (here at)) (recordBody (here at)) z .0)
       (whole-bytes file at (recordKind (here at)) (recordBody (here at)) w bytes)
 
   -- behind the end of the file

@@ -9,10 +9,10 @@ use Rattle.integers.specs.Whole.{nearestEven}
 use Rattle.coefficients.specs.Binary64.{binary64Unit, magnitudeOf, isZero}
 use Rattle.coefficients.specs.Entries.{fittedOk, fittedEntry, entryOfBits}
 use Rattle.coefficients.specs.Rows.{firstNumber}
-use Rattle.records.specs.Kinds.{bodyLength}
+use Rattle.records.specs.Kinds.{bodyLength, layoutOf}
 use Rattle.records.specs.Records.{recordAt}
 use Rattle.records.specs.Numbers.{littleEndian}
-use Rattle.records.specs.Order.{mayFollow, partOf}
+use Rattle.records.specs.Order.{mayFollow}
 use Rattle.columns.specs.Columns.{unusedZero}
 use Rattle.reader.specs.declared.Status.the-variants.{Read}
 use Rattle.reader.specs.Models.{zeros, blankSet, blankModel, start, sixAt, putRow, withHead, withRow, withDrift, withPoint, withSetPoint, withDirection}
@@ -34,25 +34,25 @@ unclean row low high drift =
     ++ (0xFF ∷ [])
 
 pub negative-zero-read : readModel (unclean 0 0 0x80 0) .status ≡ Read
-unfolding allBelow unusedZero isZero sumℕ maxℕ binary64Unit magnitudeOf nearestEven fittedOk fittedEntry entryOfBits firstNumber bodyLength recordAt littleEndian mayFollow partOf zeros blankSet blankModel start sixAt putRow withHead withRow withDrift withPoint withSetPoint withDirection rowNumber driftOk pointOk directionOk bodyNumber kindNumber refusal stored stopFor numberAt readingAt readFrom readModel
+unfolding allBelow unusedZero isZero sumℕ maxℕ binary64Unit magnitudeOf nearestEven fittedOk fittedEntry entryOfBits firstNumber bodyLength recordAt littleEndian mayFollow layoutOf zeros blankSet blankModel start sixAt putRow withHead withRow withDrift withPoint withSetPoint withDirection rowNumber driftOk pointOk directionOk bodyNumber kindNumber refusal stored stopFor numberAt readingAt readFrom readModel
 negative-zero-read = refl
 
 pub negative-zero-stored : readModel (unclean 0 0 0x80 0) .model ≡ readModel (unclean 0 0 0 0) .model
-unfolding allBelow unusedZero isZero sumℕ maxℕ binary64Unit magnitudeOf nearestEven fittedOk fittedEntry entryOfBits firstNumber bodyLength recordAt littleEndian mayFollow partOf zeros blankSet blankModel start sixAt putRow withHead withRow withDrift withPoint withSetPoint withDirection rowNumber driftOk pointOk directionOk bodyNumber kindNumber refusal stored stopFor numberAt readingAt readFrom readModel
+unfolding allBelow unusedZero isZero sumℕ maxℕ binary64Unit magnitudeOf nearestEven fittedOk fittedEntry entryOfBits firstNumber bodyLength recordAt littleEndian mayFollow layoutOf zeros blankSet blankModel start sixAt putRow withHead withRow withDrift withPoint withSetPoint withDirection rowNumber driftOk pointOk directionOk bodyNumber kindNumber refusal stored stopFor numberAt readingAt readFrom readModel
 negative-zero-stored = refl
 
 pub smallest-refused : readModel (unclean 0 1 0 0) ≡ refused 16 4
-unfolding allBelow unusedZero isZero magnitudeOf bodyLength recordAt littleEndian mayFollow partOf blankModel start withHead bodyNumber kindNumber refusal stored stopFor numberAt offsetAt readingAt readFrom readModel
+unfolding allBelow unusedZero isZero magnitudeOf bodyLength recordAt littleEndian mayFollow layoutOf blankModel start withHead bodyNumber kindNumber refusal stored stopFor numberAt offsetAt readingAt readFrom readModel
 smallest-refused = refl
 
 pub row-number-later : readModel (unclean 1 1 0 0) ≡ refused 16 4
-unfolding allBelow unusedZero isZero magnitudeOf bodyLength recordAt littleEndian mayFollow partOf blankModel start withHead bodyNumber kindNumber refusal stored stopFor numberAt offsetAt readingAt readFrom readModel
+unfolding allBelow unusedZero isZero magnitudeOf bodyLength recordAt littleEndian mayFollow layoutOf blankModel start withHead bodyNumber kindNumber refusal stored stopFor numberAt offsetAt readingAt readFrom readModel
 row-number-later = refl
 
 pub row-number-wrong : readModel (unclean 1 0 0 0) ≡ refused 5 4
-unfolding allBelow unusedZero isZero magnitudeOf bodyLength recordAt littleEndian mayFollow partOf blankModel start withHead rowNumber bodyNumber kindNumber refusal stored stopFor numberAt offsetAt readingAt readFrom readModel
+unfolding allBelow unusedZero isZero magnitudeOf bodyLength recordAt littleEndian mayFollow layoutOf blankModel start withHead rowNumber bodyNumber kindNumber refusal stored stopFor numberAt offsetAt readingAt readFrom readModel
 row-number-wrong = refl
 
 pub drift-unclean : readModel (unclean 0 0 0x80 1) ≡ refused 16 54
-unfolding allBelow unusedZero isZero binary64Unit magnitudeOf nearestEven fittedOk fittedEntry entryOfBits firstNumber bodyLength recordAt littleEndian mayFollow partOf zeros blankSet blankModel start putRow withHead withRow rowNumber bodyNumber kindNumber refusal stored stopFor numberAt offsetAt readingAt readFrom readModel
+unfolding allBelow unusedZero isZero binary64Unit magnitudeOf nearestEven fittedOk fittedEntry entryOfBits firstNumber bodyLength recordAt littleEndian mayFollow layoutOf zeros blankSet blankModel start putRow withHead withRow rowNumber bodyNumber kindNumber refusal stored stopFor numberAt offsetAt readingAt readFrom readModel
 drift-unclean = refl

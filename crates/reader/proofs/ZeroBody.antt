@@ -9,7 +9,7 @@ use Rattle.integers.proofs.Machine.{tabulate-cong, getD-replicate-default}
 use Rattle.records.specs.Numbers.{littleEndian, twosComplement}
 use Rattle.columns.specs.Columns.{entryAt, entryZero}
 use Rattle.reader.specs.Models.{zeros, sixAt}
-use Rattle.reader.specs.NoInput.{zeroBody}
+use Rattle.reader.specs.LeftOut.{zeroBody}
 
 littleEndian-zeros : (k at : ℕ) → littleEndian k zeroBody at ≡ 0
 unfolding littleEndian

@@ -16,14 +16,14 @@ use Rattle.reader.specs.Models.{firstByte}
 use Rattle.reader.specs.Reading.{refused, readAs, readFrom}
 
 -- Forms 11: the number of a fitted row and its six values.
-abbrev pub fittedAt : List ℕ → ℕ → Float
-fittedAt body i = ofBits binary64 (bitsAt body i)
+abbrev pub fittedAt : List ℕ → ℕ → ℕ → Float
+fittedAt body at i = ofBits binary64 (bitsAt body at i)
 
-abbrev pub heldRow : List ℕ → FittedRow
-heldRow body =
+abbrev pub heldRow : List ℕ → ℕ → FittedRow
+heldRow body at =
     record {
       number = firstByte body;
-      values = fittedAt body 0 ∷ fittedAt body 1 ∷ fittedAt body 2 ∷ fittedAt body 3 ∷ fittedAt body 4 ∷ fittedAt body 5 ∷ [];
+      values = fittedAt body at 0 ∷ fittedAt body at 1 ∷ fittedAt body at 2 ∷ fittedAt body at 3 ∷ fittedAt body at 4 ∷ fittedAt body at 5 ∷ [];
     }
 
 -- What taking a record gives: its number and, where that is 0, the state behind it.

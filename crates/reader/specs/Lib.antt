@@ -3,6 +3,7 @@ pub mod Models
 pub mod Values
 pub mod Refusals
 pub mod Reading
+pub mod LeftOut
 pub mod NoInput
 pub mod NoDrift
 pub mod Points

@@ -1,6 +1,7 @@
--- File 3, 4, 5, 8, 10 and 15: how far a file has been read, and what each record adds to the model. Definitions only. The
--- entries of a point, a drift and a direction are stored as they stand in the body, and beyond n they are zero there (File 7). A record
--- that a block has no room for changes nothing in it; none such is ever let in. Assumes nothing.
+-- File 3, 4, 5, 8, 10 and 15: how far a file has been read, and what each record adds to the model. Definitions only. What a kind is,
+-- the offset of its entries and the place behind it among it, is its layout (records *Kinds*). The entries of a point, a drift and a
+-- direction are stored as they stand in the body, and beyond n they are zero there (File 7). A record that a block has no room for
+-- changes nothing in it; none such is ever let in. Assumes nothing.
 use mathlib.Core.Bool.{Bool, true, cond}
 use mathlib.Core.List.{List}
 use Prim.Native.Nat.{ℕ, zero, suc, _+_, _*_}
@@ -12,7 +13,9 @@ use Rattle.coefficients.specs.declared.EntryAnswer.{EntryAnswer}
 use Rattle.coefficients.specs.Entries.{entryOfBits, scaledEntry}
 use Rattle.coefficients.specs.Rows.{storedSix}
 use Rattle.records.specs.Numbers.{littleEndian, signedAt}
-use Rattle.columns.specs.Columns.{entryAt, scaledAt, bitsAt}
+use Rattle.records.specs.declared.kinds.Layout.{Layout}
+use Rattle.records.specs.Places.{startPlace, rowsPlace, inputPlace}
+use Rattle.columns.specs.Columns.{entryAt, fittedWidth, bitsAt}
 use Rattle.reachability.specs.declared.sets.Shape.the-variants.{Box}
 use Rattle.reachability.specs.declared.sets.Set.{Set}
 use Rattle.reachability.specs.declared.motion.Motion.{Motion}
@@ -43,9 +46,9 @@ blankModel =
       questions = record { directions = 0; entries = zeros 96; guards = 0; watched = replicate 16 0; levels = zeros 16 };
     }
 
--- Before the first record: the place 00 of `order`, no row, a blank model.
+-- Before the first record: the first place, no row, a blank model.
 unfoldable pub start : State
-start = record { last = 0x00; rows = 0; model = blankModel }
+start = record { place = startPlace; rows = 0; model = blankModel }
 
 -- ---- the numbers in a body
 
@@ -57,9 +60,10 @@ firstByte body = getD body 0 0
 unfoldable pub sixAt : List ℕ → ℕ → List ℤ
 sixAt body at = tabulate 6 (entryAt body at)
 
--- File 5: a row is scaled or, of kind 03, fitted. The answer to its entry i is what is stored, or the number it is refused by.
-abbrev pub rowAnswer : ℕ → List ℕ → ℕ → EntryAnswer
-rowAnswer kind body i = cond (eqb kind 0x03) (entryOfBits (bitsAt body i)) (scaledEntry (scaledAt body i))
+-- File 5: a row is scaled or, with entries of 8 bytes, fitted. The answer to its entry i is what is stored, or the number it is refused
+-- by.
+abbrev pub rowAnswer : Layout → List ℕ → ℕ → EntryAnswer
+rowAnswer l body i = cond (eqb (l .width) fittedWidth) (entryOfBits (bitsAt body (l .first) i)) (scaledEntry (entryAt body (l .first) i))
 
 -- File 4.
 abbrev pub usualSteps : ℕ
@@ -119,7 +123,7 @@ setGuards m guards watched levels =
 
 -- A place in the order, the rows read and the model so far.
 abbrev pub stateOf : ℕ → ℕ → Model → State
-stateOf last rows m = record { last = last; rows = rows; model = m }
+stateOf place rows m = record { place = place; rows = rows; model = m }
 
 -- The first k of six numbers stored as one row of rows of six.
 abbrev pub putFirst : ℕ → List ℤ → ℕ → List ℤ → List ℤ
@@ -129,57 +133,58 @@ putFirst (suc k) xs row six = set (putFirst k xs row six) (6 * row + k) (vector 
 unfoldable pub putRow : List ℤ → ℕ → List ℤ → List ℤ
 putRow xs row six = putFirst 6 xs row six
 
--- File 3, kind 01.
-unfoldable pub withHead : State → List ℕ → State
-withHead s body = stateOf 0x01 0 (setHead (s .model) (firstByte body) (defaultSteps (littleEndian 2 body 1)))
+-- File 3, a head.
+unfoldable pub withHead : State → Layout → List ℕ → State
+withHead s l body = stateOf (l .place) 0 (setHead (s .model) (firstByte body) (defaultSteps (littleEndian 2 body 1)))
 
--- The place stays 01 until all n rows are in, and is 02 then.
-abbrev pub rowPlace : ℕ → ℕ → ℕ
-rowPlace rows n = cond (ltb rows n) 0x01 0x02
+-- The place stays that of the rows until all n are in.
+abbrev pub rowPlace : Layout → ℕ → ℕ → ℕ
+rowPlace l rows n = cond (ltb rows n) rowsPlace (l .place)
 
 -- One row more, of these six entries.
-abbrev pub rowStored : State → List ℤ → State
-rowStored s six =
-    stateOf (rowPlace (s .rows + 1) (s .model .n)) (s .rows + 1)
+abbrev pub rowStored : State → Layout → List ℤ → State
+rowStored s l six =
+    stateOf (rowPlace l (s .rows + 1) (s .model .n)) (s .rows + 1)
     (setMatrix (s .model) (putRow (s .model .motion .matrix) (s .rows) six))
 
--- File 3, kinds 02 and 03.
-unfoldable pub withRow : State → ℕ → List ℕ → State
-withRow s kind body = rowStored s (storedSix (s .model .n) (rowAnswer kind body))
+-- File 3, a row.
+unfoldable pub withRow : State → Layout → List ℕ → State
+withRow s l body = rowStored s l (storedSix (s .model .n) (rowAnswer l body))
 
--- File 3, kind 05. File 15: without it the drift stays that of the blank model, zero.
-unfoldable pub withDrift : State → ℕ → List ℕ → State
-withDrift s kind body = stateOf kind (s .rows) (setDrift (s .model) (sixAt body 0))
+-- File 3, the drift. File 15: without it the drift stays that of the blank model, zero.
+unfoldable pub withDrift : State → Layout → List ℕ → State
+withDrift s l body = stateOf (l .place) (s .rows) (setDrift (s .model) (sixAt body (l .first)))
 
--- File 3, kinds 10 to 14, and File 8: one point more, behind those before it.
-unfoldable pub withPoint : Set → ℕ → List ℕ → Set
-withPoint set kind body =
+-- File 3, a point of a set, and File 8: one point more, behind those before it.
+unfoldable pub withPoint : Set → Layout → List ℕ → Set
+withPoint set l body =
     record {
-      shape = shapeOf kind;
+      shape = shapeOf (l .point);
       count = set .count + 1;
-      points = putRow (set .points) (set .count) (sixAt body 0);
+      points = putRow (set .points) (set .count) (sixAt body (l .first));
     }
 
--- File 3, kinds 20 to 24: the same of the input set.
-unfoldable pub withSetPoint : Bool → State → ℕ → List ℕ → State
-withSetPoint input s kind body =
-    stateOf kind (s .rows) (setSet input (s .model) (withPoint (setOf input (s .model)) kind body))
+-- Of the initial set or, with `input`, of the input set.
+unfoldable pub withSetPoint : Bool → State → Layout → List ℕ → State
+withSetPoint input s l body =
+    stateOf (l .place) (s .rows) (setSet input (s .model) (withPoint (setOf input (s .model)) l body))
 
--- File 10: the input set once a direction stands at a place. Below 20 no input record was read, and it is the box from zero to zero.
+-- File 10: the input set once a direction stands at a place. Before the places of the input set no record of it was read, and it is the
+-- box from zero to zero.
 abbrev pub inputAt : ℕ → Model → Set
-inputAt place m = cond (ltb place 0x20) zeroBox (m .input)
+inputAt place m = cond (ltb place inputPlace) zeroBox (m .input)
 
--- File 3, kind 30. The first one settles the input set (File 10).
-unfoldable pub withDirection : State → ℕ → List ℕ → State
-withDirection s kind body =
-    stateOf kind (s .rows)
-    (setDirections (setSet true (s .model) (inputAt (s .last) (s .model))) (s .model .questions .directions + 1)
-    (putRow (s .model .questions .entries) (s .model .questions .directions) (sixAt body 0)))
+-- File 3, a direction. The first one settles the input set (File 10).
+unfoldable pub withDirection : State → Layout → List ℕ → State
+withDirection s l body =
+    stateOf (l .place) (s .rows)
+    (setDirections (setSet true (s .model) (inputAt (s .place) (s .model))) (s .model .questions .directions + 1)
+    (putRow (s .model .questions .entries) (s .model .questions .directions) (sixAt body (l .first))))
 
--- File 3, kind 40.
-unfoldable pub withGuard : State → ℕ → List ℕ → State
-withGuard s kind body =
-    stateOf kind (s .rows)
+-- File 3, a guard.
+unfoldable pub withGuard : State → Layout → List ℕ → State
+withGuard s l body =
+    stateOf (l .place) (s .rows)
     (setGuards (s .model) (s .model .questions .guards + 1)
     (set (s .model .questions .watched) (s .model .questions .guards) (firstByte body))
     (set (s .model .questions .levels) (s .model .questions .guards) (signedAt 8 body 1)))

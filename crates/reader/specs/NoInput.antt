@@ -5,38 +5,22 @@ use mathlib.Core.Bool.{Bool, true, _||_}
 use mathlib.Core.List.{List, _∷_, _++_}
 use Prim.Native.Nat.{ℕ, _+_}
 use lib.Dec.{eqb}
-use lib.ListN.{take, drop, replicate}
+use Rattle.records.specs.declared.kinds.Part.the-variants.{Direction}
+use Rattle.records.specs.Places.{initialPlace}
+use Rattle.records.specs.Kinds.{partOf}
 use Rattle.records.specs.Records.{recordAt, recordKind}
-use Rattle.reader.specs.declared.Status.{Status}
-use Rattle.reader.specs.declared.Status.the-variants.{Read, Refused}
-use Rattle.reader.specs.declared.Reading.{Reading}
 use Rattle.reader.specs.Reading.{Stop}
+use Rattle.reader.specs.LeftOut.{zeroBody}
 
--- The last record of a complete initial set is its upper corner, a generator or a vertex.
+-- The initial set is complete behind its upper corner, a generator or a vertex.
 abbrev pub completesInitial : ℕ → Bool
-completesInitial kind = eqb kind 0x11 || (eqb kind 0x13 || eqb kind 0x14)
+completesInitial place = eqb place (initialPlace + 1) || (eqb place (initialPlace + 3) || eqb place (initialPlace + 4))
 
 -- A place in a file: the initial set is complete, and the next record, whole or cut, is a direction.
 pub record NoInputAt (file : List ℕ) (p : Stop) : Type 0 where
-  pub complete : completesInitial (p .state .last) ≡ true
-  pub direction : recordKind (recordAt file (p .at)) ≡ 0x30
-
--- Six numbers of zero.
-abbrev pub zeroBody : List ℕ
-zeroBody = replicate 24 0
+  pub complete : completesInitial (p .state .place) ≡ true
+  pub direction : partOf (recordKind (recordAt file (p .at))) ≡ Direction
 
 -- A lower and an upper corner of zeros of the input set, 50 bytes.
 abbrev pub zeroCorners : List ℕ
 zeroCorners = (0x20 ∷ zeroBody) ++ (0x21 ∷ zeroBody)
-
--- A file with bytes put in at an offset.
-abbrev pub putIn : List ℕ → ℕ → List ℕ → List ℕ
-putIn more at file = take at file ++ (more ++ drop at file)
-
--- A reading with the offset of a refusal higher by so many bytes.
-abbrev pub movedStatus : ℕ → Status → Status
-movedStatus k Read = Read
-movedStatus k (Refused number offset) = Refused number (k + offset)
-
-abbrev pub moved : ℕ → Reading → Reading
-moved k r = record { status = movedStatus k (r .status); model = r .model }

@@ -1,20 +1,36 @@
--- File 3: what a kind tells of a point; Refusals 9: how many records a part may have. Definitions only. Kinds are known ones: what
--- is unknown is refused before. Assumes nothing.
-use mathlib.Core.Bool.{Bool, cond}
-use Prim.Native.Nat.{ℕ, _%_}
-use lib.Dec.{eqb, leb}
+-- File 3: what a kind tells of its record, beside what the table has. Definitions only. Assumes nothing.
+use mathlib.Core.Bool.{Bool, true, false}
+use Rattle.records.specs.declared.kinds.Part.{Part}
+use Rattle.records.specs.declared.kinds.Part.the-variants.{Head, Row, Drift, Initial, Input, Direction, Guard, End}
+use Rattle.records.specs.declared.kinds.Point.{Point}
+use Rattle.records.specs.declared.kinds.Point.the-variants.{NoPoint, Lower, Upper, Centre, Generator, Vertex}
 use Rattle.reachability.specs.declared.sets.Shape.{Shape}
 use Rattle.reachability.specs.declared.sets.Shape.the-variants.{Box, Zonotope, Vertices}
 
--- File 3: of both sets the last hexadecimal digit tells what a point is. 0 lower corner, 1 upper corner, 2 centre, 3 generator,
--- 4 vertex.
-abbrev pub shapeOf : ℕ → Shape
-shapeOf kind = cond (leb (kind % 16) 1) Box (cond (leb (kind % 16) 3) Zonotope Vertices)
+-- The shape of the set that a point belongs to.
+abbrev pub shapeOf : Point → Shape
+shapeOf NoPoint = Box
+shapeOf Lower = Box
+shapeOf Upper = Box
+shapeOf Centre = Zonotope
+shapeOf Generator = Zonotope
+shapeOf Vertex = Vertices
 
-abbrev pub isUpper : ℕ → Bool
-isUpper kind = eqb (kind % 16) 1
+-- At the upper corner both corners of a box are there.
+abbrev pub isUpper : Point → Bool
+isUpper NoPoint = false
+isUpper Lower = false
+isUpper Upper = true
+isUpper Centre = false
+isUpper Generator = false
+isUpper Vertex = false
 
--- Refusals 9: the most that a part may have. A zonotope has its centre and 8 generators (Sets 5), so 9 points. Rows are
--- not counted, so that 03 ends in 3 too makes no difference.
-abbrev pub mostOf : ℕ → ℕ
-mostOf kind = cond (eqb (kind % 16) 3) 9 16
+abbrev pub isEnd : Part → Bool
+isEnd Head = false
+isEnd Row = false
+isEnd Drift = false
+isEnd Initial = false
+isEnd Input = false
+isEnd Direction = false
+isEnd Guard = false
+isEnd End = true

@@ -4,9 +4,9 @@ use mathlib.Core.Path.{_≡_}
 use mathlib.Core.Bool.{Bool, cond}
 use mathlib.Core.List.{List}
 use Prim.Native.Nat.{ℕ, _≤_}
-use Rattle.records.specs.declared.order.Part.{Part}
-use Rattle.records.specs.declared.order.Part.the-variants.{Initial, Input}
-use Rattle.records.specs.Order.{partOf}
+use Rattle.records.specs.declared.kinds.Part.{Part}
+use Rattle.records.specs.declared.kinds.Part.the-variants.{Initial, Input}
+use Rattle.records.specs.Kinds.{layoutOf, partOf}
 use Rattle.reachability.specs.declared.sets.Set.{Set}
 use Rattle.reader.specs.declared.state.State.{State}
 use Rattle.reader.specs.Models.{start, setOf, withPoint}
@@ -26,7 +26,7 @@ abbrev pub setBefore : List ℕ → ℕ → Bool → Set
 setBefore file turns input = setOf input (stateAfter file turns .model)
 
 abbrev pub setWith : List ℕ → ℕ → Bool → ℕ → List ℕ → Set
-setWith file turns input kind body = withPoint (setBefore file turns input) kind body
+setWith file turns input kind body = withPoint (setBefore file turns input) (layoutOf kind) body
 
 -- A kind of that set may stand there and is not one too many, and the set has a point already.
 pub record PointAt (file : List ℕ) (turns : ℕ) (input : Bool) (kind : ℕ) : Type 0 where

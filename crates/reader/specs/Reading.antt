@@ -8,11 +8,13 @@ use lib.Dec.{eqb, ltb}
 use lib.ListN.{length}
 use Rattle.arrays.specs.Tests.{firstOf}
 use Rattle.records.specs.Records.{Record, recordAt, recordKind, recordBody}
+use Rattle.records.specs.Kinds.{partOf}
 use Rattle.reachability.specs.declared.model.Model.{Model}
 use Rattle.reader.specs.declared.Status.{Status}
 use Rattle.reader.specs.declared.Status.the-variants.{Read, Refused}
 use Rattle.reader.specs.declared.Reading.{Reading}
 use Rattle.reader.specs.declared.state.State.{State}
+use Rattle.reader.specs.Order.{isEnd}
 use Rattle.reader.specs.Models.{blankModel, start}
 use Rattle.reader.specs.Refusals.{refusal, stored}
 
@@ -28,7 +30,7 @@ stopHere at s = record { at = at; state = s }
 
 -- Reading goes on behind a record that is not refused and is not the end.
 abbrev pub goesOn : State → Record → Bool
-goesOn s r = eqb (refusal s r) 0 && not (eqb (recordKind r) 0xFF)
+goesOn s r = eqb (refusal s r) 0 && not (isEnd (partOf (recordKind r)))
 
 abbrev pub behind : ℕ → Record → ℕ
 behind at r = at + 1 + length (recordBody r)

@@ -8,14 +8,16 @@ use Rattle.arrays.specs.Tests.{allBetween, firstOf}
 use Rattle.stepping.specs.Refusals.{dimensionOk}
 use Rattle.coefficients.specs.Rows.{entriesNumber}
 use Rattle.records.specs.Numbers.{littleEndian}
-use Rattle.records.specs.Order.{partOf}
+use Rattle.records.specs.Kinds.{layoutOf, partOf}
 use Rattle.columns.specs.Columns.{unusedZero}
 use Rattle.reachability.specs.Sets.{reachLimit, reachWithin}
 use Rattle.reachability.specs.Entering.{enteringWithin}
 use Rattle.limits.specs.Limits.{directionLimit, allZero, cornersOrdered}
 use Rattle.reachability.specs.declared.sets.Set.{Set}
-use Rattle.records.specs.declared.order.Part.{Part}
-use Rattle.records.specs.declared.order.Part.the-variants.{Head, Row, Drift, Initial, Input, Direction, Guard, End}
+use Rattle.records.specs.declared.kinds.Layout.{Layout}
+use Rattle.records.specs.declared.kinds.Point.{Point}
+use Rattle.records.specs.declared.kinds.Part.{Part}
+use Rattle.records.specs.declared.kinds.Part.the-variants.{Head, Row, Drift, Initial, Input, Direction, Guard, End}
 use Rattle.reader.specs.declared.state.State.{State}
 use Rattle.reader.specs.Order.{isUpper}
 use Rattle.reader.specs.Models.{firstByte, sixAt, rowAnswer, setOf, withPoint}
@@ -32,24 +34,24 @@ abbrev pub within : ℕ → List ℤ → Bool
 within limit six = allBetween (negℤ (pos limit)) (pos limit) six
 
 -- Refusals 17 does not apply to the drift.
-unfoldable pub driftOk : List ℕ → Bool
-driftOk body = within reachLimit (sixAt body 0)
+unfoldable pub driftOk : Layout → List ℕ → Bool
+driftOk l body = within reachLimit (sixAt body (l .first))
 
 -- Limits 8: the corners are compared at the upper one.
-abbrev pub cornersOk : ℕ → ℕ → List ℤ → Bool
-cornersOk n kind xs = not (isUpper kind) || cornersOrdered n xs
+abbrev pub cornersOk : ℕ → Point → List ℤ → Bool
+cornersOk n point xs = not (isUpper point) || cornersOrdered n xs
 
 -- Refusals 6 does not apply to the set with this point.
-unfoldable pub pointOk : ℕ → ℕ → Set → Bool
-pointOk n kind set = reachWithin (set .shape) (set .count) (set .points) && cornersOk n kind (set .points)
+unfoldable pub pointOk : ℕ → Point → Set → Bool
+pointOk n point set = reachWithin (set .shape) (set .count) (set .points) && cornersOk n point (set .points)
 
 -- Refusals 17 does not apply to the set with this point. Of the initial set nothing is tested beside the drift.
 abbrev pub enteringPointOk : Bool → Set → List ℤ → Bool
 enteringPointOk input set drift = not input || enteringWithin (set .shape) (set .count) (set .points) drift
 
 -- Refusals 7 does not apply.
-unfoldable pub directionOk : List ℕ → Bool
-directionOk body = within directionLimit (sixAt body 0) && not (allZero (sixAt body 0) 0)
+unfoldable pub directionOk : Layout → List ℕ → Bool
+directionOk l body = within directionLimit (sixAt body (l .first)) && not (allZero (sixAt body (l .first)) 0)
 
 -- Refusals 8 does not apply.
 abbrev pub guardOk : State → List ℕ → Bool
@@ -59,28 +61,29 @@ abbrev pub unless : Bool → ℕ → ℕ
 unless ok number = cond ok 0 number
 
 -- Refusals 5, of the row number and then of the entries, or Refusals 15 of the entries.
-unfoldable pub rowNumber : State → ℕ → List ℕ → ℕ
-rowNumber s kind body = firstOf (unless (eqb (firstByte body) (s .rows)) 5) (entriesNumber (s .model .n) (rowAnswer kind body))
+unfoldable pub rowNumber : State → Layout → List ℕ → ℕ
+rowNumber s l body = firstOf (unless (eqb (firstByte body) (s .rows)) 5) (entriesNumber (s .model .n) (rowAnswer l body))
 
 -- The number of a point more of the initial set or, with `input`, of the input set: Refusals 6, then Refusals 17.
-abbrev pub pointNumberOf : Bool → ℕ → ℕ → Set → List ℤ → ℕ
-pointNumberOf input n kind set drift = firstOf (unless (pointOk n kind set) 6) (unless (enteringPointOk input set drift) 17)
+abbrev pub pointNumberOf : Bool → ℕ → Point → Set → List ℤ → ℕ
+pointNumberOf input n point set drift = firstOf (unless (pointOk n point set) 6) (unless (enteringPointOk input set drift) 17)
 
-abbrev pub pointNumber : Bool → State → ℕ → List ℕ → ℕ
-pointNumber input s kind body =
-    pointNumberOf input (s .model .n) kind (withPoint (setOf input (s .model)) kind body) (s .model .drift)
+abbrev pub pointNumber : Bool → State → Layout → List ℕ → ℕ
+pointNumber input s l body =
+    pointNumberOf input (s .model .n) (l .point) (withPoint (setOf input (s .model)) l body) (s .model .drift)
 
 -- The number of the test of a record's other values, by its part, 0 where the body passes. The end has no body.
-abbrev pub valueNumber : Part → State → ℕ → List ℕ → ℕ
-valueNumber Head s kind body = unless (headOk body) 4
-valueNumber Row s kind body = rowNumber s kind body
-valueNumber Drift s kind body = unless (driftOk body) 17
-valueNumber Initial s kind body = pointNumber false s kind body
-valueNumber Input s kind body = pointNumber true s kind body
-valueNumber Direction s kind body = unless (directionOk body) 7
-valueNumber Guard s kind body = unless (guardOk s body) 8
-valueNumber End s kind body = 0
+abbrev pub valueNumber : Part → State → Layout → List ℕ → ℕ
+valueNumber Head s l body = unless (headOk body) 4
+valueNumber Row s l body = rowNumber s l body
+valueNumber Drift s l body = unless (driftOk l body) 17
+valueNumber Initial s l body = pointNumber false s l body
+valueNumber Input s l body = pointNumber true s l body
+valueNumber Direction s l body = unless (directionOk l body) 7
+valueNumber Guard s l body = unless (guardOk s body) 8
+valueNumber End s l body = 0
 
 -- Refusals 16, then the other values: the number of a whole body, 0 where it passes.
 unfoldable pub bodyNumber : State → ℕ → List ℕ → ℕ
-bodyNumber s kind body = firstOf (unless (unusedZero (s .model .n) kind body) 16) (valueNumber (partOf kind) s kind body)
+bodyNumber s kind body =
+    firstOf (unless (unusedZero (s .model .n) (layoutOf kind) body) 16) (valueNumber (partOf kind) s (layoutOf kind) body)

@@ -3,9 +3,14 @@ use crate::order::kind_number;
 use crate::state::State;
 use crate::take::take;
 use columns::unused_zero;
+use records::kinds::Layout;
+use records::kinds::Part;
+use records::kinds::layout_of;
 ghost use mathlib.Core.Path.{_≡_};
+ghost use Rattle.records.specs.Kinds.{layoutOf};
 ghost use Rattle.records.specs.Records.{recordAt, whole};
 ghost use Rattle.columns.specs.Columns.{unusedZero};
+ghost use Rattle.reader.specs.Order.{isEnd};
 ghost use Rattle.reader.specs.Values.{unless};
 ghost use Rattle.reader.specs.Refusals.{kindNumber};
 ghost use Rattle.reader.specs.Inner.{Advances};
@@ -24,25 +29,49 @@ pub struct Advanced {
 }
 
 // 16 where an entry beyond n is not zero, else 0.
-fn unused_number(n: usize, kind: u8, body: &[u8]) -> u8
-    ensures { λ r. ⌜ r ≡ unless (unusedZero n kind (now (body .entry))) 16 ⌝ }
+fn unused_number(n: usize, layout: Layout, body: &[u8]) -> u8
+    ensures { λ r. ⌜ r ≡ unless (unusedZero n layout (now (body .entry))) 16 ⌝ }
 {
-    if unused_zero(n, kind, body) {
+    if unused_zero(n, layout, body) {
         return 0;
     }
     16
 }
 
+// The record is the end.
+fn is_end(part: Part) -> bool
+    ensures { λ b. ⌜ b ≡ isEnd part ⌝ }
+{
+    match part {
+        Part::Head => false,
+        Part::Row => false,
+        Part::Drift => false,
+        Part::Initial => false,
+        Part::Input => false,
+        Part::Direction => false,
+        Part::Guard => false,
+        Part::End => true,
+    }
+}
+
 // A whole record whose kind has passed 3 and 9. What stands beyond n comes before its other values.
-fn advance_whole(file: &[u8], at: usize, state: State, kind: u8, body: &[u8]) -> Advanced
+fn advance_whole(
+    file: &[u8],
+    at: usize,
+    state: State,
+    kind: u8,
+    layout: Layout,
+    body: &[u8],
+) -> Advanced
     requires { ⌜ recordAt (now file) at ≡ whole kind (now body) ⌝ }
+    requires { ⌜ layout ≡ layoutOf kind ⌝ }
     requires { ⌜ kindNumber state kind ≡ 0 ⌝ }
     ensures { λ r. ⌜ Advances (now (file .entry)) at state r ⌝ }
 {
     let start = at + 1;
     let model = state.model;
-    let unused = unused_number(model.n, kind, body);
-    let taken = take(state, kind, body);
+    let unused = unused_number(model.n, layout, body);
+    let taken = take(state, layout, body);
     let failed = arrays::first_of(unused, taken.number);
     if failed != 0 {
         return Advanced {
@@ -50,7 +79,8 @@ fn advance_whole(file: &[u8], at: usize, state: State, kind: u8, body: &[u8]) ->
             state,
         };
     }
-    if kind == 0xFF {
+    let part = layout.part;
+    if is_end(part) {
         if start < file.len() {
             return Advanced {
                 outcome: Outcome::Stopped(10, start),
@@ -88,7 +118,8 @@ pub(crate) fn advance(file: &[u8], at: usize, state: State) -> Advanced
             state,
         };
     }
-    let number = kind_number(state, kind);
+    let layout = layout_of(kind);
+    let number = kind_number(state, kind, layout);
     if number != 0 {
         return Advanced {
             outcome: Outcome::Stopped(number, at),
@@ -101,5 +132,5 @@ pub(crate) fn advance(file: &[u8], at: usize, state: State) -> Advanced
             state,
         };
     }
-    advance_whole(file, at, state, kind, body)
+    advance_whole(file, at, state, kind, layout, body)
 }

@@ -11,6 +11,7 @@ mod take;
 use advance::Outcome;
 use advance::advance;
 use reachability::model::Model;
+use records::places::START;
 use state::State;
 use state::blank_model;
 ghost use Rattle.reader.specs.Reading.{Reads};
@@ -34,7 +35,7 @@ pub fn read(file: &[u8]) -> Reading
     let blank = blank_model();
     let mut at: usize = 0;
     let mut state = State {
-        last: 0x00,
+        place: START,
         rows: 0,
         model: blank,
     };

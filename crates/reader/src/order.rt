@@ -1,25 +1,26 @@
 // What a kind is refused for: Refusals 3, a kind that may not stand here; Refusals 9, one record too many.
 use crate::state::State;
 use reachability::sets::Shape;
-use records::order::Part;
+use records::kinds::Layout;
+use records::kinds::Part;
+use records::kinds::Point;
 use records::order::may_follow;
-use records::order::part_of;
 ghost use mathlib.Core.Path.{_≡_};
 ghost use Rattle.reader.specs.Order.{shapeOf};
-ghost use Rattle.reader.specs.Refusals.{countOf, kindNumber};
+ghost use Rattle.reader.specs.Refusals.{countOf, kindNumberOf};
 
-// The shape of the set that a point of this kind belongs to.
-pub(crate) fn shape_of(kind: u8) -> Shape
-    ensures { λ r. ⌜ r ≡ shapeOf kind ⌝ }
+// The shape of the set that such a point belongs to.
+pub(crate) fn shape_of(point: Point) -> Shape
+    ensures { λ r. ⌜ r ≡ shapeOf point ⌝ }
 {
-    let which = kind % 16;
-    if which <= 1 {
-        return Shape::Box;
+    match point {
+        Point::NoPoint => Shape::Box,
+        Point::Lower => Shape::Box,
+        Point::Upper => Shape::Box,
+        Point::Centre => Shape::Zonotope,
+        Point::Generator => Shape::Zonotope,
+        Point::Vertex => Shape::Vertices,
     }
-    if which <= 3 {
-        return Shape::Zonotope;
-    }
-    Shape::Vertices
 }
 
 // How many the part has so far.
@@ -51,17 +52,15 @@ fn count_of(part: Part, state: State) -> usize
     }
 }
 
-// The number of a kind at a place: 3, 9, or 0 where it may stand there.
-pub(crate) fn kind_number(state: State, kind: u8) -> u8
-    ensures { λ r. ⌜ r ≡ kindNumber state kind ⌝ }
+// The number of a kind of this layout: 3, 9, or 0 where it may stand here.
+pub(crate) fn kind_number(state: State, kind: u8, layout: Layout) -> u8
+    ensures { λ r. ⌜ r ≡ kindNumberOf state kind layout ⌝ }
 {
-    let place = state.last;
+    let place = state.place;
     let misplaced: u8 = if may_follow(place, kind) { 0 } else { 3 };
-    let part = part_of(kind);
+    let part = layout.part;
     let count = count_of(part, state);
-    let which = kind % 16;
-    let most: usize = if which == 3 { 9 } else { 16 };
-    let many: u8 = if most <= count { 9 } else { 0 };
+    let many: u8 = if layout.most <= count { 9 } else { 0 };
     if misplaced != 0 {
         return misplaced;
     }

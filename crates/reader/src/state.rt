@@ -9,7 +9,7 @@ ghost use Rattle.reader.specs.Models.{blankModel};
 
 // The place in the order, the number of rows read, and the model so far.
 pub struct State {
-    pub last: u8,
+    pub place: u8,
     pub rows: usize,
     pub model: Model,
 }

@@ -4,6 +4,8 @@ use coefficients::rows::FittedRow;
 use reachability::model::Model;
 use reachability::sets::Set;
 use reachability::sets::Shape;
+use records::kinds::Layout;
+use records::places::INPUT;
 ghost use mathlib.Core.Path.{_≡_};
 ghost use Prim.Native.Nat.{_≤_, _<_};
 ghost use Rattle.reader.specs.Inner.{fittedAt, heldRow};
@@ -43,25 +45,27 @@ pub(crate) fn six_at(body: &[u8], at: usize) -> [i32; 6]
     [a, b, c, d, e, f]
 }
 
-// Fitted entry i of a body.
-fn fitted_at(body: &[u8], i: usize) -> f64
+// Fitted entry i of six at the offset `at` of a body.
+fn fitted_at(body: &[u8], at: usize, i: usize) -> f64
+    requires { ⌜ at ≤ 1 ⌝ }
     requires { ⌜ i < 6 ⌝ }
-    ensures { λ r. ⌜ r ≡ fittedAt (now (body .entry)) i ⌝ }
+    ensures { λ r. ⌜ r ≡ fittedAt (now (body .entry)) at i ⌝ }
 {
-    coefficients::value_of(records::u64_at(body, 1 + 8 * i))
+    coefficients::value_of(records::u64_at(body, at + 8 * i))
 }
 
-// The fitted row of a body.
-pub(crate) fn fitted_row(body: &[u8]) -> FittedRow
-    ensures { λ r. ⌜ r ≡ heldRow (now (body .entry)) ⌝ }
+// The fitted row of a body, with its entries at the offset `at`.
+pub(crate) fn fitted_row(body: &[u8], at: usize) -> FittedRow
+    requires { ⌜ at ≤ 1 ⌝ }
+    ensures { λ r. ⌜ r ≡ heldRow (now (body .entry)) at ⌝ }
 {
     let number = first_byte(body);
-    let a = fitted_at(body, 0);
-    let b = fitted_at(body, 1);
-    let c = fitted_at(body, 2);
-    let d = fitted_at(body, 3);
-    let e = fitted_at(body, 4);
-    let f = fitted_at(body, 5);
+    let a = fitted_at(body, at, 0);
+    let b = fitted_at(body, at, 1);
+    let c = fitted_at(body, at, 2);
+    let d = fitted_at(body, at, 3);
+    let e = fitted_at(body, at, 4);
+    let f = fitted_at(body, at, 5);
     let values = [a, b, c, d, e, f];
     FittedRow { number, values }
 }
@@ -82,15 +86,17 @@ pub(crate) fn put_row(xs: &mut [i32], row: usize, six: &[i32; 6])
 }
 
 // A set with one point more.
-pub(crate) fn with_point(set: Set, kind: u8, body: &[u8]) -> Set
+pub(crate) fn with_point(set: Set, layout: Layout, body: &[u8]) -> Set
     requires { ⌜ set .count < 16 ⌝ }
-    ensures { λ r. ⌜ r ≡ withPoint set kind (now (body .entry)) ⌝ }
+    requires { ⌜ layout .first ≤ 1 ⌝ }
+    ensures { λ r. ⌜ r ≡ withPoint set layout (now (body .entry)) ⌝ }
 {
+    let point = layout.point;
+    let shape = shape_of(point);
     let count = set.count;
-    let six = six_at(body, 0);
+    let six = six_at(body, layout.first);
     let mut points = set.points;
     put_row(&mut points, count, &six);
-    let shape = shape_of(kind);
     Set {
         shape,
         count: count + 1,
@@ -123,12 +129,13 @@ pub(crate) fn with_set(input: bool, model: Model, set: Set) -> Model
     next
 }
 
-// File 10: the input set once a direction stands at the place. Below 20 no input record was read, and it is the box from zero to zero.
+// File 10: the input set once a direction stands at the place. Before the places of the input set no record of it was read, and it is
+// the box from zero to zero.
 pub(crate) fn input_at(place: u8, model: Model) -> Set
     ensures { λ r. ⌜ r ≡ inputAt place model ⌝ }
 {
     let input = model.input;
-    if place < 0x20 {
+    if place < INPUT {
         let zero = Set {
             shape: Shape::Box,
             count: 2,

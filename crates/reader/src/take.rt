@@ -12,21 +12,37 @@ use crate::store::with_set;
 use coefficients::rows::RowEntries;
 use coefficients::rows::fitted_entries;
 use coefficients::rows::scaled_entries;
+use columns::FITTED_WIDTH;
+use limits::DIRECTION_LIMIT;
+use limits::LEAST_DIRECTION;
+use limits::MOST_STEPS;
 use reachability::entering::entering_within;
+use reachability::sets::REACH_LIMIT;
 use reachability::sets::Set;
 use reachability::sets::reach_within;
-use records::order::Part;
-use records::order::part_of;
+use records::kinds::Layout;
+use records::kinds::Part;
+use records::kinds::Point;
+use records::places::ROWS;
+use stepping::MOST_COORDINATES;
 ghost use mathlib.Core.Path.{_≡_};
 ghost use mathlib.Core.Bool.{false};
-ghost use Prim.Native.Nat.{_<_};
+ghost use Prim.Native.Nat.{_≤_, _<_};
 ghost use lib.Dec.{eqb};
-ghost use Rattle.records.specs.Order.{partOf};
 ghost use Rattle.arrays.specs.Tests.{firstOf};
 ghost use Rattle.reader.specs.Models.{withHead, rowStored, withRow, withDrift, setOf, withSetPoint, withDirection, withGuard};
+ghost use Rattle.reader.specs.Order.{isUpper};
 ghost use Rattle.reader.specs.Values.{headOk, rowNumber, driftOk, cornersOk, pointNumberOf, directionOk, guardOk, unless, pointNumber, valueNumber};
-ghost use Rattle.reader.specs.Refusals.{oneTooMany, stored};
+ghost use Rattle.reader.specs.Refusals.{oneTooMany, storedIn};
 ghost use Rattle.reader.specs.Inner.{Takes};
+
+// File 4: what steps of 0 stand for.
+const USUAL_STEPS: usize = 120;
+
+// Limits 11. The largest and the least entry of the drift.
+const DRIFT_LIMIT: i32 = REACH_LIMIT as i32;
+
+const LEAST_DRIFT: i32 = -DRIFT_LIMIT;
 
 // The number of the value test that the record fails, 0 where it passes, and then the state behind the record.
 pub struct Taken {
@@ -34,29 +50,28 @@ pub struct Taken {
     pub state: State,
 }
 
-fn take_head(state: State, body: &[u8]) -> Taken
-    ensures { λ r. ⌜ Takes (unless (headOk (now (body .entry))) 4) (withHead state (now (body .entry))) r ⌝ }
+fn take_head(state: State, layout: Layout, body: &[u8]) -> Taken
+    ensures { λ r. ⌜ Takes (unless (headOk (now (body .entry))) 4) (withHead state layout (now (body .entry))) r ⌝ }
 {
     let n = first_byte(body);
     let said = records::u16_at(body, 1) as usize;
     if n < 1 {
         return Taken { number: 4, state };
     }
-    if 6 < n {
+    if MOST_COORDINATES < n {
         return Taken { number: 4, state };
     }
-    if 256 < said {
+    if MOST_STEPS < said {
         return Taken { number: 4, state };
     }
-    // File 4: what 0 stands for.
-    let steps: usize = if said == 0 { 120 } else { said };
+    let steps: usize = if said == 0 { USUAL_STEPS } else { said };
     let mut model = state.model;
     model.n = n;
     model.steps = steps;
     Taken {
         number: 0,
         state: State {
-            last: 0x01,
+            place: layout.place,
             rows: 0,
             model,
         },
@@ -64,9 +79,9 @@ fn take_head(state: State, body: &[u8]) -> Taken
 }
 
 // One row more, where its number is that of the next row and no entry is refused.
-fn store_row(state: State, row: usize, entries: RowEntries) -> Taken
+fn store_row(state: State, layout: Layout, row: usize, entries: RowEntries) -> Taken
     requires { ⌜ row < 256 ⌝ }
-    ensures { λ r. ⌜ Takes (firstOf (unless (eqb row (state .rows)) 5) (entries .number)) (rowStored state (entries .six)) r ⌝ }
+    ensures { λ r. ⌜ Takes (firstOf (unless (eqb row (state .rows)) 5) (entries .number)) (rowStored state layout (entries .six)) r ⌝ }
 {
     let rows = state.rows;
     let misplaced: u8 = if row == rows { 0 } else { 5 };
@@ -83,11 +98,11 @@ fn store_row(state: State, row: usize, entries: RowEntries) -> Taken
     motion.matrix = matrix;
     model.motion = motion;
     let next = row + 1;
-    let last: u8 = if next < n { 0x01 } else { 0x02 };
+    let place: u8 = if next < n { ROWS } else { layout.place };
     Taken {
         number: 0,
         state: State {
-            last,
+            place,
             rows: next,
             model,
         },
@@ -95,47 +110,62 @@ fn store_row(state: State, row: usize, entries: RowEntries) -> Taken
 }
 
 // A row, scaled or fitted. The row's number stands above its entries.
-fn take_row(state: State, kind: u8, body: &[u8]) -> Taken
-    ensures { λ r. ⌜ Takes (rowNumber state kind (now (body .entry))) (withRow state kind (now (body .entry))) r ⌝ }
+fn take_row(state: State, layout: Layout, body: &[u8]) -> Taken
+    requires { ⌜ layout .first ≤ 1 ⌝ }
+    ensures { λ r. ⌜ Takes (rowNumber state layout (now (body .entry))) (withRow state layout (now (body .entry))) r ⌝ }
 {
     let model = state.model;
     let n = model.n;
-    if kind == 0x03 {
-        let held = fitted_row(body);
+    if layout.width == FITTED_WIDTH {
+        let held = fitted_row(body, layout.first);
         let entries = fitted_entries(n, held);
-        return store_row(state, held.number, entries);
+        return store_row(state, layout, held.number, entries);
     }
-    let six = six_at(body, 1);
+    let six = six_at(body, layout.first);
     let entries = scaled_entries(n, six);
-    store_row(state, first_byte(body), entries)
+    store_row(state, layout, first_byte(body), entries)
 }
 
 // The drift.
-fn take_drift(state: State, kind: u8, body: &[u8]) -> Taken
-    ensures { λ r. ⌜ Takes (unless (driftOk (now (body .entry))) 17) (withDrift state kind (now (body .entry))) r ⌝ }
+fn take_drift(state: State, layout: Layout, body: &[u8]) -> Taken
+    requires { ⌜ layout .first ≤ 1 ⌝ }
+    ensures { λ r. ⌜ Takes (unless (driftOk layout (now (body .entry))) 17) (withDrift state layout (now (body .entry))) r ⌝ }
 {
     let mut model = state.model;
-    let drift = six_at(body, 0);
-    if !arrays::all_between(-1048576, 1048576, &drift) {
+    let drift = six_at(body, layout.first);
+    if !arrays::all_between(LEAST_DRIFT, DRIFT_LIMIT, &drift) {
         return Taken { number: 17, state };
     }
     model.drift = drift;
     Taken {
         number: 0,
         state: State {
-            last: kind,
+            place: layout.place,
             rows: state.rows,
             model,
         },
     }
 }
 
-// The corners of a box, once both are read, are in order.
-fn corners_ok(n: usize, kind: u8, points: &[i32; 96]) -> bool
-    ensures { λ b. ⌜ b ≡ cornersOk n kind (now (points .entry)) ⌝ }
+// The record is the upper corner of a box.
+fn is_upper(point: Point) -> bool
+    ensures { λ b. ⌜ b ≡ isUpper point ⌝ }
 {
-    let which = kind % 16;
-    if which != 1 {
+    match point {
+        Point::NoPoint => false,
+        Point::Lower => false,
+        Point::Upper => true,
+        Point::Centre => false,
+        Point::Generator => false,
+        Point::Vertex => false,
+    }
+}
+
+// The corners of a box, once both are read, are in order.
+fn corners_ok(n: usize, point: Point, points: &[i32; 96]) -> bool
+    ensures { λ b. ⌜ b ≡ cornersOk n point (now (points .entry)) ⌝ }
+{
+    if !is_upper(point) {
         return true;
     }
     limits::corners_ordered(n, points)
@@ -143,13 +173,13 @@ fn corners_ok(n: usize, kind: u8, points: &[i32; 96]) -> bool
 
 // The number of a set with its last point so far: 6 or, of the input set, 17. A reach that is within its limit with the drift is so by
 // itself, so that it is taken once where nothing is refused.
-fn point_number(input: bool, n: usize, kind: u8, set: Set, drift: &[i32; 6]) -> u8
-    ensures { λ k. ⌜ k ≡ pointNumberOf input n kind set (now (drift .entry)) ⌝ }
+fn point_number(input: bool, n: usize, point: Point, set: Set, drift: &[i32; 6]) -> u8
+    ensures { λ k. ⌜ k ≡ pointNumberOf input n point set (now (drift .entry)) ⌝ }
 {
     let shape = set.shape;
     let count = set.count;
     let points = set.points;
-    if !corners_ok(n, kind, &points) {
+    if !corners_ok(n, point, &points) {
         return 6;
     }
     if input {
@@ -168,16 +198,18 @@ fn point_number(input: bool, n: usize, kind: u8, set: Set, drift: &[i32; 6]) -> 
 }
 
 // One point more of the initial set or, with `input`, of the input set.
-fn take_point(state: State, input: bool, kind: u8, body: &[u8]) -> Taken
+fn take_point(state: State, input: bool, layout: Layout, body: &[u8]) -> Taken
     requires { ⌜ setOf input (state .model) .count < 16 ⌝ }
-    ensures { λ r. ⌜ Takes (pointNumber input state kind (now (body .entry))) (withSetPoint input state kind (now (body .entry))) r ⌝ }
+    requires { ⌜ layout .first ≤ 1 ⌝ }
+    ensures { λ r. ⌜ Takes (pointNumber input state layout (now (body .entry))) (withSetPoint input state layout (now (body .entry))) r ⌝ }
 {
     let model = state.model;
     let n = model.n;
     let before = set_of(input, model);
-    let set = with_point(before, kind, body);
+    let set = with_point(before, layout, body);
     let drift = model.drift;
-    let number = point_number(input, n, kind, set, &drift);
+    let point = layout.point;
+    let number = point_number(input, n, point, set, &drift);
     if number != 0 {
         return Taken { number, state };
     }
@@ -185,20 +217,21 @@ fn take_point(state: State, input: bool, kind: u8, body: &[u8]) -> Taken
     Taken {
         number: 0,
         state: State {
-            last: kind,
+            place: layout.place,
             rows: state.rows,
             model: next,
         },
     }
 }
 
-fn take_direction(state: State, kind: u8, body: &[u8]) -> Taken
+fn take_direction(state: State, layout: Layout, body: &[u8]) -> Taken
     requires { ⌜ state .model .questions .directions < 16 ⌝ }
-    ensures { λ r. ⌜ Takes (unless (directionOk (now (body .entry))) 7) (withDirection state kind (now (body .entry))) r ⌝ }
+    requires { ⌜ layout .first ≤ 1 ⌝ }
+    ensures { λ r. ⌜ Takes (unless (directionOk layout (now (body .entry))) 7) (withDirection state layout (now (body .entry))) r ⌝ }
 {
     let mut model = state.model;
-    let six = six_at(body, 0);
-    if !arrays::all_between(-1000, 1000, &six) {
+    let six = six_at(body, layout.first);
+    if !arrays::all_between(LEAST_DIRECTION, DIRECTION_LIMIT, &six) {
         return Taken { number: 7, state };
     }
     if arrays::zero_outside(0, 0, &six) {
@@ -208,7 +241,7 @@ fn take_direction(state: State, kind: u8, body: &[u8]) -> Taken
     let directions = questions.directions;
     let mut entries = questions.entries;
     put_row(&mut entries, directions, &six);
-    let input = input_at(state.last, model);
+    let input = input_at(state.place, model);
     model.input = input;
     questions.directions = directions + 1;
     questions.entries = entries;
@@ -216,16 +249,16 @@ fn take_direction(state: State, kind: u8, body: &[u8]) -> Taken
     Taken {
         number: 0,
         state: State {
-            last: kind,
+            place: layout.place,
             rows: state.rows,
             model,
         },
     }
 }
 
-fn take_guard(state: State, kind: u8, body: &[u8]) -> Taken
+fn take_guard(state: State, layout: Layout, body: &[u8]) -> Taken
     requires { ⌜ state .model .questions .guards < 16 ⌝ }
-    ensures { λ r. ⌜ Takes (unless (guardOk state (now (body .entry))) 8) (withGuard state kind (now (body .entry))) r ⌝ }
+    ensures { λ r. ⌜ Takes (unless (guardOk state (now (body .entry))) 8) (withGuard state layout (now (body .entry))) r ⌝ }
 {
     let mut model = state.model;
     let direction = first_byte(body);
@@ -245,27 +278,29 @@ fn take_guard(state: State, kind: u8, body: &[u8]) -> Taken
     Taken {
         number: 0,
         state: State {
-            last: kind,
+            place: layout.place,
             rows: state.rows,
             model,
         },
     }
 }
 
-// The record's value test and the state behind it. The kind has passed 3 and 9.
-pub(crate) fn take(state: State, kind: u8, body: &[u8]) -> Taken
-    requires { ⌜ oneTooMany state kind ≡ false ⌝ }
-    ensures { λ r. ⌜ Takes (valueNumber (partOf kind) state kind (now (body .entry))) (stored state kind (now (body .entry))) r ⌝ }
+// The record's value test and the state behind it. Its kind has passed 3 and 9.
+pub(crate) fn take(state: State, layout: Layout, body: &[u8]) -> Taken
+    requires { ⌜ oneTooMany state layout ≡ false ⌝ }
+    requires { ⌜ layout .most ≤ 16 ⌝ }
+    requires { ⌜ layout .first ≤ 1 ⌝ }
+    ensures { λ r. ⌜ Takes (valueNumber (layout .part) state layout (now (body .entry))) (storedIn (layout .part) state layout (now (body .entry))) r ⌝ }
 {
-    let part = part_of(kind);
+    let part = layout.part;
     match part {
-        Part::Head => take_head(state, body),
-        Part::Row => take_row(state, kind, body),
-        Part::Drift => take_drift(state, kind, body),
-        Part::Initial => take_point(state, false, kind, body),
-        Part::Input => take_point(state, true, kind, body),
-        Part::Direction => take_direction(state, kind, body),
-        Part::Guard => take_guard(state, kind, body),
+        Part::Head => take_head(state, layout, body),
+        Part::Row => take_row(state, layout, body),
+        Part::Drift => take_drift(state, layout, body),
+        Part::Initial => take_point(state, false, layout, body),
+        Part::Input => take_point(state, true, layout, body),
+        Part::Direction => take_direction(state, layout, body),
+        Part::Guard => take_guard(state, layout, body),
         Part::End => Taken { number: 0, state },
     }
 }

@@ -1,59 +1,77 @@
--- Laws of `bodyLength`: a test of every known kind, which antt computes; with it, that every kind is a byte other than 0 and
--- no body is longer than 49 bytes. Assumes nothing.
+-- Laws of the table of kinds. In order: what every row passes holds of a known kind; every kind is a byte other than 0, and no body is
+-- longer than 49 bytes; what every row and the layout of an unknown kind pass holds of any layout. Assumes nothing.
 use mathlib.Core.Path.{_≡_, refl, sym, ap, _∙_}
-use mathlib.Core.Bool.{Bool, true}
+use mathlib.Core.Bool.{Bool, true, false, cond, _&&_}
+use mathlib.Core.List.{List, [], _∷_}
 use Prim.Native.Nat.{ℕ, _≤_, _<_}
-use native.Mathlib.Decide.{decLt}
 use native.Mathlib.Omega.{arith}
-use borrow.Author.Tests.{ne-eqb, le-leb, lt-leb, leb-true}
-use lib.Dec.{leb}
-use Rattle.integers.specs.Sums.{allBelow}
-use Rattle.integers.proofs.Sums.{allBelow-at}
-use Rattle.records.specs.declared.kinds.BodyLength.{BodyLength}
+use borrow.Author.Tests.{eqb-true, leb-true}
+use lib.Dec.{eqb, leb}
+use Rattle.integers.proofs.Booleans.{and-true}
 use Rattle.records.specs.declared.kinds.BodyLength.the-variants.{Bytes, Unknown}
-use Rattle.records.specs.Kinds.{bodyLength}
+use Rattle.records.specs.declared.kinds.Layout.{Layout}
+use Rattle.records.specs.Kinds.{kinds, told, bodyLength, noLayout, layoutOf}
 
--- No kind is beyond a byte.
-pub bodyLength-beyond : (kind : ℕ) → 256 ≤ kind → bodyLength kind ≡ Unknown
-unfolding bodyLength
-bodyLength-beyond kind h =
-    simp (
-      ne-eqb kind 0x01 (λ e. omega arith),
-      ne-eqb kind 0x02 (λ e. omega arith),
-      ne-eqb kind 0x03 (λ e. omega arith),
-      ne-eqb kind 0x05 (λ e. omega arith),
-      le-leb 0x10 kind (omega arith),
-      lt-leb kind 0x14 (omega arith),
-      le-leb 0x20 kind (omega arith),
-      lt-leb kind 0x24 (omega arith),
-      ne-eqb kind 0x30 (λ e. omega arith),
-      ne-eqb kind 0x40 (λ e. omega arith),
-      ne-eqb kind 0xFF (λ e. omega arith),
-    )
+-- A test of a kind and what it is, of every row.
+abbrev pub everyRow : (ℕ → Layout → Bool) → List (ℕ × Layout) → Bool
+everyRow p [] = true
+everyRow p (row ∷ rows) = p (row .0) (row .1) && everyRow p rows
 
--- A test of a kind and its body length, passed where the kind is unknown.
-abbrev pub tested : (ℕ → ℕ → Bool) → ℕ → BodyLength → Bool
-tested p kind (Bytes n) = p kind n
-tested p kind Unknown = true
+-- ---- a known kind
 
-unfoldable pub everyKind : (ℕ → ℕ → Bool) → Bool
-everyKind p = allBelow 256 (λ kind. tested p kind (bodyLength kind))
+-- The row of a kind with a body length: its test, and its length.
+record RowOf (p : ℕ → Layout → Bool) (kind n : ℕ) (l : Layout) : Type 0 where
+  passes : p kind l ≡ true
+  length-is : l .length ≡ n
 
--- What every kind passes holds of a known kind: `everyKind-at p refl ..` under `unfolding allBelow everyKind bodyLength`.
-pub everyKind-at : (p : ℕ → ℕ → Bool) → everyKind p ≡ true → (kind n : ℕ) → bodyLength kind ≡ Bytes n → p kind n ≡ true
-unfolding everyKind
-everyKind-at p t kind n e = elim (decLt kind 256) [ yes l ↦ byte l | no g ↦ beyond (omega (arith, g)) ]
+row-of : (p : ℕ → Layout → Bool) (kind n : ℕ) (rows : List (ℕ × Layout)) → everyRow p rows ≡ true → told (λ l. Bytes (l .length)) Unknown kind rows ≡ Bytes n → RowOf p kind n (told (λ l. l) noLayout kind rows)
+row-of p kind n [] t e = let z : _≡_ {A = ℕ} 0 1 = cc in absurd (omega arith)
+row-of p kind n (row ∷ rows) t e = split (eqb (row .0) kind) refl e (row-of p kind n rows (both .1))
   where
-    byte : kind < 256 → p kind n ≡ true
-    byte l = sym (ap (tested p kind) e) ∙ allBelow-at 256 (λ k. tested p k (bodyLength k)) t kind l
+    both : (p (row .0) (row .1) ≡ true) × (everyRow p rows ≡ true)
+    both = and-true (p (row .0) (row .1)) (everyRow p rows) t
 
-    beyond : 256 ≤ kind → p kind n ≡ true
-    beyond g = let u = bodyLength-beyond kind g in let z : _≡_ {A = ℕ} 0 1 = cc in absurd (omega arith)
+    split : (b : Bool) → eqb (row .0) kind ≡ b → cond b (Bytes (row .1 .length)) (told (λ l. Bytes (l .length)) Unknown kind rows) ≡ Bytes n → (told (λ l. Bytes (l .length)) Unknown kind rows ≡ Bytes n → RowOf p kind n (told (λ l. l) noLayout kind rows)) → RowOf p kind n (cond b (row .1) (told (λ l. l) noLayout kind rows))
+    split true is e go = record { passes = ap (λ (k : ℕ). p k (row .1)) (sym (eqb-true (row .0) kind is)) ∙ both .0; length-is = cc }
+    split false is e go = go e
 
-pub kind-above-zero : (kind n : ℕ) → bodyLength kind ≡ Bytes n → 0 < kind
-unfolding allBelow everyKind bodyLength
-kind-above-zero kind n e = leb-true 1 kind (everyKind-at (λ k m. leb 1 k) refl kind n e)
+module _ (kind n : ℕ) (known : bodyLength kind ≡ Bytes n) where
+  -- what every row passes: `known-at p refl`
+  pub known-at : (p : ℕ → Layout → Bool) → everyRow p kinds ≡ true → p kind (layoutOf kind) ≡ true
+  unfolding bodyLength layoutOf
+  known-at p t = row-of p kind n kinds t known .passes
 
-pub bodyLength-le : (kind n : ℕ) → bodyLength kind ≡ Bytes n → n ≤ 49
-unfolding allBelow everyKind bodyLength
-bodyLength-le kind n e = leb-true n 49 (everyKind-at (λ k m. leb m 49) refl kind n e)
+  pub known-length : layoutOf kind .length ≡ n
+  unfolding bodyLength layoutOf
+  known-length = row-of (λ k l. true) kind n kinds refl known .length-is
+
+  pub kind-above-zero : 0 < kind
+  kind-above-zero = leb-true 1 kind (known-at (λ k l. leb 1 k) refl)
+
+  pub bodyLength-le : n ≤ 49
+  bodyLength-le = omega (arith, known-length, leb-true (layoutOf kind .length) 49 (known-at (λ k l. leb (l .length) 49) refl))
+
+-- ---- any kind
+
+told-at : (p : Layout → Bool) (kind : ℕ) (rows : List (ℕ × Layout)) → p noLayout ≡ true → everyRow (λ k. p) rows ≡ true → p (told (λ l. l) noLayout kind rows) ≡ true
+told-at p kind [] none t = none
+told-at p kind (row ∷ rows) none t = split (eqb (row .0) kind) (told-at p kind rows none (both .1))
+  where
+    both : (p (row .1) ≡ true) × (everyRow (λ k. p) rows ≡ true)
+    both = and-true (p (row .1)) (everyRow (λ k. p) rows) t
+
+    split : (b : Bool) → p (told (λ l. l) noLayout kind rows) ≡ true → p (cond b (row .1) (told (λ l. l) noLayout kind rows)) ≡ true
+    split true go = both .0
+    split false go = go
+
+pub layout-at : (p : Layout → Bool) → p noLayout ≡ true → everyRow (λ k. p) kinds ≡ true → (kind : ℕ) → p (layoutOf kind) ≡ true
+unfolding layoutOf
+layout-at p none t kind = told-at p kind kinds none t
+
+-- at most the number of a row stands before the entries
+pub firstEntry-le : (kind : ℕ) → layoutOf kind .first ≤ 1
+firstEntry-le kind = leb-true (layoutOf kind .first) 1 (layout-at (λ l. leb (l .first) 1) refl refl kind)
+
+-- no part has more than 16
+pub most-le : (kind : ℕ) → layoutOf kind .most ≤ 16
+most-le kind = leb-true (layoutOf kind .most) 16 (layout-at (λ l. leb (l .most) 16) refl refl kind)

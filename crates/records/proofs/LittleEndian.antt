@@ -1,11 +1,11 @@
--- Laws of `littleEndian`. In order: one byte more; agreement of two lists; a part of a list; the range.
+-- Laws of `littleEndian`. In order: one byte more; bytes beyond the end; the range.
 -- Assumes nothing.
 use mathlib.Core.Path.{_≡_, refl, ap}
 use mathlib.Core.List.{List}
 use Prim.Native.Nat.{ℕ, zero, suc, _+_, _*_, _^_, _≤_, _<_}
 use native.Mathlib.Nat.{lt-of-lt-of-le, mul-le-mul-left}
 use native.Mathlib.Omega.{arith}
-use lib.ListN.{getD}
+use lib.ListN.{length, getD, List·getD-eq-default}
 use lib.Pow.{pow-add, pow-mono}
 use mir.Syntax.{w8}
 use mir.Val.{Fits}
@@ -19,6 +19,12 @@ AllBytes l = (i : ℕ) → Fits w8 (getD l i 0)
 pub littleEndian-suc : (k : ℕ) (l : List ℕ) (at : ℕ) → littleEndian (suc k) l at ≡ getD l at 0 + 256 * littleEndian k l (suc at)
 unfolding littleEndian
 littleEndian-suc k l at = refl
+
+-- beyond the end every byte counts as 0
+pub littleEndian-beyond : (k : ℕ) (l : List ℕ) (at : ℕ) → length l ≤ at → littleEndian k l at ≡ 0
+unfolding littleEndian
+littleEndian-beyond zero l at h = refl
+littleEndian-beyond (suc k) l at h = omega (arith, List·getD-eq-default l 0 {n = at} h, littleEndian-beyond k l (suc at) (omega arith))
 
 -- k bytes are a number of 8 × k bits.
 pub littleEndian-lt : (k : ℕ) (l : List ℕ) (at : ℕ) → AllBytes l → littleEndian k l at < 2 ^ (8 * k)

@@ -1,1 +1,1 @@
-pub mod Table
+pub mod InTable

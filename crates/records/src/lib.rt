@@ -3,9 +3,10 @@
 //
 // No public function has a `requires`: any bytes, any offset gets its answer. How many records a part may have, and what a body may
 // hold, is the reader's.
-mod kinds;
+pub mod kinds;
 mod numbers;
 pub mod order;
+pub mod places;
 
 use kinds::BodyLength;
 pub use numbers::i32_at;

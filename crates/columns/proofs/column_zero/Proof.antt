@@ -1,11 +1,9 @@
 -- `columns::column_zero` meets its contract. Assumes nothing.
-use Rattle.integers.proofs.Basics.{sym, ap, _∙_, Bool, ℤ, natAbs, needs, w32}
-use mathlib.Core.Bool.{cond}
-use borrow.Author.Tests.{eq-eqb, ne-eqb}
+use Rattle.integers.proofs.Basics.{sym, ap, _∙_, ℤ, natAbs, needs, w32}
 use lib.Dec.{eqb}
 use Rattle.integers.proofs.Machine.{eqb-of-bits}
 use Rattle.coefficients.specs.Binary64.{isZero}
-use Rattle.columns.specs.Columns.{bitsAt, entryZero}
+use Rattle.columns.proofs.ColumnLaws.{columnZero-fitted, columnZero-whole}
 use Rattle.columns.proofs.column_zero.Statement.{statement}
 use Rattle.columns.proofs.column_zero.Tie as tie
 
@@ -14,14 +12,14 @@ returns c =
     let a = c .before .before .before .before .args in
     c .is-zero .ensures
     ∙ ap isZero (c .before .u64-at .ensures)
-    ∙ sym (ap (λ (b : Bool). cond b (isZero (bitsAt (a .body .now) (a .i))) (entryZero (a .body .now) (a .at) (a .i))) (eq-eqb _ _ (c .before .before .if1 .taken)))
+    ∙ sym (columnZero-fitted (a .first) (a .width) (a .body .now) (a .i) (c .before .before .if1 .taken))
 
 returns-2 : tie.Need-returns-2
 returns-2 c =
     let a = c .before .before .before .args in
     eqb-of-bits w32 {z = c .i32-at .result} (record { sfits = c .i32-at .ok })
     ∙ ap (λ (z : ℤ). eqb (natAbs z) 0) (c .i32-at .ensures)
-    ∙ sym (ap (λ (b : Bool). cond b (isZero (bitsAt (a .body .now) (a .i))) (entryZero (a .body .now) (a .at) (a .i))) (ne-eqb _ _ (c .before .if1 .left)))
+    ∙ sym (columnZero-whole (a .first) (a .width) (a .body .now) (a .i) (c .before .if1 .left))
 
 pub column-zero-spec : {M : Type 1} → statement M
 column-zero-spec =

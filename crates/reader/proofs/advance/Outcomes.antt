@@ -1,12 +1,14 @@
 -- Laws of `Advances`, by the record that stands at the offset: each outcome that the code gives there is the right one.
 -- Assumes nothing.
 use mathlib.Core.Path.{_≡_, refl, sym, ap, _∙_}
+use mathlib.Core.Bool.{true, false}
 use mathlib.Core.List.{List}
 use Prim.Native.Nat.{ℕ, _+_, _≤_, _<_}
 use native.Mathlib.Decide.{decLt}
 use native.Mathlib.Omega.{arith}
 use lib.ListN.{length}
 use denote.Ref.{RefT, now}
+use Rattle.records.specs.Kinds.{partOf}
 use Rattle.records.specs.Records.{Record, whole, short, unknown, nothing, recordAt, RecordStep}
 use Rattle.records.proofs.KnownKinds.{kind-above-zero}
 use Rattle.records.proofs.RecordAt.{whole-of, whole-length, nothing-of, recordAt-nothing, recordStep-whole, recordStep-nothing, recordStep-short, recordStep-number-le}
@@ -14,6 +16,7 @@ use Rattle.reader.specs.declared.state.State.{State}
 use Rattle.reader.specs.declared.advance.Outcome.{Outcome}
 use Rattle.reader.specs.declared.advance.Outcome.the-variants.{Next, Ended, Stopped}
 use Rattle.reader.specs.declared.advance.Advanced.{Advanced}
+use Rattle.reader.specs.Order.{isEnd}
 use Rattle.reader.specs.Values.{bodyNumber}
 use Rattle.reader.specs.Refusals.{kindNumber, refusal, stored}
 use Rattle.reader.specs.Reading.{refused, readAs, readFrom}
@@ -54,10 +57,10 @@ module _ {file : List ℕ} {at : ℕ} {s : State} {r : Advanced} where
       advances-value e ne stops = refusing is (λ f. let z : _≡_ {A = ℕ} 0 1 = cc in omega arith) (refusal-whole s kind body passes ∙ sym e) ne stops
 
       module _ (z : bodyNumber s kind body ≡ 0) where
-        pub advances-more : kind ≡ 0xFF → at + 1 < length file → r .outcome ≡ Stopped 10 (at + 1) → Advances file at s r
+        pub advances-more : isEnd (partOf kind) ≡ true → at + 1 < length file → r .outcome ≡ Stopped 10 (at + 1) → Advances file at s r
         advances-more e h stops = stopped stops (sym (readFrom-more file at s is (refusal-whole s kind body passes ∙ z) e h))
 
-        pub advances-ended : kind ≡ 0xFF → length file ≤ at + 1 → r .outcome ≡ Ended → r .state ≡ s → Advances file at s r
+        pub advances-ended : isEnd (partOf kind) ≡ true → length file ≤ at + 1 → r .outcome ≡ Ended → r .state ≡ s → Advances file at s r
         advances-ended e h ends same =
             record {
               reads =
@@ -66,7 +69,7 @@ module _ {file : List ℕ} {at : ℕ} {s : State} {r : Advanced} where
               forward = λ next f. let z : _≡_ {A = ℕ} 0 1 = cc in absurd (omega arith);
             }
 
-        pub advances-next : (kind ≡ 0xFF → ⊥) → r .outcome ≡ Next (at + 1 + length body) → r .state ≡ stored s kind body → Advances file at s r
+        pub advances-next : isEnd (partOf kind) ≡ false → r .outcome ≡ Next (at + 1 + length body) → r .state ≡ stored s kind body → Advances file at s r
         advances-next ne goes after =
             record {
               reads =

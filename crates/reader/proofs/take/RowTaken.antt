@@ -18,37 +18,38 @@ use Rattle.coefficients.proofs.RowLaws.{entriesOf-cong, each-of-six}
 use Rattle.records.proofs.LittleEndian.{AllBytes, littleEndian-lt}
 use Rattle.reader.specs.declared.state.State.{State}
 use Rattle.reader.specs.declared.take.Taken.{Taken}
-use Rattle.columns.specs.Columns.{entryAt, scaledAt, bitsAt}
+use Rattle.records.specs.declared.kinds.Layout.{Layout}
+use Rattle.columns.specs.Columns.{entryAt, fittedWidth, bitsAt}
 use Rattle.reader.specs.Models.{firstByte, sixAt, rowAnswer, rowStored, withRow}
 use Rattle.reader.specs.Values.{unless, rowNumber}
 use Rattle.reader.specs.Inner.{Takes, fittedAt, heldRow}
 
-module _ (n kind : ℕ) (body : List ℕ) where
-  -- of kind 03
-  fitted-answer : AllBytes body → kind ≡ 0x03 → (i : ℕ) → entryOf (Fitted (fittedAt body i)) ≡ rowAnswer kind body i
+module _ (n : ℕ) (l : Layout) (body : List ℕ) where
+  -- with entries of 8 bytes
+  fitted-answer : AllBytes body → l .width ≡ fittedWidth → (i : ℕ) → entryOf (Fitted (fittedAt body (l .first) i)) ≡ rowAnswer l body i
   fitted-answer bytes e i =
-      entryOf-bits (bitsAt body i) (littleEndian-lt 8 body (1 + 8 * i) bytes)
-      ∙ sym (ap (λ (b : Bool). cond b (entryOfBits (bitsAt body i)) (scaledEntry (scaledAt body i))) (eq-eqb kind 0x03 e))
+      entryOf-bits (bitsAt body (l .first) i) (littleEndian-lt 8 body (l .first + 8 * i) bytes)
+      ∙ sym (ap (λ (b : Bool). cond b (entryOfBits (bitsAt body (l .first) i)) (scaledEntry (entryAt body (l .first) i))) (eq-eqb (l .width) fittedWidth e))
 
-  pub fitted-taken : AllBytes body → kind ≡ 0x03 → entriesOf n (fittedRow (heldRow body .values)) ≡ entriesOf n (rowAnswer kind body)
+  pub fitted-taken : AllBytes body → l .width ≡ fittedWidth → entriesOf n (fittedRow (heldRow body (l .first) .values)) ≡ entriesOf n (rowAnswer l body)
   fitted-taken bytes e =
       let at = fitted-answer bytes e in
-      entriesOf-cong n (each-of-six (λ i. fittedRow (heldRow body .values) i ≡ rowAnswer kind body i) (at 0) (at 1) (at 2) (at 3) (at 4) (at 5))
+      entriesOf-cong n (each-of-six (λ i. fittedRow (heldRow body (l .first) .values) i ≡ rowAnswer l body i) (at 0) (at 1) (at 2) (at 3) (at 4) (at 5))
 
-  -- of kind 02
-  scaled-answer : (kind ≡ 0x03 → ⊥) → (i : ℕ) → i < 6 → scaledRow (sixAt body 1) i ≡ rowAnswer kind body i
+  -- with entries of 4
+  scaled-answer : (l .width ≡ fittedWidth → ⊥) → (i : ℕ) → i < 6 → scaledRow (sixAt body (l .first)) i ≡ rowAnswer l body i
   unfolding sixAt entryOf
-  scaled-answer ne i l =
-      ap scaledEntry (getD-tabulate 6 (entryAt body 1) i (pos 0) l)
-      ∙ sym (ap (λ (b : Bool). cond b (entryOfBits (bitsAt body i)) (scaledEntry (scaledAt body i))) (ne-eqb kind 0x03 ne))
+  scaled-answer ne i k =
+      ap scaledEntry (getD-tabulate 6 (entryAt body (l .first)) i (pos 0) k)
+      ∙ sym (ap (λ (b : Bool). cond b (entryOfBits (bitsAt body (l .first) i)) (scaledEntry (entryAt body (l .first) i))) (ne-eqb (l .width) fittedWidth ne))
 
-  pub scaled-taken : (kind ≡ 0x03 → ⊥) → entriesOf n (scaledRow (sixAt body 1)) ≡ entriesOf n (rowAnswer kind body)
+  pub scaled-taken : (l .width ≡ fittedWidth → ⊥) → entriesOf n (scaledRow (sixAt body (l .first))) ≡ entriesOf n (rowAnswer l body)
   scaled-taken ne = entriesOf-cong n (scaled-answer ne)
 
 -- the number and the state
-pub row-taken : (s : State) (kind : ℕ) (body : List ℕ) {row : ℕ} {entries : RowEntries} {r : Taken} → row ≡ firstByte body → entries ≡ entriesOf (s .model .n) (rowAnswer kind body)
-    → Takes (firstOf (unless (eqb row (s .rows)) 5) (entries .number)) (rowStored s (entries .six)) r → Takes (rowNumber s kind body) (withRow s kind body) r
+pub row-taken : (s : State) (l : Layout) (body : List ℕ) {row : ℕ} {entries : RowEntries} {r : Taken} → row ≡ firstByte body → entries ≡ entriesOf (s .model .n) (rowAnswer l body)
+    → Takes (firstOf (unless (eqb row (s .rows)) 5) (entries .number)) (rowStored s l (entries .six)) r → Takes (rowNumber s l body) (withRow s l body) r
 unfolding entriesOf rowNumber withRow
-row-taken s kind body {row} {entries} {r} e f t =
-    subst (λ (k : ℕ). Takes (firstOf (unless (eqb k (s .rows)) 5) (entriesOf (s .model .n) (rowAnswer kind body) .number)) (rowStored s (entriesOf (s .model .n) (rowAnswer kind body) .six)) r) e
-    (subst (λ (x : RowEntries). Takes (firstOf (unless (eqb row (s .rows)) 5) (x .number)) (rowStored s (x .six)) r) f t)
+row-taken s l body {row} {entries} {r} e f t =
+    subst (λ (k : ℕ). Takes (firstOf (unless (eqb k (s .rows)) 5) (entriesOf (s .model .n) (rowAnswer l body) .number)) (rowStored s l (entriesOf (s .model .n) (rowAnswer l body) .six)) r) e
+    (subst (λ (x : RowEntries). Takes (firstOf (unless (eqb row (s .rows)) 5) (x .number)) (rowStored s l (x .six)) r) f t)

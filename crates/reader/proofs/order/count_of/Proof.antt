@@ -1,6 +1,6 @@
 -- `reader::order::count_of` meets its contract, part by part. Assumes nothing.
 use Rattle.integers.proofs.Basics.{sym, ap, needs}
-use Rattle.records.specs.declared.order.Part.{Part}
+use Rattle.records.specs.declared.kinds.Part.{Part}
 use Rattle.reader.specs.Refusals.{countOf}
 use Rattle.reader.proofs.order.count_of.Statement.{statement}
 use Rattle.reader.proofs.order.count_of.Tie as tie

@@ -10,21 +10,25 @@ use Rattle.reader.proofs.store.with_point.Tie as tie
 point : Shape → ℕ → List ℤ → Set
 point shape count points = record { shape = shape; count = count; points = points }
 
+six-at-requires : tie.Need-six-at-requires
+six-at-requires c κs = c .before .before .pre .1
+
 returns : tie.Need-returns
 unfolding withPoint point
 returns c =
-    let at-six = c .before .before .before .before .before .before in
-    let s = at-six .before .before .args .set in
-    ap₂ (λ (sh : Shape) (ps : List ℤ). point sh (s .count + 1) ps) (c .shape-of .ensures)
-    (c .before .before .put-row .ensures ∙ ap (λ (six : List ℤ). putRow (s .points) (s .count) six) (at-six .six-at .ensures))
+    let at-six = c .before .before .before .before .before in
+    let a = at-six .before .before .before .args in
+    let s = a .set in
+    ap₂ (λ (sh : Shape) (ps : List ℤ). point sh (s .count + 1) ps) (at-six .before .shape-of .ensures)
+    (c .before .put-row .ensures ∙ ap (λ (six : List ℤ). putRow (s .points) (s .count) six) (at-six .six-at .ensures))
 
 pub with-point-spec : {M : Type 1} → statement M
 with-point-spec =
     tie.close
     (tie.spec
     (λ c κs. search needs)
+    six-at-requires
     (λ c. search needs)
-    (λ c κs. search needs)
     (λ c κs. search needs)
     (λ c. search needs)
     returns)

@@ -5,6 +5,7 @@ use mathlib.Core.Bool.{not, _&&_, _||_}
 use mathlib.Core.List.{List}
 use borrow.Author.Tests.{not-true, not-false}
 use Rattle.arrays.specs.Tests.{firstOf}
+use Rattle.records.specs.declared.kinds.Point.{Point}
 use Rattle.reachability.specs.declared.sets.Set.{Set}
 use Rattle.reachability.specs.Sets.{reachWithin}
 use Rattle.reachability.specs.Entering.{enteringWithin}
@@ -17,9 +18,9 @@ use Rattle.reader.proofs.take.point_number.Tie as tie
 numberBy : Bool → Bool → Bool → Bool → ℕ
 numberBy input corners reach enters = firstOf (unless (reach && corners) 6) (unless (not input || enters) 17)
 
-by-tests : (input : Bool) (n kind : ℕ) (set : Set) (drift : List ℤ) {i c r e : Bool} → input ≡ i → cornersOk n kind (set .points) ≡ c → reachWithin (set .shape) (set .count) (set .points) ≡ r → enteringWithin (set .shape) (set .count) (set .points) drift ≡ e → pointNumberOf input n kind set drift ≡ numberBy i c r e
+by-tests : (input : Bool) (n : ℕ) (point : Point) (set : Set) (drift : List ℤ) {i c r e : Bool} → input ≡ i → cornersOk n point (set .points) ≡ c → reachWithin (set .shape) (set .count) (set .points) ≡ r → enteringWithin (set .shape) (set .count) (set .points) drift ≡ e → pointNumberOf input n point set drift ≡ numberBy i c r e
 unfolding pointOk numberBy
-by-tests input n kind set drift p q u w =
+by-tests input n point set drift p q u w =
     ap₂ firstOf (ap (λ (b : Bool). unless b 6) (ap₂ _&&_ u q)) (ap (λ (b : Bool). unless b 17) (ap₂ (λ (a b : Bool). not a || b) p w))
 
 by-corners : (input reach enters : Bool) → numberBy input false reach enters ≡ 6
@@ -30,17 +31,17 @@ by-corners input false enters = refl
 returns : tie.Need-returns
 returns c =
     let a = c .before .before .before .before .args in
-    sym (by-tests (a .input) (a .n) (a .kind) (a .set) (a .drift .now) refl (sym (c .before .corners-ok .ensures) ∙ not-true _ (c .if1 .taken)) refl refl ∙ by-corners (a .input) _ _)
+    sym (by-tests (a .input) (a .n) (a .point) (a .set) (a .drift .now) refl (sym (c .before .corners-ok .ensures) ∙ not-true _ (c .if1 .taken)) refl refl ∙ by-corners (a .input) _ _)
 
 -- the corners have passed
 module _ (c : tie.Else1) where
   abbrev start : tie.Start
   start = c .before .before .before .before
 
-  number : {i r e : Bool} → start .args .input ≡ i → reachWithin (start .args .set .shape) (start .args .set .count) (start .args .set .points) ≡ r → enteringWithin (start .args .set .shape) (start .args .set .count) (start .args .set .points) (start .args .drift .now) ≡ e → numberBy i true r e ≡ pointNumberOf (start .args .input) (start .args .n) (start .args .kind) (start .args .set) (start .args .drift .now)
+  number : {i r e : Bool} → start .args .input ≡ i → reachWithin (start .args .set .shape) (start .args .set .count) (start .args .set .points) ≡ r → enteringWithin (start .args .set .shape) (start .args .set .count) (start .args .set .points) (start .args .drift .now) ≡ e → numberBy i true r e ≡ pointNumberOf (start .args .input) (start .args .n) (start .args .point) (start .args .set) (start .args .drift .now)
   number p u w =
       let a = start .args in
-      sym (by-tests (a .input) (a .n) (a .kind) (a .set) (a .drift .now) p (sym (c .before .corners-ok .ensures) ∙ not-false _ (c .if1 .left)) u w)
+      sym (by-tests (a .input) (a .n) (a .point) (a .set) (a .drift .now) p (sym (c .before .corners-ok .ensures) ∙ not-false _ (c .if1 .left)) u w)
 
 returns-2 : tie.Need-returns-2
 unfolding numberBy

@@ -7,6 +7,7 @@ use borrow.Author.Tests.{eqb-true, eq-eqb, ne-eqb, lt-ltb, le-ltb}
 use lib.Dec.{eqb}
 use Rattle.arrays.specs.Tests.{firstOf}
 use Rattle.coefficients.specs.declared.rows.RowEntries.{RowEntries}
+use Rattle.records.specs.declared.kinds.Layout.{Layout}
 use Rattle.reader.specs.declared.state.State.{State}
 use Rattle.reader.specs.Models.{setMatrix, rowPlace, putRow, stateOf, rowStored}
 use Rattle.reader.specs.Values.{unless}
@@ -20,6 +21,9 @@ use Rattle.reader.proofs.take.store_row.Tie as tie
 module _ (c : tie.After-first-of) where
   abbrev s : State
   s = c .before .before .args .state
+
+  abbrev l : Layout
+  l = c .before .before .args .layout
 
   abbrev row : ℕ
   row = c .before .before .args .row
@@ -49,12 +53,12 @@ module _ (c : tie.After-matrix3) where
   abbrev at-number : tie.After-first-of
   at-number = c .before .before .before .before .before .before .before .before .before
 
-  takes : {last : ℕ} → last ≡ rowPlace (row at-number + 1) (s at-number .model .n) → Takes (firstOf (unless (eqb (row at-number) (s at-number .rows)) 5) (entries at-number .number)) (rowStored (s at-number) (entries at-number .six)) (takenAs (stateOf last (row at-number + 1) (setMatrix (s at-number .model) (c .before .put-row .last .0))))
+  takes : {place : ℕ} → place ≡ rowPlace (l at-number) (row at-number + 1) (s at-number .model .n) → Takes (firstOf (unless (eqb (row at-number) (s at-number .rows)) 5) (entries at-number .number)) (rowStored (s at-number) (l at-number) (entries at-number .six)) (takenAs (stateOf place (row at-number + 1) (setMatrix (s at-number .model) (c .before .put-row .last .0))))
   takes e =
       let none = c .before .before .before .before .before .before .before .before .if2 .left in
       takes-stored (sym (number-is at-number) ∙ none)
       (ap₂ (λ (l : ℕ) (xs : List ℤ). takenAs (stateOf l (row at-number + 1) (setMatrix (s at-number .model) xs))) e (c .before .put-row .ensures)
-      ∙ ap (λ (k : ℕ). takenAs (stateOf (rowPlace (k + 1) (s at-number .model .n)) (k + 1) (setMatrix (s at-number .model) (putRow (s at-number .model .motion .matrix) k (entries at-number .six))))) (next at-number none))
+      ∙ ap (λ (k : ℕ). takenAs (stateOf (rowPlace (l at-number) (k + 1) (s at-number .model .n)) (k + 1) (setMatrix (s at-number .model) (putRow (s at-number .model .motion .matrix) k (entries at-number .six))))) (next at-number none))
 
 returns-2 : tie.Need-returns-2
 returns-2 c = takes (c .before) (rw (lt-ltb _ _ (c .if3 .taken)) refl)

@@ -15,9 +15,12 @@ use Rattle.reader.proofs.take.take_direction.Statement.{statement}
 use Rattle.reader.proofs.take.take_direction.Tie as tie
 
 -- six numbers are zero outside no row and no column where all are
-zeros-is : (body : List ℕ) → zeroOutside 0 0 (sixAt body 0) ≡ allZero (sixAt body 0) 0
+zeros-is : (body : List ℕ) (at : ℕ) → zeroOutside 0 0 (sixAt body at) ≡ allZero (sixAt body at) 0
 unfolding allBelow sixAt
-zeros-is body = refl
+zeros-is body at = refl
+
+six-at-requires : tie.Need-six-at-requires
+six-at-requires c κs = c .before .before .pre .1
 
 returns : tie.Need-returns
 unfolding directionOk
@@ -32,7 +35,7 @@ returns-2 c =
     let at-if = c .before .before .before in
     let small = ap (within directionLimit) (sym (at-if .before .before .before .six-at .ensures)) ∙ sym (at-if .before .all-between .ensures) ∙ not-false _ (at-if .if1 .left) in
     takes-refused 7
-    (and-skip _ small ∙ ap not (sym (zeros-is _) ∙ ap (zeroOutside 0 0) (sym (at-if .before .before .before .six-at .ensures)) ∙ sym (c .before .zero-outside .ensures) ∙ c .if2 .taken))
+    (and-skip _ small ∙ ap not (sym (zeros-is _ _) ∙ ap (zeroOutside 0 0) (sym (at-if .before .before .before .six-at .ensures)) ∙ sym (c .before .zero-outside .ensures) ∙ c .if2 .taken))
     (omega arith)
 
 -- the block of entries has its length by what is known of the state
@@ -49,16 +52,16 @@ returns-3 c =
     let m = a .state .model in
     let six = at-six .six-at .ensures in
     let small = ap (within directionLimit) (sym six) ∙ sym (at-zero .before .before .before .all-between .ensures) ∙ not-false _ (at-zero .before .before .if1 .left) in
-    let some = sym (zeros-is _) ∙ ap (zeroOutside 0 0) (sym six) ∙ sym (at-zero .zero-outside .ensures) ∙ at-put .before .before .before .before .before .if2 .left in
+    let some = sym (zeros-is _ _) ∙ ap (zeroOutside 0 0) (sym six) ∙ sym (at-zero .zero-outside .ensures) ∙ at-put .before .before .before .before .before .if2 .left in
     takes-passed 7 (and-skip _ small ∙ ap not some)
-    (ap₂ (λ (input : Set) (xs : List ℤ). takenAs (stateOf (a .kind) (a .state .rows) (setDirections (setSet true m input) (m .questions .directions + 1) xs))) (c .input-at .ensures)
+    (ap₂ (λ (input : Set) (xs : List ℤ). takenAs (stateOf (a .layout .place) (a .state .rows) (setDirections (setSet true m input) (m .questions .directions + 1) xs))) (c .input-at .ensures)
     (at-put .put-row .ensures ∙ ap (putRow (m .questions .entries) (m .questions .directions)) six))
 
 pub take-direction-spec : {M : Type 1} → statement M
 take-direction-spec =
     tie.close
     (tie.spec
-    (λ c κs. search needs)
+    six-at-requires
     (λ c. search needs)
     (λ c κs. search needs)
     returns

@@ -9,6 +9,9 @@ use Rattle.reader.proofs.take.Taking.{takenAs, takes-refused, takes-pas
 use Rattle.reader.proofs.take.take_drift.Statement.{statement}
 use Rattle.reader.proofs.take.take_drift.Tie as tie
 
+six-at-requires : tie.Need-six-at-requires
+six-at-requires c κs = c .before .before .pre
+
 returns : tie.Need-returns
 unfolding driftOk
 returns c =
@@ -20,7 +23,8 @@ returns-2 c =
     let at-six = c .before .before .before in
     let a = at-six .before .before .before .args in
     takes-passed 17 (ap (within reachLimit) (sym (at-six .six-at .ensures)) ∙ sym (c .before .all-between .ensures) ∙ not-false _ (c .if1 .left))
-    (ap (λ (six : List ℤ). takenAs (stateOf (a .kind) (a .state .rows) (setDrift (a .state .model) six))) (at-six .six-at .ensures))
+    (ap (λ (six : List ℤ). takenAs (stateOf (a .layout .place) (a .state .rows) (setDrift (a .state .model) six))) (at-six .six-at .ensures))
 
 pub take-drift-spec : {M : Type 1} → statement M
-take-drift-spec = tie.close (tie.spec (λ c κs. search needs) (λ c. search needs) (λ c κs. search needs) returns returns-2)
+take-drift-spec =
+    tie.close (tie.spec six-at-requires (λ c. search needs) (λ c κs. search needs) returns returns-2)

@@ -21,7 +21,7 @@ returns-2 c =
     let first = at-if .before .before .before .first-byte .ensures in
     let level = toZ-ofZ (record { sfits = c .i64-at .ok }) ∙ c .i64-at .ensures in
     takes-passed 8 (ap (λ (d : ℕ). ltb d (m .questions .directions)) (sym first) ∙ lt-ltb _ _ (at-if .if1 .left))
-    (ap₂ (λ (d : ℕ) (l : ℤ). takenAs (stateOf (a .kind) (a .state .rows) (setGuards m (m .questions .guards + 1) (set (m .questions .watched) (m .questions .guards) d) (set (m .questions .levels) (m .questions .guards) l)))) first level)
+    (ap₂ (λ (d : ℕ) (l : ℤ). takenAs (stateOf (a .layout .place) (a .state .rows) (setGuards m (m .questions .guards + 1) (set (m .questions .watched) (m .questions .guards) d) (set (m .questions .levels) (m .questions .guards) l)))) first level)
 
 pub take-guard-spec : {M : Type 1} → statement M
 take-guard-spec =

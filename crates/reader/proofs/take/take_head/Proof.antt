@@ -35,12 +35,13 @@ returns-4 : tie.Need-returns-4
 unfolding withHead
 returns-4 c =
     let read = c .before .before .before .before .before in
-    let s = read .before .before .before .args .state in
+    let a = read .before .before .before .args in
+    let s = a .state in
     let said = read .u16-at .result in
     let steps : c .before .if4 .steps ≡ defaultSteps said = ⊎-elim (λ w. default-none said (omega (arith, w .0 .taken)) (omega (arith, w .1))) (λ w. default-said said (omega (arith, w .0 .left)) (omega (arith, w .1))) (c .before .if4 .came) in
     takes-passed 4
     (values-are read ∙ simp (le-leb _ _ (c .before .before .before .before .if1 .left), le-leb _ _ (c .before .before .before .if2 .left), le-leb _ _ (c .before .before .if3 .left)))
-    (ap₂ (λ (n k : ℕ). takenAs (stateOf 0x01 0 (setHead (s .model) n k))) (read .before .first-byte .ensures) (steps ∙ ap defaultSteps (read .u16-at .ensures)))
+    (ap₂ (λ (n k : ℕ). takenAs (stateOf (a .layout .place) 0 (setHead (s .model) n k))) (read .before .first-byte .ensures) (steps ∙ ap defaultSteps (read .u16-at .ensures)))
 
 pub take-head-spec : {M : Type 1} → statement M
 take-head-spec =

@@ -1,8 +1,9 @@
 -- `reader::take::take_point` meets its contract, for both sets. Assumes nothing.
-use Rattle.integers.proofs.Basics.{_≡_, sym, ap, _∙_, ℕ, needs}
+use Rattle.integers.proofs.Basics.{_≡_, sym, ap, _∙_, needs}
 use mathlib.Core.Bool.{Bool}
 use Rattle.reachability.specs.declared.model.Model.{Model}
 use Rattle.reachability.specs.declared.sets.Set.{Set}
+use Rattle.records.specs.declared.kinds.Layout.{Layout}
 use Rattle.reader.specs.declared.state.State.{State}
 use Rattle.reader.specs.Models.{setOf, setSet, stateOf, withPoint, withSetPoint}
 use Rattle.reader.specs.Values.{pointNumberOf}
@@ -11,7 +12,7 @@ use Rattle.reader.proofs.take.take_point.Statement.{statement}
 use Rattle.reader.proofs.take.take_point.Tie as tie
 
 with-point-requires : tie.Need-with-point-requires
-with-point-requires c κs = rw (c .set-of .ensures) (c .before .before .before .pre)
+with-point-requires c κs = (rw (c .set-of .ensures) (c .before .before .before .pre .0), c .before .before .before .pre .1)
 
 -- the set with its point, and its number, as the definitions have them
 module _ (c : tie.After-point-number) where
@@ -24,17 +25,17 @@ module _ (c : tie.After-point-number) where
   abbrev which : Bool
   which = start .args .input
 
-  abbrev kind : ℕ
-  kind = start .args .kind
+  abbrev l : Layout
+  l = start .args .layout
 
   abbrev set : Set
-  set = withPoint (setOf which (s .model)) kind (start .args .body .now)
+  set = withPoint (setOf which (s .model)) l (start .args .body .now)
 
   more : c .before .before .before .with-point .result ≡ set
   more = rw (← c .before .before .before .before .set-of .ensures) (c .before .before .before .with-point .ensures)
 
-  number-is : c .point-number .result ≡ pointNumberOf which (s .model .n) kind set (s .model .drift)
-  number-is = c .point-number .ensures ∙ ap (λ (x : Set). pointNumberOf which (s .model .n) kind x (s .model .drift)) more
+  number-is : c .point-number .result ≡ pointNumberOf which (s .model .n) (l .point) set (s .model .drift)
+  number-is = c .point-number .ensures ∙ ap (λ (x : Set). pointNumberOf which (s .model .n) (l .point) x (s .model .drift)) more
 
 returns : tie.Need-returns
 returns c = takes-stopped (number-is (c .before)) (c .if1 .taken)
@@ -44,7 +45,7 @@ unfolding withSetPoint
 returns-2 c =
     let z = c .before .before in
     takes-stored (sym (number-is z) ∙ c .before .if1 .left)
-    (ap (λ (m : Model). takenAs (stateOf (kind z) (s z .rows) m)) (c .with-set .ensures ∙ ap (setSet (which z) (s z .model)) (more z)))
+    (ap (λ (m : Model). takenAs (stateOf (l z .place) (s z .rows) m)) (c .with-set .ensures ∙ ap (setSet (which z) (s z .model)) (more z)))
 
 pub take-point-spec : {M : Type 1} → statement M
 take-point-spec =
