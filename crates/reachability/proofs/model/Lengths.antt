@@ -1,20 +1,20 @@
--- The lengths of a stored model's lists. `c .good` of a function whose first parameter is a model begins with `IsModel` of it, so that
--- `lengths m (c .good .0)` serves every function over a model, here and in the crates above. Assumes nothing.
-use mathlib.Core.List.{_∷_, []}
+-- The lengths of a stored model's lists. `c .good .0` of a function whose first parameter is a model is `IsModel` of it, so that
+-- `lengths m (c .good .0)` serves every function over a model, here and in the crates above; where the parameter is a struct that
+-- holds the model, the field's part of `c .good .0` serves as well. Assumes nothing.
+use mathlib.Core.List.{List}
 use borrow.Author.Needs.{needs}
 use denote.Laws.{Is}
 use denote.Struct.Declared.{row}
-use denote.Struct.Laws.{val}
+use mir.Val.{Val}
 use Rattle.reachability.specs.Lengths.{Lengths}
 use Rattle.reachability.specs.declared.model.Model.{Model}
 use Rattle.reachability.proofs.model.Model.{the-type}
-use Rattle.reachability.proofs.model.Model.Laws.{the-laws}
 
--- What the language's account of types says of a value of the type `Model`.
-abbrev pub IsModel : Model → Type 0
-IsModel m = Is (row the-type) m (val the-type the-laws m ∷ [])
+-- What the language's account of types says of a value of the type `Model` with this machine value.
+abbrev pub IsModel : Model → List Val → Type 0
+IsModel m vs = Is (row the-type) m vs
 
-pub lengths : (m : Model) → IsModel m → Lengths m
+pub lengths : (m : Model) {vs : List Val} → IsModel m vs → Lengths m
 lengths m g =
     let motion = g .1 .1 .1 .1 .0 in
     let drift = g .1 .1 .1 .1 .1 .0 in

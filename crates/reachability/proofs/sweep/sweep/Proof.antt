@@ -43,7 +43,7 @@ module _ (c : tie.Else1) where
 returns-2 : tie.Need-returns-2
 returns-2 c =
     let b = c .before .before .before in
-    refuses (m b) (d b) (b₀ b) (s₀ b) NoDirection 11 refl (answer-no-direction (m b) (d b) _ _ (ok b) (c .if2 .taken))
+    refuses (m b) (d b) (b₀ b) (s₀ b) NoDirection 11 refl (answer-no-direction (m b) (d b) _ _ (ok b) (omega (arith, c .if2 .taken)))
 
 add-size : tie.Need-add-size
 add-size c =

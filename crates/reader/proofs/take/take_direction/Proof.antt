@@ -8,6 +8,7 @@ use Rattle.arrays.specs.Tests.{zeroOutside}
 use Rattle.integers.proofs.Booleans.{and-skip, and-stop}
 use Rattle.limits.specs.Limits.{allZero, directionLimit}
 use Rattle.reachability.specs.declared.sets.Set.{Set}
+use Rattle.reachability.proofs.model.Lengths.{lengths}
 use Rattle.reader.specs.Models.{setSet, setDirections, sixAt, putRow, stateOf, withDirection}
 use Rattle.reader.specs.Values.{within, directionOk}
 use Rattle.reader.proofs.take.Taking.{takenAs, takes-refused, takes-passed}
@@ -38,9 +39,12 @@ returns-2 c =
     (and-skip _ small ∙ ap not (sym (zeros-is _ _) ∙ ap (zeroOutside 0 0) (sym (at-if .before .before .before .six-at .ensures)) ∙ sym (c .before .zero-outside .ensures) ∙ c .if2 .taken))
     (omega arith)
 
--- the block of entries has its length by what is known of the state
+-- the block of entries has its length by what is known of the state's model
 slice-aggregate-put-row : tie.Need-slice-aggregate-put-row
-slice-aggregate-put-row c = let known = c .before .before .before .before .before .before .before .before .before .before .before .before .good .0 .1 .1 .1 .1 .0 .1 .1 .1 .1 .1 .1 .1 .1 .0 in search (needs, known)
+slice-aggregate-put-row c =
+    let start = c .before .before .before .before .before .before .before .before .before .before .before .before in
+    let known = lengths (start .args .state .model) (start .good .0 .1 .1 .1 .1 .0) .questions .entries in
+    search (needs, known)
 
 returns-3 : tie.Need-returns-3
 unfolding directionOk withDirection

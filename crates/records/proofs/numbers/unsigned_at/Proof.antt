@@ -1,6 +1,6 @@
 -- `records::numbers::unsigned_at` meets its contract. The loop's invariant: n is the number of the bytes from j on. The
 -- measure is j. n stays below 2 to the 56 before its last turn, since the count is at most 8. Assumes nothing.
-use Rattle.integers.proofs.Basics.{_≡_, sym, ap, ℕ, suc, _+_, _*_, _-_, _≤_, _<_, arith, needs, getD}
+use Rattle.integers.proofs.Basics.{_≡_, sym, ap, subst, ℕ, suc, _+_, _*_, _-_, _≤_, _<_, arith, needs, getD}
 use mathlib.Core.List.{List}
 use Prim.Native.Nat.{_^_}
 use Rattle.records.specs.Numbers.{littleEndian}
@@ -61,11 +61,14 @@ small c = joined-small (c .before .loop .inv) (c .loop-test .taken) (c .before .
 mul-n : tie.Need-mul-n Inv-loop μ-loop
 mul-n c = omega (arith, small c)
 
+-- whichever byte it is: that it is the right one is settled where the number is
+byte-below : (l : List ℕ) → AllBytes l → (k : ℕ) → getD l k 0 < 256
+byte-below l bytes k = omega (arith, bytes k)
+
 add-n : tie.Need-add-n Inv-loop μ-loop
 add-n c =
-    let a = c .before .before .before .before .args in
-    let j = c .before .before .loop .j in
-    omega (arith, small (c .before), c .byte-at .ensures, c .before .before .before .shared-slice-known .given (a .at + (j - 1)))
+    let byte = byte-below (c .before .before .before .before .args .bytes .now) (c .before .before .before .shared-slice-known .given) _ in
+    omega (arith, small (c .before), subst (λ (b : ℕ). b < 256) (sym (c .byte-at .ensures)) byte)
 
 loop-again : tie.Need-loop-again Inv-loop μ-loop
 loop-again c = joined-more (c .before .before .loop .inv) (c .before .loop-test .taken) (c .byte-at .ensures)

@@ -49,7 +49,7 @@ loop-again c =
     let a = at-loop .before .args in
     let k = at-loop .loop .k in
     let f = vector (a .row .now) in
-    let is = ap₂ (λ l (z : ℤ). set l k z) (at-loop .loop .inv .is) (read-given w64 (f k) (c .value .given)) ∙ filled-more f k (a .out .now) (inside (c .before)) in
+    let is = ap₂ (λ l (z : ℤ). set l k z) (at-loop .loop .inv .is) (read-given w64 (vector (a .row .now) _) (c .value .given)) ∙ filled-more f k (a .out .now) (inside (c .before)) in
     record {
       inside = omega (arith, inside (c .before));
       is = is;
