@@ -27,6 +27,7 @@ use Rattle.reachability.specs.declared.sets.Shape.the-variants.{Box}
 use Rattle.reachability.specs.Sets.{points, orderedOk, zeroBox}
 use Rattle.records.specs.declared.kinds.Part.{Part}
 use Rattle.records.specs.declared.kinds.Part.the-variants.{Head, Row, Drift, Initial, Input, Direction, Guard, End}
+use Rattle.reachability.specs.Motion.{rowsOf}
 use Rattle.reader.specs.declared.state.State.{State}
 use Rattle.records.specs.declared.kinds.Layout.{Layout}
 use Rattle.records.specs.Places.{startPlace, rowsPlace, matrixPlace, driftPlace, initialPlace, inputPlace, directionPlace, guardPlace}
@@ -47,7 +48,7 @@ use Rattle.reader.proofs.PartsSoFar.{Beyond, sixAt-beyond, FrameAt, n-l
 
 pub record AcceptedSoFar (s : State) : Type 0 where
   pub first : s .place ≡ startPlace → s ≡ start
-  pub frame : FrameAt (s .place) (s .rows) (s .model .n) (s .model .steps) (s .model .motion .matrix)
+  pub frame : FrameAt (s .place) (s .rows) (s .model .n) (s .model .steps) (rowsOf (s .model .motion))
   pub initial : SetAt initialPlace (s .place) (s .model .n) (s .model .initial)
   pub input : SetAt inputPlace (s .place) (s .model .n) (s .model .input)
   pub drift : DriftAt (s .place) (s .model .n) (s .model .input) (s .model .drift)

@@ -20,6 +20,7 @@ use Rattle.limits.specs.Limits.{directionsOk, directionLimit}
 use Rattle.reachability.proofs.motion.Laws.{motionOk-of}
 use Rattle.reachability.proofs.model.Facts.{accepted-of}
 use Rattle.reachability.specs.Limits.{accepted}
+use Rattle.reachability.specs.Motion.{rowsOf}
 use Rattle.reader.specs.declared.Status.the-variants.{Read}
 use Rattle.reader.specs.declared.Reading.{Reading}
 use Rattle.reader.specs.declared.state.State.{State}
@@ -169,10 +170,10 @@ accepted-state s g late =
       questions = ap₂ _&&_ directions (guardsOk-of (s .model .questions .directions) (s .model .questions .guards) (s .model .questions .watched) (s .model .questions .levels) (g .guards .few) (g .guards .guarded));
     })
   where
-    matrix-passes : matrixOk (s .model .n) (s .model .motion .matrix) ≡ true
+    matrix-passes : matrixOk (s .model .n) (rowsOf (s .model .motion)) ≡ true
     matrix-passes =
-        ap₂ _&&_ (allBetween-of entryLimit (s .model .motion .matrix) (g .frame .matrix-small))
-        (zeroOutside-of (s .model .n) (s .model .n) (s .model .motion .matrix) (subst (λ (k : ℕ). Zeros k (s .model .n) (s .model .motion .matrix)) (g .frame .all (omega arith)) (g .frame .matrix-zeros)))
+        ap₂ _&&_ (allBetween-of entryLimit (rowsOf (s .model .motion)) (g .frame .matrix-small))
+        (zeroOutside-of (s .model .n) (s .model .n) (rowsOf (s .model .motion)) (subst (λ (k : ℕ). Zeros k (s .model .n) (rowsOf (s .model .motion))) (g .frame .all (omega arith)) (g .frame .matrix-zeros)))
 
     beyond : zeroOutside 1 (s .model .n) (s .model .drift) ≡ true
     beyond =

@@ -22,6 +22,7 @@ use Rattle.reachability.specs.declared.motion.Motion.{Motion}
 use Rattle.reachability.specs.declared.model.Questions.{Questions}
 use Rattle.reachability.specs.declared.model.Model.{Model}
 use Rattle.reachability.specs.Sets.{zeroBox}
+use Rattle.reachability.specs.Motion.{rowsOf, withRows}
 use Rattle.reader.specs.declared.state.State.{State}
 use Rattle.reader.specs.Order.{shapeOf}
 
@@ -90,8 +91,11 @@ modelOf n steps motion drift initial input questions =
 abbrev pub setHead : Model → ℕ → ℕ → Model
 setHead m n steps = modelOf n steps (m .motion) (m .drift) (m .initial) (m .input) (m .questions)
 
+abbrev pub setMotion : Model → Motion → Model
+setMotion m motion = modelOf (m .n) (m .steps) motion (m .drift) (m .initial) (m .input) (m .questions)
+
 abbrev pub setMatrix : Model → List ℤ → Model
-setMatrix m matrix = modelOf (m .n) (m .steps) (record { matrix = matrix }) (m .drift) (m .initial) (m .input) (m .questions)
+setMatrix m matrix = setMotion m (withRows (m .motion) matrix)
 
 abbrev pub setDrift : Model → List ℤ → Model
 setDrift m drift = modelOf (m .n) (m .steps) (m .motion) drift (m .initial) (m .input) (m .questions)
@@ -145,7 +149,7 @@ rowPlace l rows n = cond (ltb rows n) rowsPlace (l .place)
 abbrev pub rowStored : State → Layout → List ℤ → State
 rowStored s l six =
     stateOf (rowPlace l (s .rows + 1) (s .model .n)) (s .rows + 1)
-    (setMatrix (s .model) (putRow (s .model .motion .matrix) (s .rows) six))
+    (setMatrix (s .model) (putRow (rowsOf (s .model .motion)) (s .rows) six))
 
 -- File 3, a row.
 unfoldable pub withRow : State → Layout → List ℕ → State

@@ -17,6 +17,8 @@ use limits::DIRECTION_LIMIT;
 use limits::LEAST_DIRECTION;
 use limits::MOST_STEPS;
 use reachability::entering::entering_within;
+use reachability::motion::rows_of;
+use reachability::motion::with_rows;
 use reachability::sets::REACH_LIMIT;
 use reachability::sets::Set;
 use reachability::sets::reach_within;
@@ -92,11 +94,11 @@ fn store_row(state: State, layout: Layout, row: usize, entries: RowEntries) -> T
     let mut model = state.model;
     let n = model.n;
     let six = entries.six;
-    let mut motion = model.motion;
-    let mut matrix = motion.matrix;
+    let motion = model.motion;
+    let mut matrix = rows_of(motion);
     put_row(&mut matrix, row, &six);
-    motion.matrix = matrix;
-    model.motion = motion;
+    let moved = with_rows(motion, matrix);
+    model.motion = moved;
     let next = row + 1;
     let place: u8 = if next < n { ROWS } else { layout.place };
     Taken {

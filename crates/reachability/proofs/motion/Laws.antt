@@ -6,7 +6,7 @@ use Prim.Native.Nat.{ℕ}
 use Rattle.integers.proofs.Booleans.{and-true}
 use Rattle.stepping.specs.Refusals.{dimensionOk, matrixOk}
 use Rattle.limits.specs.Limits.{stepsOk}
-use Rattle.reachability.specs.Motion.{matrixAt, motionOk}
+use Rattle.reachability.specs.Motion.{rowsOf, matrixAt, motionOk}
 use Rattle.reachability.specs.declared.motion.Motion.{Motion}
 
 -- Nothing switches.
@@ -15,7 +15,7 @@ unfolding matrixAt
 matrixAt-same motion t u = refl
 
 -- What passes: an n and steps within their limits, and a stored matrix of n by n with entries within theirs.
-pub motionOk-of : (n steps : ℕ) (motion : Motion) → dimensionOk n ≡ true → stepsOk steps ≡ true → matrixOk n (motion .matrix) ≡ true → motionOk n steps motion ≡ true
+pub motionOk-of : (n steps : ℕ) (motion : Motion) → dimensionOk n ≡ true → stepsOk steps ≡ true → matrixOk n (rowsOf motion) ≡ true → motionOk n steps motion ≡ true
 unfolding motionOk
 motionOk-of n steps motion p q r = ap₂ _&&_ p (ap₂ _&&_ q r)
 
@@ -28,6 +28,6 @@ pub record MotionFacts (n steps : ℕ) (motion : Motion) : Type 0 where
 pub motion-facts : (n steps : ℕ) (motion : Motion) → motionOk n steps motion ≡ true → MotionFacts n steps motion
 unfolding matrixAt motionOk
 motion-facts n steps motion t =
-    let own = and-true (dimensionOk n) (stepsOk steps && matrixOk n (motion .matrix)) t in
-    let rest = and-true (stepsOk steps) (matrixOk n (motion .matrix)) (own .1) in
+    let own = and-true (dimensionOk n) (stepsOk steps && matrixOk n (rowsOf motion)) t in
+    let rest = and-true (stepsOk steps) (matrixOk n (rowsOf motion)) (own .1) in
     record { dimension = own .0; steps-pass = rest .0; move-passes = λ t. rest .1 }

@@ -8,8 +8,10 @@ use lib.Dec.{eqb}
 use Rattle.arrays.specs.Tests.{firstOf}
 use Rattle.coefficients.specs.declared.rows.RowEntries.{RowEntries}
 use Rattle.records.specs.declared.kinds.Layout.{Layout}
+use Rattle.reachability.specs.Motion.{rowsOf, withRows}
+use Rattle.reachability.specs.declared.motion.Motion.{Motion}
 use Rattle.reader.specs.declared.state.State.{State}
-use Rattle.reader.specs.Models.{setMatrix, rowPlace, putRow, stateOf, rowStored}
+use Rattle.reader.specs.Models.{setMotion, setMatrix, rowPlace, putRow, stateOf, rowStored}
 use Rattle.reader.specs.Values.{unless}
 use Rattle.reader.specs.Inner.{Takes}
 use Rattle.arrays.proofs.FirstOf.{firstOf-zero}
@@ -49,16 +51,22 @@ returns : tie.Need-returns
 returns c = takes-stopped (number-is (c .before)) (c .if2 .taken)
 
 -- once the row is stored, whatever the place in the order
-module _ (c : tie.After-matrix3) where
-  abbrev at-number : tie.After-first-of
-  at-number = c .before .before .before .before .before .before .before .before .before
+module _ (c : tie.After-with-rows) where
+  abbrev at-rows : tie.After-rows-of
+  at-rows = c .before .before .before .before .before
 
-  takes : {place : ℕ} → place ≡ rowPlace (l at-number) (row at-number + 1) (s at-number .model .n) → Takes (firstOf (unless (eqb (row at-number) (s at-number .rows)) 5) (entries at-number .number)) (rowStored (s at-number) (l at-number) (entries at-number .six)) (takenAs (stateOf place (row at-number + 1) (setMatrix (s at-number .model) (c .before .put-row .last .0))))
+  abbrev at-number : tie.After-first-of
+  at-number = at-rows .before .before .before .before .before
+
+  moved-is : c .with-rows .result ≡ withRows (s at-number .model .motion) (putRow (rowsOf (s at-number .model .motion)) (row at-number) (entries at-number .six))
+  moved-is = c .with-rows .ensures ∙ ap (withRows (s at-number .model .motion)) (c .before .before .put-row .ensures ∙ ap (λ (xs : List ℤ). putRow xs (row at-number) (entries at-number .six)) (at-rows .rows-of .ensures))
+
+  takes : {place : ℕ} → place ≡ rowPlace (l at-number) (row at-number + 1) (s at-number .model .n) → Takes (firstOf (unless (eqb (row at-number) (s at-number .rows)) 5) (entries at-number .number)) (rowStored (s at-number) (l at-number) (entries at-number .six)) (takenAs (stateOf place (row at-number + 1) (setMotion (s at-number .model) (c .with-rows .result))))
   takes e =
-      let none = c .before .before .before .before .before .before .before .before .if2 .left in
+      let none = at-rows .before .before .before .before .if2 .left in
       takes-stored (sym (number-is at-number) ∙ none)
-      (ap₂ (λ (l : ℕ) (xs : List ℤ). takenAs (stateOf l (row at-number + 1) (setMatrix (s at-number .model) xs))) e (c .before .put-row .ensures)
-      ∙ ap (λ (k : ℕ). takenAs (stateOf (rowPlace (l at-number) (k + 1) (s at-number .model .n)) (k + 1) (setMatrix (s at-number .model) (putRow (s at-number .model .motion .matrix) k (entries at-number .six))))) (next at-number none))
+      (ap₂ (λ (l : ℕ) (motion : Motion). takenAs (stateOf l (row at-number + 1) (setMotion (s at-number .model) motion))) e moved-is
+      ∙ ap (λ (k : ℕ). takenAs (stateOf (rowPlace (l at-number) (k + 1) (s at-number .model .n)) (k + 1) (setMatrix (s at-number .model) (putRow (rowsOf (s at-number .model .motion)) k (entries at-number .six))))) (next at-number none))
 
 returns-2 : tie.Need-returns-2
 returns-2 c = takes (c .before) (rw (lt-ltb _ _ (c .if3 .taken)) refl)
@@ -72,7 +80,9 @@ store-row-spec =
     (tie.spec
     (λ c κs. search needs)
     returns
+    (λ c κs. search needs)
     (λ c. search needs)
+    (λ c κs. search needs)
     (λ c κs. search needs)
     (λ c. search needs)
     returns-2
