@@ -1,5 +1,6 @@
--- File 3, File 7 and Refusals 16: the six entries of a body, and that those beyond n are zero. Definitions only. Which records have
--- entries, where the first of them stands and how many bytes each has, is the table's (records *Kinds*). Assumes nothing.
+-- File 3, File 7 and Refusals 16: the six entries of a body, and that those beyond n are zero. Definitions only. The table of
+-- kinds (records *Kinds*) says which records have entries, where the first of them stands and how many bytes each has.
+-- Assumes nothing.
 use mathlib.Core.Bool.{Bool, cond, _||_}
 use mathlib.Core.List.{List}
 use Prim.Native.Nat.{ℕ, _+_, _*_}

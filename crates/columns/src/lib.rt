@@ -2,15 +2,13 @@
 // Where one is not, the record is refused by 16. No binary64 number is compared: a zero is told by its bits.
 //
 // No public function has a `requires`: any n, layout and bytes get their answer.
+use records::kinds::FITTED_WIDTH;
 use records::kinds::Layout;
 ghost use mathlib.Core.Path.{_≡_};
 ghost use Prim.Native.Nat.{_<_};
 ghost use lib.ListN.{length};
 ghost use Rattle.coefficients.specs.Binary64.{isZero};
 ghost use Rattle.columns.specs.Columns.{columnZero, unusedZero};
-
-// File 3. The bytes of a fitted entry.
-pub const FITTED_WIDTH: usize = 8;
 
 // File 11. The bits are those of a zero, of either sign: none but the sign is set.
 fn is_zero(bits: u64) -> bool
@@ -26,7 +24,7 @@ fn column_zero(first: usize, width: usize, body: &[u8], i: usize) -> bool
     ensures { λ b. ⌜ b ≡ columnZero first width (now (body .entry)) i ⌝ }
 {
     if width == FITTED_WIDTH {
-        return is_zero(records::u64_at(body, first + 8 * i));
+        return is_zero(records::u64_at(body, first + FITTED_WIDTH * i));
     }
     records::i32_at(body, first + 4 * i) == 0
 }

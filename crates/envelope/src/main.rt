@@ -10,11 +10,14 @@ use listing::reply;
 ghost use mathlib.Core.Path.{_≡_};
 ghost use lib.ListN.{length};
 
+// Reading 4. The most bytes that are read.
+const MOST_READ: usize = 2048;
+
 // The bytes of a file. The contract gives the length alone, here and below.
-fn file_space() -> [u8; 2048]
+fn file_space() -> [u8; MOST_READ]
     ensures { λ r. ⌜ 2048 ≡ length r ⌝ }
 {
-    [0u8; 2048]
+    [0u8; MOST_READ]
 }
 
 fn text_space() -> [u8; ROOM]

@@ -96,8 +96,8 @@ judgeFigure m g lb ls =
     cond (eqb (judgeNumber m g lb ls) 0) (judgedFigure (verdict m d (vector (m .questions .levels) g)))
     (cond (eqb (judgeNumber m g lb ls) 14) (growthStep m d) 0)
 
--- Routines 3 and 4: what a judge leaves and answers, its number and figure (Forms 7), with the lists as they were where it refuses. Promises 4: what it leaves and
--- answers where it refuses nothing is accurate.
+-- Routines 3 and 4: what a judge leaves and answers, its number and figure (Forms 7), with the lists as they were where it refuses.
+-- Promises 4: what it leaves and answers where it refuses nothing is accurate.
 pub record JudgeLeaves (m : Model) (g : ℕ) (b₀ s₀ : List ℤ) (a : Judged) (b s : List ℤ) : Type 0 where
   pub answer : a ≡ judgeAnswer m g (length b₀) (length s₀)
   pub number : judgedNumber a ≡ judgeNumber m g (length b₀) (length s₀)

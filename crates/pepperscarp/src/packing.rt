@@ -8,12 +8,17 @@ ghost use Rattle.reachability.specs.Answers.{sweptFigure};
 ghost use Rattle.judge.specs.Answers.{judgedFigure};
 ghost use Rattle.pepperscarp.specs.Packing.{packed, steppedPacked, sweptPacked, judgedPacked, steppedFigure, figureLimit};
 
+// C interface 1. What a verdict and a figure are multiplied by.
+const VERDICT_UNIT: u64 = 256;
+
+const FIGURE_UNIT: u64 = 65536;
+
 // Number, verdict and figure side by side.
 fn pack(number: u8, verdict: u8, figure: u64) -> u64
     requires { ⌜ figure < figureLimit ⌝ }
     ensures { λ x. ⌜ x ≡ packed number verdict figure ⌝ }
 {
-    (number as u64) + 256 * (verdict as u64) + 65536 * figure
+    (number as u64) + VERDICT_UNIT * (verdict as u64) + FIGURE_UNIT * figure
 }
 
 // A refused file: its number and its offset.

@@ -66,8 +66,8 @@ boundsOf m d = tabulate (suc (m .steps)) (bound m d)
 abbrev pub slacksOf : Model → ℕ → List ℤ
 slacksOf m d = tabulate (suc (m .steps)) (λ k. pos (slack m d k))
 
--- Routines 2 and 4: what a sweep leaves and answers, its number and figure (Forms 7), with the lists as they were where it refuses. Promises 4: what it leaves where
--- it refuses nothing is accurate.
+-- Routines 2 and 4: what a sweep leaves and answers, its number and figure (Forms 7), with the lists as they were where it refuses.
+-- Promises 4: what it leaves where it refuses nothing is accurate.
 pub record SweepLeaves (m : Model) (d : ℕ) (b₀ s₀ : List ℤ) (a : Swept) (b s : List ℤ) : Type 0 where
   pub answer : a ≡ sweepAnswer m d (length b₀) (length s₀)
   pub number : sweptNumber a ≡ sweepNumber m d (length b₀) (length s₀)

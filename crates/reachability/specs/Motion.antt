@@ -1,6 +1,6 @@
 -- Model 6: what moves the state. Definitions only. The matrix of a move stands behind `matrixAt`, and the rules that it keeps behind
--- `motionOk`; `rowsOf` and `withRows` are for a reader. No other definition reads the stored matrix. What holds of every move is in `proofs.motion.Laws`.
--- Assumes nothing.
+-- `motionOk`; `rowsOf` and `withRows` are for a reader. But for the lengths of lists (*Lengths*), no other definition reads the stored
+-- matrix. What holds of every move is in `proofs.motion.Laws`. Assumes nothing.
 use mathlib.Core.Bool.{Bool}
 use mathlib.Core.List.{List}
 use Prim.Native.Nat.{ℕ}

@@ -1,7 +1,7 @@
 -- Recurrence 6 to 16, of a model: its working directions, growth and the spare figure over all steps, bounds and slacks. Definitions
 -- only. What is of one step is in the crate `stepping`.
--- The walk of step k takes the direction back over the moves before that step, the latest first; place j of it is behind j of them. With
--- one matrix (Model 6) the walks of all steps agree, and at place j they are at the specification's r(j) and e(j): *OneMatrix*.
+-- The walk of step k takes the direction back over the moves before that step, the latest first; place j comes after j moves. With one
+-- matrix (Model 6) the walks of all steps agree, and at place j they are at the specification's r(j) and e(j): *OneMatrix*.
 -- Assumes nothing.
 use mathlib.Core.Bool.{Bool, cond}
 use Prim.Native.Nat.{ℕ, zero, suc, _+_, _*_, _-_}

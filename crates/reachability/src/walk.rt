@@ -1,8 +1,7 @@
 // The walk of a step, which takes a direction back over one move after the other and gathers what a bound is made of. It can be resumed:
-// r, e and `Gathered` are all that there is of it. A walk is made from a direction (`begin`), taken back over a move by the matrix of
-// that move (`back`), and asked for the bound and the slack of its step once it is at its end (`end_of`).
-//
-// Every loop below runs to six coordinates: what lies beyond n is zero.
+// its state is r, e and `Gathered`. A walk is made from a direction (`begin`), taken back over a move by the matrix of that move
+// (`back`), and asked for the bound and the slack of its step once it is at its end (`end_of`). All six coordinates are taken: what lies
+// beyond n is zero.
 use crate::sets::Shape;
 use crate::sets::support_of;
 use stepping::rounding::Rounded;

@@ -1,7 +1,7 @@
--- File 3, 4, 5, 8, 10 and 15: how far a file has been read, and what each record adds to the model. Definitions only. What a kind is,
--- the offset of its entries and the place behind it among it, is its layout (records *Kinds*). The entries of a point, a drift and a
--- direction are stored as they stand in the body, and beyond n they are zero there (File 7). A record that a block has no room for
--- changes nothing in it; none such is ever let in. Assumes nothing.
+-- File 3, 4, 5, 8, 10 and 15: how far a file has been read, and what each record adds to the model. Definitions only. A kind's layout
+-- (records *Kinds*) has the offset of its entries and the place behind it. The entries of a point, a drift and a direction are stored
+-- as they stand in the body, and beyond n they are zero there (File 7). A record that a block has no room for changes nothing in it;
+-- none such is ever let in. Assumes nothing.
 use mathlib.Core.Bool.{Bool, true, cond}
 use mathlib.Core.List.{List}
 use Prim.Native.Nat.{ℕ, zero, suc, _+_, _*_}

@@ -4,6 +4,7 @@ use coefficients::rows::FittedRow;
 use reachability::model::Model;
 use reachability::sets::Set;
 use reachability::sets::Shape;
+use records::kinds::FITTED_WIDTH;
 use records::kinds::Layout;
 use records::places::INPUT;
 ghost use mathlib.Core.Path.{_≡_};
@@ -51,7 +52,7 @@ fn fitted_at(body: &[u8], at: usize, i: usize) -> f64
     requires { ⌜ i < 6 ⌝ }
     ensures { λ r. ⌜ r ≡ fittedAt (now (body .entry)) at i ⌝ }
 {
-    coefficients::value_of(records::u64_at(body, at + 8 * i))
+    coefficients::value_of(records::u64_at(body, at + FITTED_WIDTH * i))
 }
 
 // The fitted row of a body, with its entries at the offset `at`.

@@ -18,8 +18,8 @@ abbrev pub layout : Part → Point → ℕ → ℕ → ℕ → ℕ → ℕ → L
 layout part point length first width most place =
     record { part = part; point = point; length = length; first = first; width = width; most = most; place = place }
 
--- Refusals 9: a set has at most 16 points, and so many directions and guards there may be. A zonotope has its centre and 8 generators
--- (Sets 5). A head, rows, a drift and the end are not counted, so that it makes no difference what stands there.
+-- Refusals 9: a set has at most 16 points, and there are at most 16 directions and 16 guards. A zonotope has its centre and 8
+-- generators (Sets 5). A head, rows, a drift and the end are not counted, so that it makes no difference what stands there.
 abbrev pub most : ℕ
 most = 16
 

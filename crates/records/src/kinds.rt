@@ -66,6 +66,9 @@ pub enum BodyLength {
     Unknown,
 }
 
+// File 3. The bytes of a fitted entry.
+pub const FITTED_WIDTH: usize = 8;
+
 // Refusals 9. The most records of a part.
 const MOST: u8 = 16;
 
@@ -121,7 +124,7 @@ pub(crate) fn body_length(kind: u8) -> BodyLength
     BodyLength::Unknown
 }
 
-// Routines 13. What a kind is, by a search of the table. An unknown one is taken for an end that nothing is said of.
+// Routines 13. What a kind is, by a search of the table. An unknown kind is answered as an end with 0 in every number.
 pub fn layout_of(kind: u8) -> Layout
     ensures { λ r. ⌜ r ≡ layoutOf kind ⌝ }
 {

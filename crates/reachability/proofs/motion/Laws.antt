@@ -1,5 +1,5 @@
--- Laws of `matrixAt`, by which all that is said of a move is known: the same matrix at every move where nothing switches; entries within
--- their limit, and zero beyond n. Only these two read the stored matrix. Assumes nothing.
+-- Laws of `matrixAt` and `motionOk`, by which everything about a move is known: the same matrix at every move where nothing switches;
+-- entries within their limit, and zero beyond n. No other law reads the stored matrix. Assumes nothing.
 use mathlib.Core.Path.{_≡_, refl, ap₂}
 use mathlib.Core.Bool.{true, _&&_}
 use Prim.Native.Nat.{ℕ}

@@ -38,8 +38,8 @@ pub(crate) fn spare_of(sum: u64) -> u32
     }
 }
 
-// What filling the rows gives: how many steps come before the first growth, K + 1 where there is none, and the largest growth sum
-// of those.
+// What filling the rows gives: how many steps come before the first growth, K + 1 where there is none, and then their largest growth
+// sum.
 pub(crate) struct Filled {
     pub(crate) steps: usize,
     pub(crate) largest: u64,
