@@ -1,21 +1,18 @@
 -- Laws of `unusedZero`. In order: one entry; what a body that passes has beyond n; bodies that pass. Assumes nothing.
 use mathlib.Core.Path.{_≡_, sym, ap, _∙_}
-use mathlib.Core.Bool.{Bool, true, false, cond, _||_}
+use mathlib.Core.Bool.{Bool, true, cond, _||_}
 use mathlib.Core.List.{List}
-use Prim.Native.Nat.{ℕ, _+_, _*_, _^_, _≤_, _<_}
+use Prim.Native.Nat.{ℕ, _≤_, _<_}
 use native.Mathlib.Omega.{arith}
 use borrow.Author.Tests.{le-ltb, eqb-true, eq-eqb, ne-eqb}
 use lib.Dec.{eqb, ltb}
-use lib.ListN.{length}
 use lib.IntN.{pos, natAbs}
 use Rattle.integers.specs.Sums.{allBelow}
 use Rattle.integers.proofs.Booleans.{or-true}
 use Rattle.integers.proofs.Machine.{zero-of-natAbs}
 use Rattle.integers.proofs.Sums.{allBelow-at, allBelow-intro}
-use Rattle.coefficients.specs.Binary64.{isZero, magnitudeOf}
+use Rattle.coefficients.specs.Binary64.{isZero}
 use Rattle.records.specs.declared.kinds.Layout.{Layout}
-use Rattle.records.specs.Numbers.{twosComplement}
-use Rattle.records.proofs.LittleEndian.{littleEndian-beyond}
 use Rattle.columns.specs.Columns.{entryAt, fittedWidth, bitsAt, entryZero, columnZero, unusedZero}
 
 -- Entry i is one of the first n, or zero.
@@ -34,15 +31,6 @@ columnZero-fitted at width body i e = ap (λ (b : Bool). cond b (isZero (bitsAt 
 
 pub columnZero-whole : (at width : ℕ) (body : List ℕ) (i : ℕ) → (width ≡ fittedWidth → ⊥) → columnZero at width body i ≡ entryZero body at i
 columnZero-whole at width body i ne = ap (λ (b : Bool). cond b (isZero (bitsAt body at i)) (entryZero body at i)) (ne-eqb width fittedWidth ne)
-
--- entries beyond the end of a body are zero
-pub columnZero-beyond : (at width : ℕ) (body : List ℕ) (i : ℕ) → length body ≤ at → columnZero at width body i ≡ true
-unfolding isZero magnitudeOf
-columnZero-beyond at width body i h = split (eqb width fittedWidth)
-  where
-    split : (b : Bool) → cond b (isZero (bitsAt body at i)) (entryZero body at i) ≡ true
-    split true = ap isZero (littleEndian-beyond 8 body (at + 8 * i) (omega arith))
-    split false = ap (λ (n : ℕ). eqb (natAbs (twosComplement (2 ^ 31) n)) 0) (littleEndian-beyond 4 body (at + 4 * i) (omega arith))
 
 module _ (n : ℕ) (l : Layout) (body : List ℕ) where
   -- ---- a body that passes
@@ -67,7 +55,3 @@ module _ (n : ℕ) (l : Layout) (body : List ℕ) where
       ap (λ (b : Bool). eqb (l .width) 0 || b)
       (allBelow-intro 6 (passes (l .first) n (l .width) body) (λ i h. ap (λ (b : Bool). ltb i n || b) (each i h) ∙ or-true (ltb i n)))
       ∙ or-true (eqb (l .width) 0)
-
-  -- where the body ends before them
-  pub unusedZero-beyond : length body ≤ l .first → unusedZero n l body ≡ true
-  unusedZero-beyond h = unusedZero-of (λ i k. columnZero-beyond (l .first) (l .width) body i h)

@@ -1,21 +1,32 @@
--- File 3, File 7 and Refusals 16: the six entries of a body, and that those beyond n are zero. Definitions only. The table of
--- kinds (records *Kinds*) says which records have entries, where the first of them stands and how many bytes each has.
--- Assumes nothing.
+-- File 3, File 7, Refusals 16 and Forms 11: the numbers of a body, and that the entries beyond n are zero. Definitions only. The table
+-- of kinds (records *Kinds*) says which records have entries, where the first of them stands and how many bytes each has. Bytes beyond
+-- the end of a body count as 0. Assumes nothing.
 use mathlib.Core.Bool.{Bool, cond, _||_}
-use mathlib.Core.List.{List}
+use mathlib.Core.List.{List, _∷_, []}
 use Prim.Native.Nat.{ℕ, _+_, _*_}
 use lib.Dec.{eqb, ltb}
+use lib.Ieee.{Float, binary64, ofBits}
 use lib.IntN.{ℤ, natAbs}
-use Rattle.integers.specs.Sums.{allBelow}
+use lib.ListN.{getD}
+use Rattle.integers.specs.Sums.{allBelow, tabulate}
+use Rattle.coefficients.specs.declared.rows.FittedRow.{FittedRow}
 use Rattle.coefficients.specs.Binary64.{isZero}
 use Rattle.records.specs.declared.kinds.Layout.{Layout}
-use Rattle.records.specs.Numbers.{littleEndian, signedAt}
+use Rattle.numbers.specs.Numbers.{littleEndian, signedAt}
 
--- ---- the entries
+-- ---- the numbers of a body
+
+-- File 3: n, the number of a row and the number of a guard's direction are the byte that a body starts with.
+abbrev pub firstByte : List ℕ → ℕ
+firstByte body = getD body 0 0
 
 -- File 3: entry i of six, of 4 bytes each, the first of which stands at the offset `at` of a body.
 abbrev pub entryAt : List ℕ → ℕ → ℕ → ℤ
 entryAt body at i = signedAt 4 body (at + 4 * i)
+
+-- File 3: the six entries of a body, of 4 bytes each.
+unfoldable pub sixAt : List ℕ → ℕ → List ℤ
+sixAt body at = tabulate 6 (entryAt body at)
 
 -- File 3: an entry of 8 bytes is fitted; these are its 64 bits.
 abbrev pub fittedWidth : ℕ
@@ -24,7 +35,18 @@ fittedWidth = 8
 abbrev pub bitsAt : List ℕ → ℕ → ℕ → ℕ
 bitsAt body at i = littleEndian 8 body (at + 8 * i)
 
--- ---- those beyond n
+-- Forms 11: the number of a fitted row and its six values.
+abbrev pub fittedAt : List ℕ → ℕ → ℕ → Float
+fittedAt body at i = ofBits binary64 (bitsAt body at i)
+
+abbrev pub heldRow : List ℕ → ℕ → FittedRow
+heldRow body at =
+    record {
+      number = firstByte body;
+      values = fittedAt body at 0 ∷ fittedAt body at 1 ∷ fittedAt body at 2 ∷ fittedAt body at 3 ∷ fittedAt body at 4 ∷ fittedAt body at 5 ∷ [];
+    }
+
+-- ---- the entries beyond n
 
 abbrev pub entryZero : List ℕ → ℕ → ℕ → Bool
 entryZero body at i = eqb (natAbs (entryAt body at i)) 0

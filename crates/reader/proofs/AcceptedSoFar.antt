@@ -21,7 +21,7 @@ use Rattle.stepping.specs.Refusals.{dimensionOk}
 use Rattle.coefficients.specs.Entries.{entryValue}
 use Rattle.coefficients.specs.Rows.{storedSix}
 use Rattle.coefficients.proofs.RowLaws.{storedSix-within, storedSix-beyond, scaledEntry-ind, entryOfBits-ind}
-use Rattle.records.specs.Numbers.{littleEndian, signedAt}
+use Rattle.numbers.specs.Numbers.{littleEndian, signedAt}
 use Rattle.limits.specs.Limits.{directionLimit, stepsOk}
 use Rattle.reachability.specs.declared.sets.Shape.the-variants.{Box}
 use Rattle.reachability.specs.Sets.{points, orderedOk, zeroBox}
@@ -33,8 +33,9 @@ use Rattle.records.specs.declared.kinds.Layout.{Layout}
 use Rattle.records.specs.Places.{startPlace, rowsPlace, matrixPlace, driftPlace, initialPlace, inputPlace, directionPlace, guardPlace}
 use Rattle.records.specs.Kinds.{layoutOf, partOf}
 use Rattle.records.proofs.KnownKinds.{most-le}
-use Rattle.columns.specs.Columns.{unusedZero}
-use Rattle.reader.specs.Models.{zeros, blankSet, blankModel, start, firstByte, sixAt, usualSteps, defaultSteps, rowAnswer, rowPlace, withHead, withRow, withDrift, withPoint, withSetPoint, inputAt, withDirection, withGuard}
+use Rattle.columns.specs.Columns.{unusedZero, firstByte, sixAt}
+use Rattle.filling.specs.Models.{zeros, blankSet, blankModel, inputAt}
+use Rattle.reader.specs.Models.{start, usualSteps, defaultSteps, rowAnswer, rowPlace, withHead, withRow, withDrift, withPoint, withSetPoint, withDirection, withGuard}
 use Rattle.reader.specs.Values.{headOk, driftOk, pointOk, enteringPointOk, directionOk, guardOk, valueNumber, bodyNumber}
 use Rattle.reader.specs.Refusals.{countOf, kindNumber, storedIn, stored}
 use Rattle.reader.proofs.BodyNumbers.{passed, bodyNumber-zero}

@@ -19,11 +19,11 @@ use Rattle.records.specs.declared.kinds.Point.{Point}
 use Rattle.records.specs.declared.kinds.Part.{Part}
 use Rattle.records.specs.declared.kinds.Part.the-variants.{Head, Row, Drift, Initial, Input, Direction, Guard, End}
 use Rattle.reachability.specs.declared.sets.Set.{Set}
-use Rattle.columns.specs.Columns.{unusedZero}
+use Rattle.columns.specs.Columns.{unusedZero, firstByte}
 use Rattle.reader.specs.declared.Status.the-variants.{Refused}
 use Rattle.reader.specs.declared.state.State.{State}
 use Rattle.records.specs.Kinds.{layoutOf, partOf}
-use Rattle.reader.specs.Models.{start, firstByte, rowAnswer, withPoint}
+use Rattle.reader.specs.Models.{start, rowAnswer, withPoint}
 use Rattle.reader.specs.Values.{headOk, driftOk, pointOk, enteringPointOk, directionOk, guardOk, unless, rowNumber, pointNumberOf, valueNumber, bodyNumber}
 use Rattle.reader.specs.Refusals.{kindNumber, refusal}
 use Rattle.reader.specs.Reading.{Stop, stopFrom, numberAt, offsetAt, refused, readAs, readingAt, readFrom, readModel}

@@ -5,7 +5,7 @@ use mathlib.Core.List.{List, _∷_, []}
 use Prim.Native.Nat.{ℕ}
 use native.Mathlib.Omega.{arith}
 use Rattle.records.specs.Kinds.{bodyLength, layoutOf}
-use Rattle.records.specs.Numbers.{littleEndian}
+use Rattle.numbers.specs.Numbers.{littleEndian}
 use Rattle.records.specs.Order.{mayFollow}
 use Rattle.records.proofs.RecordAt.{recordAt-stands}
 use Rattle.stepping.specs.Refusals.{dimensionOk}

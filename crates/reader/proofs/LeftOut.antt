@@ -23,11 +23,12 @@ use Rattle.records.specs.Records.{Record, whole, short, unknown, nothing, recor
 use Rattle.reachability.specs.declared.sets.Set.{Set}
 use Rattle.reachability.specs.declared.model.Model.{Model}
 use Rattle.reachability.specs.Sets.{zeroBox}
-use Rattle.columns.specs.Columns.{unusedZero}
+use Rattle.columns.specs.Columns.{unusedZero, sixAt}
 use Rattle.reader.specs.declared.Status.the-variants.{Read}
 use Rattle.reader.specs.declared.state.State.{State}
 use Rattle.reader.specs.Order.{isEnd}
-use Rattle.reader.specs.Models.{start, sixAt, putRow, setSet, setDirections, stateOf, withHead, withRow, withDrift, withSetPoint, inputAt, withDirection, withGuard}
+use Rattle.filling.specs.Models.{putRow, setSet, setDirections, inputAt}
+use Rattle.reader.specs.Models.{start, stateOf, withHead, withRow, withDrift, withSetPoint, withDirection, withGuard}
 use Rattle.reader.specs.Values.{unless, rowNumber, valueNumber, bodyNumber}
 use Rattle.reader.specs.Refusals.{countOf, kindNumber, refusal, storedIn, stored}
 use Rattle.reader.specs.Reading.{storedRecord, stopFor, readFrom, readModel}

@@ -28,12 +28,13 @@ use Rattle.reachability.specs.declared.model.Model.{Model}
 use Rattle.reachability.specs.Sets.{zeroBox}
 use Rattle.reachability.specs.Runs.{Run}
 use Rattle.reachability.proofs.ZeroInput.{inputs-zero}
-use Rattle.columns.specs.Columns.{unusedZero}
+use Rattle.columns.specs.Columns.{unusedZero, sixAt}
 use Rattle.columns.proofs.ColumnLaws.{unusedZero-of}
 use Rattle.reader.specs.declared.Status.the-variants.{Read}
 use Rattle.reader.specs.declared.state.State.{State}
-use Rattle.reader.specs.Order.{shapeOf, isEnd}
-use Rattle.reader.specs.Models.{zeros, blankSet, start, sixAt, putRow, setSet, setDirections, stateOf, withHead, withRow, withDrift, withPoint, withSetPoint, inputAt, withDirection, withGuard}
+use Rattle.filling.specs.Models.{shapeOf, zeros, blankSet, putRow, setSet, setDirections, inputAt}
+use Rattle.reader.specs.Order.{isEnd}
+use Rattle.reader.specs.Models.{start, stateOf, withHead, withRow, withDrift, withPoint, withSetPoint, withDirection, withGuard}
 use Rattle.reader.specs.Values.{pointOk, enteringPointOk, unless, pointNumberOf, valueNumber, bodyNumber}
 use Rattle.reader.specs.Refusals.{countOf, kindNumber, refusal, storedIn, stored}
 use Rattle.reader.specs.Reading.{stopFor, readFrom, readModel}

@@ -24,9 +24,9 @@ use Rattle.records.proofs.KnownKinds.{most-le}
 use Rattle.reachability.specs.declared.sets.Set.{Set}
 use Rattle.reachability.specs.OneMore.{OneMore, newPoint}
 use Rattle.reader.specs.declared.state.State.{State}
-use Rattle.reader.specs.Order.{shapeOf}
-use Rattle.columns.specs.Columns.{entryAt}
-use Rattle.reader.specs.Models.{sixAt, withPoint}
+use Rattle.filling.specs.Models.{shapeOf}
+use Rattle.columns.specs.Columns.{entryAt, sixAt}
+use Rattle.reader.specs.Models.{withPoint}
 use Rattle.reader.specs.Refusals.{countOf, kindNumber}
 use Rattle.reader.specs.Points.{stateAfter, setBefore, setWith, PointAt}
 use Rattle.reader.proofs.order.KindNumbers.{kindNumber-zero, count-lt}

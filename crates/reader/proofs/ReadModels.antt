@@ -30,7 +30,8 @@ use Rattle.records.specs.declared.kinds.Part.the-variants.{Head, Row, Drift, In
 use Rattle.records.specs.Places.{initialPlace, inputPlace, directionPlace}
 use Rattle.records.specs.Kinds.{layoutOf, partOf}
 use Rattle.reader.specs.Order.{isEnd}
-use Rattle.reader.specs.Models.{blankModel, start}
+use Rattle.filling.specs.Models.{blankModel}
+use Rattle.reader.specs.Models.{start}
 use Rattle.reader.specs.Refusals.{refusal, stored}
 use Rattle.reader.specs.Reading.{Stop, stopHere, goesOn, behind, storedRecord, stopFor, stopFrom, numberAt, offsetAt, refused, readAs, readingAt, readFrom, readModel, readNumber, readOffset, statusNumber, statusOffset, Reads}
 use Rattle.reader.proofs.order.KindNumbers.{kindNumber-zero}

@@ -6,8 +6,7 @@ use mathlib.Core.List.{List, _∷_, _++_, append-assoc, []}
 use Prim.Native.Nat.{ℕ, _+_}
 use native.Mathlib.Omega.{arith}
 use lib.ListN.{length, length-append}
-use Rattle.records.specs.declared.kinds.BodyLength.the-variants.{Bytes}
-use Rattle.records.specs.Kinds.{bodyLength, layoutOf, partOf}
+use Rattle.records.specs.Kinds.{Bytes, bodyLength, layoutOf, partOf}
 use Rattle.records.proofs.RecordAt.{recordAt-stands}
 use Rattle.reader.specs.declared.state.State.{State}
 use Rattle.columns.proofs.ColumnLaws.{unusedZero-none}

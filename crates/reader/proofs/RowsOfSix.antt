@@ -17,8 +17,8 @@ use Rattle.integers.proofs.Sums.{allBelow-intro, allBelow-cong}
 use Rattle.integers.proofs.Machine.{getD-replicate-default}
 use Rattle.arrays.proofs.Tests.{Zeros, Small}
 use Rattle.limits.specs.Limits.{allZero, someNonzero, guardOk, guardsOk}
-use Rattle.reader.specs.Models.{zeros, putRow}
-use Rattle.reader.proofs.store.PutRow.{putRow-other, putRow-same}
+use Rattle.filling.specs.Models.{zeros, putRow}
+use Rattle.filling.proofs.PutRow.{putRow-other, putRow-same}
 
 -- ---- blank blocks
 

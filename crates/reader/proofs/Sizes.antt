@@ -10,18 +10,18 @@ use borrow.Author.Tests.{ne-eqb, eqb-true, leb-true, ltb-true, lt-ltb, le-ltb}
 use lib.Dec.{eqb, leb, ltb}
 use lib.ListN.{length}
 use Rattle.integers.proofs.Booleans.{and-true}
-use Rattle.records.specs.declared.kinds.BodyLength.the-variants.{Bytes}
 use Rattle.records.specs.declared.kinds.Layout.{Layout}
 use Rattle.records.specs.declared.kinds.Part.{Part}
 use Rattle.records.specs.declared.kinds.Part.the-variants.{Head, Row, Drift, Initial, Input, Direction, Guard, End}
 use Rattle.records.specs.Places.{startPlace, rowsPlace, matrixPlace, driftPlace, initialPlace, inputPlace, directionPlace, guardPlace}
-use Rattle.records.specs.Kinds.{bodyLength, layoutOf, partOf}
+use Rattle.records.specs.Kinds.{Bytes, bodyLength, layoutOf, partOf}
 use Rattle.records.specs.Order.{mayFollow}
 use Rattle.records.proofs.KnownKinds.{known-at, known-length}
 use Rattle.reachability.specs.Sets.{zeroBox}
 use Rattle.reader.specs.declared.state.State.{State}
 use Rattle.reader.specs.Order.{isEnd}
-use Rattle.reader.specs.Models.{blankSet, blankModel, start, rowPlace, withHead, withRow, withDrift, withPoint, withSetPoint, inputAt, withDirection, withGuard}
+use Rattle.filling.specs.Models.{blankSet, blankModel, inputAt}
+use Rattle.reader.specs.Models.{start, rowPlace, withHead, withRow, withDrift, withPoint, withSetPoint, withDirection, withGuard}
 use Rattle.reader.specs.Refusals.{storedIn, stored}
 use Rattle.reader.proofs.OrderFacts.{isPlain, pointFact, point-of, point-low, fact, order-fact}
 use Rattle.reader.proofs.PartsSoFar.{n-most, none-count}

@@ -19,13 +19,14 @@ use Rattle.records.specs.Places.{startPlace, rowsPlace}
 use Rattle.records.specs.Kinds.{layoutOf, partOf}
 use Rattle.records.specs.Records.{Record, whole, nothing, recordAt, recordKind, recordBody}
 use Rattle.records.proofs.KnownKinds.{layout-at}
-use Rattle.records.proofs.LittleEndian.{AllBytes, littleEndian-lt}
+use Rattle.numbers.proofs.LittleEndian.{AllBytes, littleEndian-lt}
 use Rattle.records.proofs.RecordAt.{recordAt-nothing, whole-of, whole-bytes}
 use Rattle.columns.specs.Columns.{entryAt, fittedWidth, bitsAt, unusedZero}
 use Rattle.columns.proofs.ColumnLaws.{entryZero-is, columnZero-fitted, columnZero-whole, unusedZero-at, unusedZero-none}
 use Rattle.reader.specs.declared.Status.the-variants.{Read}
 use Rattle.reader.specs.declared.state.State.{State}
-use Rattle.reader.specs.Models.{blankModel, start, withRow, withDrift, withSetPoint, withDirection, withGuard}
+use Rattle.filling.specs.Models.{blankModel}
+use Rattle.reader.specs.Models.{start, withRow, withDrift, withSetPoint, withDirection, withGuard}
 use Rattle.reader.specs.Values.{bodyNumber}
 use Rattle.reader.specs.Refusals.{refusal, storedIn, stored}
 use Rattle.reader.specs.Reading.{Stop, stopHere, goesOn, behind, storedRecord, stopFor, numberAt, readModel}

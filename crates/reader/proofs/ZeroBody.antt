@@ -6,9 +6,9 @@ use native.Mathlib.Omega.{arith}
 use lib.Dec.{eqb}
 use lib.IntN.{ℤ, pos, natAbs}
 use Rattle.integers.proofs.Machine.{tabulate-cong, getD-replicate-default}
-use Rattle.records.specs.Numbers.{littleEndian, twosComplement}
-use Rattle.columns.specs.Columns.{entryAt, entryZero}
-use Rattle.reader.specs.Models.{zeros, sixAt}
+use Rattle.numbers.specs.Numbers.{littleEndian, twosComplement}
+use Rattle.columns.specs.Columns.{entryAt, entryZero, sixAt}
+use Rattle.filling.specs.Models.{zeros}
 use Rattle.reader.specs.LeftOut.{zeroBody}
 
 littleEndian-zeros : (k at : ℕ) → littleEndian k zeroBody at ≡ 0

@@ -1,30 +1,15 @@
 -- What the inner functions promise to each other. Definitions only; no public contract cites them. Assumes nothing.
 use mathlib.Core.Path.{_≡_}
-use mathlib.Core.List.{List, _∷_, []}
+use mathlib.Core.List.{List}
 use Prim.Native.Nat.{ℕ, _≤_, _<_}
 use lib.ListN.{length}
-use lib.Ieee.{Float, binary64, ofBits}
-use Rattle.coefficients.specs.declared.rows.FittedRow.{FittedRow}
 use Rattle.reader.specs.declared.Reading.{Reading}
 use Rattle.reader.specs.declared.state.State.{State}
 use Rattle.reader.specs.declared.take.Taken.{Taken}
 use Rattle.reader.specs.declared.advance.Outcome.{Outcome}
 use Rattle.reader.specs.declared.advance.Outcome.the-variants.{Next, Ended, Stopped}
 use Rattle.reader.specs.declared.advance.Advanced.{Advanced}
-use Rattle.columns.specs.Columns.{bitsAt}
-use Rattle.reader.specs.Models.{firstByte}
 use Rattle.reader.specs.Reading.{refused, readAs, readFrom}
-
--- Forms 11: the number of a fitted row and its six values.
-abbrev pub fittedAt : List ℕ → ℕ → ℕ → Float
-fittedAt body at i = ofBits binary64 (bitsAt body at i)
-
-abbrev pub heldRow : List ℕ → ℕ → FittedRow
-heldRow body at =
-    record {
-      number = firstByte body;
-      values = fittedAt body at 0 ∷ fittedAt body at 1 ∷ fittedAt body at 2 ∷ fittedAt body at 3 ∷ fittedAt body at 4 ∷ fittedAt body at 5 ∷ [];
-    }
 
 -- What taking a record gives: its number and, where that is 0, the state behind it.
 pub record Takes (number : ℕ) (next : State) (r : Taken) : Type 0 where

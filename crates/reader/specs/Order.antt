@@ -4,17 +4,6 @@ use Rattle.records.specs.declared.kinds.Part.{Part}
 use Rattle.records.specs.declared.kinds.Part.the-variants.{Head, Row, Drift, Initial, Input, Direction, Guard, End}
 use Rattle.records.specs.declared.kinds.Point.{Point}
 use Rattle.records.specs.declared.kinds.Point.the-variants.{NoPoint, Lower, Upper, Centre, Generator, Vertex}
-use Rattle.reachability.specs.declared.sets.Shape.{Shape}
-use Rattle.reachability.specs.declared.sets.Shape.the-variants.{Box, Zonotope, Vertices}
-
--- The shape of the set that a point belongs to.
-abbrev pub shapeOf : Point → Shape
-shapeOf NoPoint = Box
-shapeOf Lower = Box
-shapeOf Upper = Box
-shapeOf Centre = Zonotope
-shapeOf Generator = Zonotope
-shapeOf Vertex = Vertices
 
 -- At the upper corner both corners of a box are there.
 abbrev pub isUpper : Point → Bool

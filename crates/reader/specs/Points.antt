@@ -9,7 +9,8 @@ use Rattle.records.specs.declared.kinds.Part.the-variants.{Initial, Input}
 use Rattle.records.specs.Kinds.{layoutOf, partOf}
 use Rattle.reachability.specs.declared.sets.Set.{Set}
 use Rattle.reader.specs.declared.state.State.{State}
-use Rattle.reader.specs.Models.{start, setOf, withPoint}
+use Rattle.filling.specs.Models.{setOf}
+use Rattle.reader.specs.Models.{start, withPoint}
 use Rattle.reader.specs.Refusals.{kindNumber}
 use Rattle.reader.specs.Reading.{stopFor}
 

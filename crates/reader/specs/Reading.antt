@@ -15,7 +15,8 @@ use Rattle.reader.specs.declared.Status.the-variants.{Read, Refused}
 use Rattle.reader.specs.declared.Reading.{Reading}
 use Rattle.reader.specs.declared.state.State.{State}
 use Rattle.reader.specs.Order.{isEnd}
-use Rattle.reader.specs.Models.{blankModel, start}
+use Rattle.filling.specs.Models.{blankModel}
+use Rattle.reader.specs.Models.{start}
 use Rattle.reader.specs.Refusals.{refusal, stored}
 
 -- ---- where reading stops

@@ -7,9 +7,9 @@ use lib.IntN.{ℤ, pos, negℤ}
 use Rattle.arrays.specs.Tests.{allBetween, firstOf}
 use Rattle.stepping.specs.Refusals.{dimensionOk}
 use Rattle.coefficients.specs.Rows.{entriesNumber}
-use Rattle.records.specs.Numbers.{littleEndian}
+use Rattle.numbers.specs.Numbers.{littleEndian}
 use Rattle.records.specs.Kinds.{layoutOf, partOf}
-use Rattle.columns.specs.Columns.{unusedZero}
+use Rattle.columns.specs.Columns.{unusedZero, firstByte, sixAt}
 use Rattle.reachability.specs.Sets.{reachLimit, reachWithin}
 use Rattle.reachability.specs.Entering.{enteringWithin}
 use Rattle.limits.specs.Limits.{directionLimit, allZero, cornersOrdered}
@@ -20,7 +20,8 @@ use Rattle.records.specs.declared.kinds.Part.{Part}
 use Rattle.records.specs.declared.kinds.Part.the-variants.{Head, Row, Drift, Initial, Input, Direction, Guard, End}
 use Rattle.reader.specs.declared.state.State.{State}
 use Rattle.reader.specs.Order.{isUpper}
-use Rattle.reader.specs.Models.{firstByte, sixAt, rowAnswer, setOf, withPoint}
+use Rattle.filling.specs.Models.{setOf}
+use Rattle.reader.specs.Models.{rowAnswer, withPoint}
 
 -- Refusals 4 does not apply.
 abbrev pub headValuesOk : ℕ → ℕ → Bool

@@ -4,13 +4,12 @@ use crate::state::State;
 use crate::take::take;
 use columns::unused_zero;
 use records::kinds::Layout;
-use records::kinds::Part;
 use records::kinds::layout_of;
+use records::places::END;
 ghost use mathlib.Core.Path.{_≡_};
 ghost use Rattle.records.specs.Kinds.{layoutOf};
 ghost use Rattle.records.specs.Records.{recordAt, whole};
 ghost use Rattle.columns.specs.Columns.{unusedZero};
-ghost use Rattle.reader.specs.Order.{isEnd};
 ghost use Rattle.reader.specs.Values.{unless};
 ghost use Rattle.reader.specs.Refusals.{kindNumber};
 ghost use Rattle.reader.specs.Inner.{Advances};
@@ -38,22 +37,6 @@ fn unused_number(n: usize, layout: Layout, body: &[u8]) -> u8
     16
 }
 
-// The record is the end.
-fn is_end(part: Part) -> bool
-    ensures { λ b. ⌜ b ≡ isEnd part ⌝ }
-{
-    match part {
-        Part::Head => false,
-        Part::Row => false,
-        Part::Drift => false,
-        Part::Initial => false,
-        Part::Input => false,
-        Part::Direction => false,
-        Part::Guard => false,
-        Part::End => true,
-    }
-}
-
 // A whole record whose kind has passed 3 and 9. What stands beyond n comes before its other values.
 fn advance_whole(
     file: &[u8],
@@ -79,8 +62,7 @@ fn advance_whole(
             state,
         };
     }
-    let part = layout.part;
-    if is_end(part) {
+    if layout.place == END {
         if start < file.len() {
             return Advanced {
                 outcome: Outcome::Stopped(10, start),

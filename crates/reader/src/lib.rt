@@ -5,15 +5,14 @@
 mod advance;
 mod order;
 mod state;
-mod store;
 mod take;
 
 use advance::Outcome;
 use advance::advance;
+use filling::blank_model;
 use reachability::model::Model;
 use records::places::START;
 use state::State;
-use state::blank_model;
 ghost use Rattle.reader.specs.Reading.{Reads};
 
 // Whether a file was read, or its number and the offset that it is told at.

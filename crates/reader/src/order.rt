@@ -1,27 +1,10 @@
 // What a kind is refused for: Refusals 3, a kind that may not stand here; Refusals 9, one record too many.
 use crate::state::State;
-use reachability::sets::Shape;
 use records::kinds::Layout;
 use records::kinds::Part;
-use records::kinds::Point;
 use records::order::may_follow;
 ghost use mathlib.Core.Path.{_≡_};
-ghost use Rattle.reader.specs.Order.{shapeOf};
 ghost use Rattle.reader.specs.Refusals.{countOf, kindNumberOf};
-
-// The shape of the set that such a point belongs to.
-pub(crate) fn shape_of(point: Point) -> Shape
-    ensures { λ r. ⌜ r ≡ shapeOf point ⌝ }
-{
-    match point {
-        Point::NoPoint => Shape::Box,
-        Point::Lower => Shape::Box,
-        Point::Upper => Shape::Box,
-        Point::Centre => Shape::Zonotope,
-        Point::Generator => Shape::Zonotope,
-        Point::Vertex => Shape::Vertices,
-    }
-}
 
 // How many the part has so far.
 fn count_of(part: Part, state: State) -> usize
@@ -61,8 +44,5 @@ pub(crate) fn kind_number(state: State, kind: u8, layout: Layout) -> u8
     let part = layout.part;
     let count = count_of(part, state);
     let many: u8 = if layout.most <= count { 9 } else { 0 };
-    if misplaced != 0 {
-        return misplaced;
-    }
-    many
+    arrays::first_of(misplaced, many)
 }

@@ -1,17 +1,17 @@
 // Taking a whole record: the test of its values, Refusals 4 to 8, 15 and 17, and the state behind it. Its entries beyond n are tested
 // apart, by `columns`.
 use crate::state::State;
-use crate::store::first_byte;
-use crate::store::fitted_row;
-use crate::store::input_at;
-use crate::store::put_row;
-use crate::store::set_of;
-use crate::store::six_at;
-use crate::store::with_point;
-use crate::store::with_set;
 use coefficients::rows::RowEntries;
 use coefficients::rows::fitted_entries;
 use coefficients::rows::scaled_entries;
+use columns::first_byte;
+use columns::fitted_row;
+use columns::six_at;
+use filling::input_at;
+use filling::put_row;
+use filling::set_of;
+use filling::shape_of;
+use filling::with_set;
 use limits::DIRECTION_LIMIT;
 use limits::LEAST_DIRECTION;
 use limits::MOST_STEPS;
@@ -32,8 +32,8 @@ ghost use mathlib.Core.Bool.{false};
 ghost use Prim.Native.Nat.{_≤_, _<_};
 ghost use lib.Dec.{eqb};
 ghost use Rattle.arrays.specs.Tests.{firstOf};
-ghost use Rattle.reader.specs.Models.{withHead, rowStored, withRow, withDrift, setOf, withSetPoint, withDirection, withGuard};
-ghost use Rattle.reader.specs.Order.{isUpper};
+ghost use Rattle.filling.specs.Models.{setOf};
+ghost use Rattle.reader.specs.Models.{withHead, rowStored, withRow, withDrift, withPoint, withSetPoint, withDirection, withGuard};
 ghost use Rattle.reader.specs.Values.{headOk, rowNumber, driftOk, cornersOk, pointNumberOf, directionOk, guardOk, unless, pointNumber, valueNumber};
 ghost use Rattle.reader.specs.Refusals.{oneTooMany, storedIn};
 ghost use Rattle.reader.specs.Inner.{Takes};
@@ -56,7 +56,7 @@ fn take_head(state: State, layout: Layout, body: &[u8]) -> Taken
     ensures { λ r. ⌜ Takes (unless (headOk (now (body .entry))) 4) (withHead state layout (now (body .entry))) r ⌝ }
 {
     let n = first_byte(body);
-    let said = records::u16_at(body, 1) as usize;
+    let said = numbers::u16_at(body, 1) as usize;
     if n < 1 {
         return Taken { number: 4, state };
     }
@@ -113,7 +113,6 @@ fn store_row(state: State, layout: Layout, row: usize, entries: RowEntries) -> T
 
 // A row, scaled or fitted. The row's number stands above its entries.
 fn take_row(state: State, layout: Layout, body: &[u8]) -> Taken
-    requires { ⌜ layout .first ≤ 1 ⌝ }
     ensures { λ r. ⌜ Takes (rowNumber state layout (now (body .entry))) (withRow state layout (now (body .entry))) r ⌝ }
 {
     let model = state.model;
@@ -130,7 +129,6 @@ fn take_row(state: State, layout: Layout, body: &[u8]) -> Taken
 
 // The drift.
 fn take_drift(state: State, layout: Layout, body: &[u8]) -> Taken
-    requires { ⌜ layout .first ≤ 1 ⌝ }
     ensures { λ r. ⌜ Takes (unless (driftOk layout (now (body .entry))) 17) (withDrift state layout (now (body .entry))) r ⌝ }
 {
     let mut model = state.model;
@@ -149,28 +147,18 @@ fn take_drift(state: State, layout: Layout, body: &[u8]) -> Taken
     }
 }
 
-// The record is the upper corner of a box.
-fn is_upper(point: Point) -> bool
-    ensures { λ b. ⌜ b ≡ isUpper point ⌝ }
-{
-    match point {
-        Point::NoPoint => false,
-        Point::Lower => false,
-        Point::Upper => true,
-        Point::Centre => false,
-        Point::Generator => false,
-        Point::Vertex => false,
-    }
-}
-
 // The corners of a box, once both are read, are in order.
 fn corners_ok(n: usize, point: Point, points: &[i32; 96]) -> bool
     ensures { λ b. ⌜ b ≡ cornersOk n point (now (points .entry)) ⌝ }
 {
-    if !is_upper(point) {
-        return true;
+    match point {
+        Point::NoPoint => true,
+        Point::Lower => true,
+        Point::Upper => limits::corners_ordered(n, points),
+        Point::Centre => true,
+        Point::Generator => true,
+        Point::Vertex => true,
     }
-    limits::corners_ordered(n, points)
 }
 
 // The number of a set with its last point so far: 6 or, of the input set, 17. A reach that is within its limit with the drift is so by
@@ -199,10 +187,27 @@ fn point_number(input: bool, n: usize, point: Point, set: Set, drift: &[i32; 6])
     }
 }
 
+// A set with one point more.
+fn with_point(set: Set, layout: Layout, body: &[u8]) -> Set
+    requires { ⌜ set .count < 16 ⌝ }
+    ensures { λ r. ⌜ r ≡ withPoint set layout (now (body .entry)) ⌝ }
+{
+    let point = layout.point;
+    let shape = shape_of(point);
+    let count = set.count;
+    let six = six_at(body, layout.first);
+    let mut points = set.points;
+    put_row(&mut points, count, &six);
+    Set {
+        shape,
+        count: count + 1,
+        points,
+    }
+}
+
 // One point more of the initial set or, with `input`, of the input set.
 fn take_point(state: State, input: bool, layout: Layout, body: &[u8]) -> Taken
     requires { ⌜ setOf input (state .model) .count < 16 ⌝ }
-    requires { ⌜ layout .first ≤ 1 ⌝ }
     ensures { λ r. ⌜ Takes (pointNumber input state layout (now (body .entry))) (withSetPoint input state layout (now (body .entry))) r ⌝ }
 {
     let model = state.model;
@@ -228,7 +233,6 @@ fn take_point(state: State, input: bool, layout: Layout, body: &[u8]) -> Taken
 
 fn take_direction(state: State, layout: Layout, body: &[u8]) -> Taken
     requires { ⌜ state .model .questions .directions < 16 ⌝ }
-    requires { ⌜ layout .first ≤ 1 ⌝ }
     ensures { λ r. ⌜ Takes (unless (directionOk layout (now (body .entry))) 7) (withDirection state layout (now (body .entry))) r ⌝ }
 {
     let mut model = state.model;
@@ -272,7 +276,7 @@ fn take_guard(state: State, layout: Layout, body: &[u8]) -> Taken
     let mut watched = questions.watched;
     let mut levels = questions.levels;
     watched[guards] = direction;
-    levels[guards] = records::i64_at(body, 1);
+    levels[guards] = numbers::i64_at(body, 1);
     questions.guards = guards + 1;
     questions.watched = watched;
     questions.levels = levels;
@@ -291,7 +295,6 @@ fn take_guard(state: State, layout: Layout, body: &[u8]) -> Taken
 pub(crate) fn take(state: State, layout: Layout, body: &[u8]) -> Taken
     requires { ⌜ oneTooMany state layout ≡ false ⌝ }
     requires { ⌜ layout .most ≤ 16 ⌝ }
-    requires { ⌜ layout .first ≤ 1 ⌝ }
     ensures { λ r. ⌜ Takes (valueNumber (layout .part) state layout (now (body .entry))) (storedIn (layout .part) state layout (now (body .entry))) r ⌝ }
 {
     let part = layout.part;

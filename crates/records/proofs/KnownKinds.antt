@@ -1,16 +1,16 @@
 -- Laws of the table of kinds. In order: what every row passes holds of a known kind; every kind is a byte other than 0, and no body is
--- longer than 49 bytes; what every row and the layout of an unknown kind pass holds of any layout. Assumes nothing.
+-- longer than 49 bytes; what every row and the layout of an unknown kind pass holds of any layout; a kind is known where its part may
+-- have a record. Assumes nothing.
 use mathlib.Core.Path.{_≡_, refl, sym, ap, _∙_}
 use mathlib.Core.Bool.{Bool, true, false, cond, _&&_}
 use mathlib.Core.List.{List, [], _∷_}
 use Prim.Native.Nat.{ℕ, _≤_, _<_}
 use native.Mathlib.Omega.{arith}
-use borrow.Author.Tests.{eqb-true, leb-true}
+use borrow.Author.Tests.{eqb-true, eq-eqb, ne-eqb, leb-true}
 use lib.Dec.{eqb, leb}
 use Rattle.integers.proofs.Booleans.{and-true}
-use Rattle.records.specs.declared.kinds.BodyLength.the-variants.{Bytes, Unknown}
 use Rattle.records.specs.declared.kinds.Layout.{Layout}
-use Rattle.records.specs.Kinds.{kinds, told, bodyLength, noLayout, layoutOf}
+use Rattle.records.specs.Kinds.{BodyLength, Bytes, Unknown, kinds, told, bodyLength, noLayout, layoutOf}
 
 -- A test of a kind and what it is, of every row.
 abbrev pub everyRow : (ℕ → Layout → Bool) → List (ℕ × Layout) → Bool
@@ -68,10 +68,37 @@ pub layout-at : (p : Layout → Bool) → p noLayout ≡ true → everyRow (λ k
 unfolding layoutOf
 layout-at p none t kind = told-at p kind kinds none t
 
--- at most the number of a row stands before the entries
-pub firstEntry-le : (kind : ℕ) → layoutOf kind .first ≤ 1
-firstEntry-le kind = leb-true (layoutOf kind .first) 1 (layout-at (λ l. leb (l .first) 1) refl refl kind)
-
 -- no part has more than 16
 pub most-le : (kind : ℕ) → layoutOf kind .most ≤ 16
 most-le kind = leb-true (layoutOf kind .most) 16 (layout-at (λ l. leb (l .most) 16) refl refl kind)
+
+-- ---- known or unknown
+
+-- by the most records of its part
+abbrev lengthIn : Layout → BodyLength
+lengthIn l = cond (eqb (l .most) 0) Unknown (Bytes (l .length))
+
+lengthIn-told : (kind : ℕ) (rows : List (ℕ × Layout)) → everyRow (λ k l. leb 1 (l .most)) rows ≡ true → told (λ l. Bytes (l .length)) Unknown kind rows ≡ lengthIn (told (λ l. l) noLayout kind rows)
+lengthIn-told kind [] t = refl
+lengthIn-told kind (row ∷ rows) t = split (eqb (row .0) kind) (lengthIn-told kind rows (both .1))
+  where
+    both : (leb 1 (row .1 .most) ≡ true) × (everyRow (λ k l. leb 1 (l .most)) rows ≡ true)
+    both = and-true (leb 1 (row .1 .most)) (everyRow (λ k l. leb 1 (l .most)) rows) t
+
+    some : row .1 .most ≡ 0 → ⊥
+    some e = omega (arith, leb-true 1 (row .1 .most) (both .0))
+
+    split : (b : Bool) → told (λ l. Bytes (l .length)) Unknown kind rows ≡ lengthIn (told (λ l. l) noLayout kind rows) → cond b (Bytes (row .1 .length)) (told (λ l. Bytes (l .length)) Unknown kind rows) ≡ lengthIn (cond b (row .1) (told (λ l. l) noLayout kind rows))
+    split true go = sym (ap (λ (b : Bool). cond b Unknown (Bytes (row .1 .length))) (ne-eqb (row .1 .most) 0 some))
+    split false go = go
+
+module _ (kind : ℕ) where
+  lengthIn-is : bodyLength kind ≡ lengthIn (layoutOf kind)
+  unfolding bodyLength layoutOf
+  lengthIn-is = lengthIn-told kind kinds refl
+
+  pub bodyLength-unknown : layoutOf kind .most ≡ 0 → bodyLength kind ≡ Unknown
+  bodyLength-unknown e = lengthIn-is ∙ ap (λ (b : Bool). cond b Unknown (Bytes (layoutOf kind .length))) (eq-eqb (layoutOf kind .most) 0 e)
+
+  pub bodyLength-known : (layoutOf kind .most ≡ 0 → ⊥) → bodyLength kind ≡ Bytes (layoutOf kind .length)
+  bodyLength-known ne = lengthIn-is ∙ ap (λ (b : Bool). cond b Unknown (Bytes (layoutOf kind .length))) (ne-eqb (layoutOf kind .most) 0 ne)

@@ -12,12 +12,10 @@ use lib.Seq.{length-take-le, take-append-seam, take-take, getD-take, getD-drop, 
 use mir.Syntax.{w8}
 use mir.Val.{Fits}
 use denote.Ref.{RefT, now}
-use Rattle.records.specs.declared.kinds.BodyLength.{BodyLength}
-use Rattle.records.specs.declared.kinds.BodyLength.the-variants.{Bytes, Unknown}
-use Rattle.records.specs.Kinds.{bodyLength}
+use Rattle.records.specs.Kinds.{BodyLength, Bytes, Unknown, bodyLength}
 use Rattle.records.specs.Records.{Record, whole, short, unknown, nothing, recordOf, recordAt, recordNumber, recordKind, recordBody, RecordStep}
 use Rattle.records.proofs.KnownKinds.{kind-above-zero, bodyLength-le}
-use Rattle.records.proofs.LittleEndian.{AllBytes}
+use Rattle.numbers.proofs.LittleEndian.{AllBytes}
 
 -- ---- the four cases
 

@@ -3,8 +3,6 @@ use mathlib.Core.Bool.{cond}
 use mathlib.Core.List.{List, _∷_, []}
 use Prim.Native.Nat.{ℕ, _+_}
 use lib.Dec.{eqb}
-use Rattle.records.specs.declared.kinds.BodyLength.{BodyLength}
-use Rattle.records.specs.declared.kinds.BodyLength.the-variants.{Bytes, Unknown}
 use Rattle.records.specs.declared.kinds.Layout.{Layout}
 use Rattle.records.specs.declared.kinds.Part.{Part}
 use Rattle.records.specs.declared.kinds.Part.the-variants.{Head, Row, Drift, Initial, Input, Direction, Guard, End}
@@ -54,6 +52,10 @@ told value none kind [] = none
 told value none kind (row ∷ rows) = cond (eqb (row .0) kind) (value (row .1)) (told value none kind rows)
 
 -- File 1: the kind fixes the length. A kind that is not in the table is unknown (Refusals 2).
+pub data BodyLength : Type 0 where
+  Bytes : ℕ → BodyLength
+  Unknown : BodyLength
+
 unfoldable pub bodyLength : ℕ → BodyLength
 bodyLength kind = told (λ l. Bytes (l .length)) Unknown kind kinds
 

@@ -7,9 +7,7 @@ use Prim.Native.Nat.{ℕ, _+_}
 use lib.Dec.{ltb, leb}
 use lib.ListN.{length, getD, take, drop}
 use denote.Ref.{RefT, now, ptr}
-use Rattle.records.specs.declared.kinds.BodyLength.{BodyLength}
-use Rattle.records.specs.declared.kinds.BodyLength.the-variants.{Bytes, Unknown}
-use Rattle.records.specs.Kinds.{bodyLength}
+use Rattle.records.specs.Kinds.{BodyLength, Bytes, Unknown, bodyLength}
 
 -- What stands at an offset: a whole record, with its kind and its body; a kind whose body the file's end cuts off; an
 -- unknown kind; or no byte.

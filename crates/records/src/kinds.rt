@@ -23,7 +23,7 @@ use crate::places::MATRIX;
 use crate::places::ROWS;
 use crate::places::START;
 ghost use mathlib.Core.Path.{_≡_};
-ghost use Rattle.records.specs.Kinds.{bodyLength, layoutOf};
+ghost use Rattle.records.specs.Kinds.{layoutOf};
 ghost use Rattle.records.specs.Inner.{KindTable};
 
 // A part of a model, as the table of File 3 has them.
@@ -58,12 +58,6 @@ pub struct Layout {
     pub width: usize,
     pub most: usize,
     pub place: u8,
-}
-
-// What the table says of a kind: the length of its body, or that the kind is unknown.
-pub enum BodyLength {
-    Bytes(usize),
-    Unknown,
 }
 
 // File 3. The bytes of a fitted entry.
@@ -106,22 +100,6 @@ fn table() -> [Entry; COUNT]
     ensures { λ r. ⌜ KindTable r ⌝ }
 {
     KINDS
-}
-
-// The body length of a kind, by a search of the table.
-pub(crate) fn body_length(kind: u8) -> BodyLength
-    ensures { λ r. ⌜ r ≡ bodyLength kind ⌝ }
-{
-    let table = table();
-    let mut i: usize = 0;
-    while i < COUNT {
-        let entry = table[i];
-        if entry.0 == kind {
-            return BodyLength::Bytes(entry.3 as usize);
-        }
-        i += 1;
-    }
-    BodyLength::Unknown
 }
 
 // Routines 13. What a kind is, by a search of the table. An unknown kind is answered as an end with 0 in every number.

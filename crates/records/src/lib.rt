@@ -1,18 +1,12 @@
 // Records of a model file, "File" of the specification: the table of kinds, the record step, the places of a file and the order of
-// kinds, and numbers of several bytes.
+// kinds.
 //
 // No public function has a `requires`: any bytes, any offset, any kind gets its answer. How many records a part has so far, and what a
 // body may hold, is the reader's.
 pub mod kinds;
-mod numbers;
 pub mod order;
 pub mod places;
 
-use kinds::BodyLength;
-pub use numbers::i32_at;
-pub use numbers::i64_at;
-pub use numbers::u16_at;
-pub use numbers::u64_at;
 ghost use Rattle.records.specs.Records.{RecordStep};
 
 // Routines 12. The record whose kind byte is at the offset `at`. It returns the body, which lies in the file, and leaves:
@@ -36,10 +30,13 @@ pub fn record_at<'a, 'b, 'c>(
     }
     let first = file[at];
     *kind = first;
-    let BodyLength::Bytes(length) = kinds::body_length(first) else {
+    // A known kind may have a record, an unknown one none.
+    let layout = kinds::layout_of(first);
+    if layout.most == 0 {
         *number = 2;
         return &file[..0];
-    };
+    }
+    let length = layout.length;
     let start = at + 1;
     if file.len() - start < length {
         return &file[..0];

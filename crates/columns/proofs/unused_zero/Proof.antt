@@ -9,7 +9,7 @@ use Rattle.integers.specs.Sums.{allBelow}
 use Rattle.integers.proofs.Booleans.{or-true}
 use Rattle.integers.proofs.Sums.{allBelow-intro, allBelow-fails}
 use Rattle.columns.specs.Columns.{columnZero, unusedZero}
-use Rattle.columns.proofs.ColumnLaws.{passes, passes-beyond, unusedZero-none, unusedZero-beyond}
+use Rattle.columns.proofs.ColumnLaws.{passes, passes-beyond, unusedZero-none}
 use Rattle.columns.proofs.unused_zero.Statement.{statement}
 use Rattle.columns.proofs.unused_zero.Tie as tie
 
@@ -25,23 +25,17 @@ returns c =
     let a = c .before .before .args in
     sym (unusedZero-none (a .n) (a .layout) (a .body .now) (c .if1 .taken))
 
--- with entries that lie beyond the end
-returns-2 : tie.Need-returns-2 Inv-loop μ-loop
-returns-2 c =
-    let a = c .before .before .before .args in
-    sym (unusedZero-beyond (a .n) (a .layout) (a .body .now) (c .if2 .taken))
-
 -- with entries
-module _ (c : tie.Else2 Inv-loop μ-loop) where
+module _ (c : tie.Else1 Inv-loop μ-loop) where
   abbrev start : tie.Start Inv-loop μ-loop
-  start = c .before .before .before
+  start = c .before .before
 
   abbrev each : ℕ → Bool
   each = passes (start .args .layout .first) (start .args .n) (start .args .layout .width) (start .args .body .now)
 
   unused-is : unusedZero (start .args .n) (start .args .layout) (start .args .body .now) ≡ allBelow 6 each
   unfolding unusedZero
-  unused-is = ap (λ (b : Bool). b || allBelow 6 each) (ne-eqb (start .args .layout .width) 0 (c .before .if1 .left))
+  unused-is = ap (λ (b : Bool). b || allBelow 6 each) (ne-eqb (start .args .layout .width) 0 (c .if1 .left))
 
 loop-holds : tie.Need-loop-holds Inv-loop μ-loop
 loop-holds c =
@@ -49,16 +43,16 @@ loop-holds c =
     (omega arith, λ j h. ap (λ (b : Bool). b || columnZero (a .layout .first) (a .layout .width) (a .body .now) j) (lt-ltb j (a .n) h))
 
 column-zero-requires : tie.Need-column-zero-requires Inv-loop μ-loop
-column-zero-requires c κs = (c .before .before .if2 .left, omega (arith, c .loop-test .taken))
+column-zero-requires c κs = omega (arith, c .loop-test .taken)
 
-returns-3 : tie.Need-returns-3 Inv-loop μ-loop
-returns-3 c =
+returns-2 : tie.Need-returns-2 Inv-loop μ-loop
+returns-2 c =
     let at-loop = c .before .before .before in
     let a = start (at-loop .before) .args in
     let i = at-loop .loop .i in
     sym (unused-is (at-loop .before)
     ∙ allBelow-fails 6 (each (at-loop .before)) i (omega (arith, c .before .before .loop-test .taken))
-    (passes-beyond (a .layout .first) (a .n) (a .layout .width) (a .body .now) i (at-loop .loop .inv .0) ∙ sym (c .before .column-zero .ensures) ∙ not-true _ (c .if3 .taken)))
+    (passes-beyond (a .layout .first) (a .n) (a .layout .width) (a .body .now) i (at-loop .loop .inv .0) ∙ sym (c .before .column-zero .ensures) ∙ not-true _ (c .if2 .taken)))
 
 loop-again : tie.Need-loop-again Inv-loop μ-loop
 loop-again c =
@@ -67,11 +61,11 @@ loop-again c =
     let i = at-loop .loop .i in (
       omega (arith, at-loop .loop .inv .0),
       below-more (λ j. each (at-loop .before) j ≡ true) i (at-loop .loop .inv .1)
-          (ap (λ (b : Bool). ltb i (a .n) || b) (sym (c .before .column-zero .ensures) ∙ not-false _ (c .if3 .left)) ∙ or-true (ltb i (a .n))),
+          (ap (λ (b : Bool). ltb i (a .n) || b) (sym (c .before .column-zero .ensures) ∙ not-false _ (c .if2 .left)) ∙ or-true (ltb i (a .n))),
     )
 
-returns-4 : tie.Need-returns-4 Inv-loop μ-loop
-returns-4 c =
+returns-3 : tie.Need-returns-3 Inv-loop μ-loop
+returns-3 c =
     let at-loop = c .before in
     sym (unused-is (at-loop .before) ∙ allBelow-intro 6 (each (at-loop .before)) (λ j l. at-loop .loop .inv .1 j (omega (arith, l, c .loop-test .left))))
 
@@ -82,11 +76,10 @@ unused-zero-spec =
     Inv-loop
     μ-loop
     returns
-    returns-2
     loop-holds
     column-zero-requires
-    returns-3
+    returns-2
     (λ c. omega arith)
     (λ c. omega arith)
     loop-again
-    returns-4)
+    returns-3)

@@ -1,11 +1,12 @@
 -- Laws of `kindNumber`: 3 where the order does not allow the kind, 9 where its part is full, and what a kind that passes both is
 -- known to satisfy. Assumes nothing.
-use mathlib.Core.Path.{_≡_, refl, sym, ap, _∙_}
+use mathlib.Core.Path.{_≡_, refl, sym, ap, ap₂, _∙_}
 use mathlib.Core.Bool.{Bool, true, false, cond}
 use Prim.Native.Nat.{ℕ, _≤_, _<_}
 use native.Mathlib.Omega.{arith}
 use borrow.Author.Tests.{leb-false}
 use lib.Dec.{leb}
+use Rattle.arrays.specs.Tests.{firstOf}
 use Rattle.records.specs.declared.kinds.Layout.{Layout}
 use Rattle.records.specs.declared.kinds.Part.{Part}
 use Rattle.reader.specs.declared.state.State.{State}
@@ -28,20 +29,12 @@ count-lt s l {p} few most e = within (countOf p s) (l .most) most (ap (λ (q : P
 
 module _ (s : State) (kind : ℕ) where
   -- by the two tests of a program, each a number
-  module _ (l : Layout) {misplaced : ℕ} (e : misplaced ≡ cond (mayFollow (s .place) kind) 0 3) where
-    pub kindNumber-misplaced : (misplaced ≡ 0 → ⊥) → misplaced ≡ kindNumberOf s kind l
-    kindNumber-misplaced ne = by (mayFollow (s .place) kind) e
-      where
-        by : (a : Bool) → misplaced ≡ cond a 0 3 → misplaced ≡ cond a (cond (oneTooMany s l) 9 0) 3
-        by true f = absurd (ne f)
-        by false f = f
-
-    pub kindNumber-placed : {many : ℕ} → misplaced ≡ 0 → many ≡ cond (oneTooMany s l) 9 0 → many ≡ kindNumberOf s kind l
-    kindNumber-placed {many} z m = by (mayFollow (s .place) kind) e
-      where
-        by : (a : Bool) → misplaced ≡ cond a 0 3 → many ≡ cond a (cond (oneTooMany s l) 9 0) 3
-        by true f = m
-        by false f = absurd (omega arith)
+  pub kindNumber-first : (l : Layout) {misplaced many : ℕ} → misplaced ≡ cond (mayFollow (s .place) kind) 0 3 → many ≡ cond (oneTooMany s l) 9 0 → firstOf misplaced many ≡ kindNumberOf s kind l
+  kindNumber-first l e m = ap₂ firstOf e m ∙ by (mayFollow (s .place) kind) (oneTooMany s l)
+    where
+      by : (a b : Bool) → firstOf (cond a 0 3) (cond b 9 0) ≡ cond a (cond b 9 0) 3
+      by true b = refl
+      by false b = refl
 
   pub kindNumber-le : kindNumber s kind ≤ 9
   unfolding kindNumber

@@ -15,14 +15,14 @@ use Rattle.arrays.specs.Tests.{firstOf}
 use Rattle.coefficients.specs.Rows.{entriesOf, scaledRow, fittedRow}
 use Rattle.coefficients.proofs.Fitting.{entryOf-bits}
 use Rattle.coefficients.proofs.RowLaws.{entriesOf-cong, each-of-six}
-use Rattle.records.proofs.LittleEndian.{AllBytes, littleEndian-lt}
+use Rattle.numbers.proofs.LittleEndian.{AllBytes, littleEndian-lt}
 use Rattle.reader.specs.declared.state.State.{State}
 use Rattle.reader.specs.declared.take.Taken.{Taken}
 use Rattle.records.specs.declared.kinds.Layout.{Layout}
-use Rattle.columns.specs.Columns.{entryAt, fittedWidth, bitsAt}
-use Rattle.reader.specs.Models.{firstByte, sixAt, rowAnswer, rowStored, withRow}
+use Rattle.columns.specs.Columns.{entryAt, fittedWidth, bitsAt, firstByte, sixAt, fittedAt, heldRow}
+use Rattle.reader.specs.Models.{rowAnswer, rowStored, withRow}
 use Rattle.reader.specs.Values.{unless, rowNumber}
-use Rattle.reader.specs.Inner.{Takes, fittedAt, heldRow}
+use Rattle.reader.specs.Inner.{Takes}
 
 module _ (n : ℕ) (l : Layout) (body : List ℕ) where
   -- with entries of 8 bytes

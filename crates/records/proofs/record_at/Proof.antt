@@ -5,9 +5,10 @@ use mathlib.Core.List.{List}
 use native.Mathlib.Nat.{add-sub-cancel-left}
 use lib.ListN.{take, drop}
 use denote.Ref.{RefT, now, ptr}
-use Rattle.records.specs.declared.kinds.BodyLength.the-variants.{Bytes}
-use Rattle.records.specs.Kinds.{bodyLength}
+use Rattle.records.specs.declared.kinds.Layout.{Layout}
+use Rattle.records.specs.Kinds.{Bytes, bodyLength}
 use Rattle.records.specs.Records.{Record, recordAt, recordNumber, recordKind, recordBody, recordPlace, RecordStep}
+use Rattle.records.proofs.KnownKinds.{bodyLength-unknown, bodyLength-known}
 use Rattle.records.proofs.RecordAt.{recordAt-nothing, recordAt-unknown, recordAt-short, recordAt-whole}
 use Rattle.records.proofs.record_at.Statement.{statement}
 use Rattle.records.proofs.record_at.Tie as tie
@@ -34,24 +35,26 @@ returns-2 : tie.Need-returns-2
 returns-2 c =
     let at-call = c .before .before .before in
     let a = at-call .before .before .before .before .args in
-    step-of (recordAt-unknown (a .file .now) (a .at) (at-call .before .before .if1 .left) (sym (at-call .body-length .ensures) ∙ c .before .enum-told .given .1)) refl refl
+    step-of (recordAt-unknown (a .file .now) (a .at) (at-call .before .before .if1 .left) (bodyLength-unknown _ (sym (ap (λ (l : Layout). l .most) (at-call .layout-of .ensures)) ∙ c .before .if2 .taken))) refl refl
 
--- after the table has told the body length: the kind is known
-module _ (c : tie.After-known-told) where
+-- a known kind
+module _ (c : tie.Else2) where
   abbrev file : RefT (List ℕ)
-  file = c .before .before .before .before .before .before .before .args .file
+  file = c .before .before .before .before .before .before .args .file
 
   abbrev at : ℕ
-  at = c .before .before .before .before .before .before .before .args .at
+  at = c .before .before .before .before .before .before .args .at
 
   abbrev n : ℕ
-  n = c .before .length .given .0 .0
+  n = c .before .before .layout-of .result .length
 
   inside : at < length (now file)
-  inside = c .before .before .before .before .before .if1 .left
+  inside = c .before .before .before .before .if1 .left
 
   known : bodyLength (getD (now file) at 0) ≡ Bytes n
-  known = sym (c .before .before .before .body-length .ensures) ∙ c .before .length .given .1
+  known =
+      let is = c .before .before .layout-of .ensures in
+      bodyLength-known _ (λ z. c .if2 .left (ap (λ (l : Layout). l .most) is ∙ z)) ∙ sym (ap (λ (l : Layout). Bytes (l .length)) is)
 
 -- the file's end cuts the body off
 returns-3 : tie.Need-returns-3
@@ -79,8 +82,6 @@ record-at-spec =
     returns
     (λ c. search needs)
     (λ c κs. search needs)
-    (λ c. search needs)
-    (λ c. search needs)
     (λ c. search needs)
     returns-2
     (λ c. search needs)

@@ -83,15 +83,15 @@ module _ (c : tie.After-reaches Inv-loop μ-loop) where
   fits : SFits w64 (pos (reach at) +ℤ pos (at .magnitude .result))
   fits = sfits-of-natAbs w64 {b = reachLimit} (small at) (lit< tt)
 
-add-reaches : tie.Need-add-reaches Inv-loop μ-loop
-add-reaches c = subst (SFits w64) (sym (both c)) (fits c)
-
 loop-again : tie.Need-loop-again Inv-loop μ-loop
 loop-again c =
     let z = c .before in
     let at-loop = z .before .before .before in
     let value = ap (λ (y : ℤ). toZ w64 (ofZ w64 y)) (both c) ∙ toZ-ofZ (fits c) ∙ ap₂ _+ℤ_ (sym (own-at z)) (ap pos (size-is z)) in
     (omega (arith, inside z), ap₂ (λ l (y : ℤ). set l (i z) y) (at-loop .loop .inv .1) value ∙ filled-more (sumAt (own z) (start z .args .drift .now)) (i z) (own z) (omega (arith, long z, inside z)))
+
+add-reaches : tie.Need-add-reaches Inv-loop μ-loop
+add-reaches c = subst (SFits w64) (sym (both c)) (fits c)
 
 returns : tie.Need-returns Inv-loop μ-loop
 returns c =

@@ -1,10 +1,14 @@
 -- `reader::advance::advance_whole` meets its contract, by the law of `Advances` for each way out. Assumes nothing.
-use Rattle.integers.proofs.Basics.{_≡_, refl, sym, ap, ap₂, subst, _∙_, _≤_, arith, needs}
+use Rattle.integers.proofs.Basics.{_≡_, refl, sym, ap, ap₂, subst, _∙_, Bool, true, false, ℕ, _≤_, arith, needs}
+use mathlib.Core.Bool.{cond, not}
+use borrow.Author.Tests.{eq-eqb, ne-eqb}
+use lib.Dec.{eqb}
 use Rattle.arrays.specs.Tests.{firstOf}
 use Rattle.records.specs.declared.kinds.Layout.{Layout}
-use Rattle.records.specs.Kinds.{partOf}
-use Rattle.records.proofs.KnownKinds.{firstEntry-le, most-le}
-use Rattle.records.proofs.RecordAt.{whole-of}
+use Rattle.records.specs.Places.{endPlace}
+use Rattle.records.specs.Kinds.{Bytes, bodyLength, layoutOf, partOf}
+use Rattle.records.proofs.KnownKinds.{known-at, most-le}
+use Rattle.records.proofs.RecordAt.{whole-of, whole-length}
 use Rattle.columns.specs.Columns.{unusedZero}
 use Rattle.reader.specs.Order.{isEnd}
 use Rattle.reader.specs.Values.{unless, valueNumber, bodyNumber}
@@ -15,6 +19,15 @@ use Rattle.reader.proofs.advance.Outcomes.{advances-value, advances-mor
 use Rattle.reader.proofs.advance.advance_whole.Statement.{statement}
 use Rattle.reader.proofs.advance.advance_whole.Tie as tie
 
+-- of the known kinds the end alone leads to the last place
+end-place : (kind n : ℕ) → bodyLength kind ≡ Bytes n → isEnd (partOf kind) ≡ eqb (layoutOf kind .place) endPlace
+end-place kind n known = agree (isEnd (partOf kind)) (eqb (layoutOf kind .place) endPlace) (known-at kind n known (λ k l. cond (isEnd (l .part)) (eqb (l .place) endPlace) (not (eqb (l .place) endPlace))) refl)
+  where
+    agree : (a b : Bool) → cond a b (not b) ≡ true → a ≡ b
+    agree true b e = sym e
+    agree false true e = e
+    agree false false e = refl
+
 add-start : tie.Need-add-start
 add-start c = omega (arith, whole-of _ _ _ _ (c .before .before .pre .0) .within)
 
@@ -24,7 +37,7 @@ take-requires c κs =
     let is = start .pre .1 .0 in
     let a = start .args in (
       ap (oneTooMany (a .state)) is ∙ kindNumber-zero _ _ (start .pre .1 .1) .1,
-      (subst (λ (l : Layout). l .most ≤ 16) (sym is) (most-le (a .kind)), subst (λ (l : Layout). l .first ≤ 1) (sym is) (firstEntry-le (a .kind))),
+      subst (λ (l : Layout). l .most ≤ 16) (sym is) (most-le (a .kind)),
     )
 
 -- the number of the body, as the definitions have it
@@ -39,8 +52,10 @@ module _ (c : tie.After-first-of) where
       ∙ ap₂ firstOf (c .before .before .unused-number .ensures) (c .before .take .ensures .number-is)
       ∙ ap (λ (l : Layout). firstOf (unless (unusedZero (start .args .state .model .n) l (start .args .body .now)) 16) (valueNumber (l .part) (start .args .state) l (start .args .body .now))) (start .pre .1 .0)
 
-  end-is : isEnd (start .args .layout .part) ≡ isEnd (partOf (start .args .kind))
-  end-is = ap (λ (l : Layout). isEnd (l .part)) (start .pre .1 .0)
+  end-is : isEnd (partOf (start .args .kind)) ≡ eqb (start .args .layout .place) endPlace
+  end-is =
+      end-place (start .args .kind) _ (whole-length _ _ _ _ (start .pre .0))
+      ∙ ap (λ (l : Layout). eqb (l .place) endPlace) (sym (start .pre .1 .0))
 
 returns : tie.Need-returns
 returns c = let at = c .before in advances-value (start at .pre .1 .1) (start at .pre .0) (number-is at) (c .if1 .taken) refl
@@ -48,24 +63,24 @@ returns c = let at = c .before in advances-value (start at .pre .1 .1) (start at
 returns-2 : tie.Need-returns-2
 returns-2 c =
     let at = c .before .before .before .before in
-    let end = sym (end-is at) ∙ sym (c .before .before .is-end .ensures) ∙ c .before .if2 .taken in
+    let end = end-is at ∙ eq-eqb _ _ (c .before .if2 .taken) in
     advances-more (start at .pre .1 .1) (start at .pre .0) (sym (number-is at) ∙ c .before .before .before .if1 .left) end (c .if3 .taken) refl
 
 returns-3 : tie.Need-returns-3
 returns-3 c =
     let at = c .before .before .before .before in
-    let end = sym (end-is at) ∙ sym (c .before .before .is-end .ensures) ∙ c .before .if2 .taken in
+    let end = end-is at ∙ eq-eqb _ _ (c .before .if2 .taken) in
     advances-ended (start at .pre .1 .1) (start at .pre .0) (sym (number-is at) ∙ c .before .before .before .if1 .left) end (c .if3 .left) refl refl
 
-add-t22 : tie.Need-add-t22
-add-t22 c = omega (arith, whole-of _ _ _ _ (start (c .before .before .before .before) .pre .0) .within)
+add-t20 : tie.Need-add-t20
+add-t20 c = omega (arith, whole-of _ _ _ _ (start (c .before .before .before .before) .pre .0) .within)
 
 returns-4 : tie.Need-returns-4
 unfolding stored
 returns-4 c =
     let at = c .before .before .before .before in
     let a = start at .args in
-    let other = sym (end-is at) ∙ sym (c .before .before .is-end .ensures) ∙ c .before .if2 .left in
+    let other = end-is at ∙ ne-eqb _ _ (c .before .if2 .left) in
     let z = sym (number-is at) ∙ c .before .before .before .if1 .left in
     let values = bodyNumber-zero (a .state) (a .kind) (a .body .now) z .1 in
     let none = ap (λ (l : Layout). valueNumber (l .part) (a .state) l (a .body .now)) (start at .pre .1 .0) ∙ values in
@@ -81,8 +96,7 @@ advance-whole-spec =
     take-requires
     (λ c κs. search needs)
     returns
-    (λ c κs. search needs)
     returns-2
     returns-3
-    add-t22
+    add-t20
     returns-4)

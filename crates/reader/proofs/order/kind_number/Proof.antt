@@ -8,7 +8,7 @@ use Rattle.records.specs.declared.kinds.Layout.{Layout}
 use Rattle.reader.specs.declared.state.State.{State}
 use Rattle.records.specs.Order.{mayFollow}
 use Rattle.reader.specs.Refusals.{oneTooMany}
-use Rattle.reader.proofs.order.KindNumbers.{kindNumber-misplaced, kindNumber-placed}
+use Rattle.reader.proofs.order.KindNumbers.{kindNumber-first}
 use Rattle.reader.proofs.order.kind_number.Statement.{statement}
 use Rattle.reader.proofs.order.kind_number.Tie as tie
 
@@ -38,11 +38,8 @@ module _ (c : tie.Joined2) where
       rw (← many) (⊎-elim (λ w. rw (le-leb (l .most) count (w .0 .taken)) (w .1)) (λ w. rw (lt-leb (l .most) count (w .0 .left)) (w .1)) (c .if2 .came))
 
 returns : tie.Need-returns
-returns c = let at = c .before in kindNumber-misplaced (s at) (kind at) (l at) (misplaced-is at) (c .if3 .taken)
-
-returns-2 : tie.Need-returns-2
-returns-2 c = let at = c .before in kindNumber-placed (s at) (kind at) (l at) (misplaced-is at) (c .if3 .left) (many-is at)
+returns c = let at = c .before in c .first-of .ensures ∙ kindNumber-first (s at) (kind at) (l at) (misplaced-is at) (many-is at)
 
 pub kind-number-spec : {M : Type 1} → statement M
 kind-number-spec =
-    tie.close (tie.spec (λ c κs. search needs) (λ c κs. search needs) returns returns-2)
+    tie.close (tie.spec (λ c κs. search needs) (λ c κs. search needs) (λ c κs. search needs) returns)

@@ -16,23 +16,17 @@ use Rattle.reader.proofs.take.take.Tie as tie
 by-part : (s : State) (l : Layout) (body : List ℕ) {r : Taken} (p : Part) → Takes (valueNumber p s l body) (storedIn p s l body) r → l .part ≡ p → Takes (valueNumber (l .part) s l body) (storedIn (l .part) s l body) r
 by-part s l body {r} p t e = subst (λ (q : Part). Takes (valueNumber q s l body) (storedIn q s l body) r) (sym e) t
 
-take-row-requires : tie.Need-take-row-requires
-take-row-requires c κs = c .before .before .before .pre .1 .1
-
-take-drift-requires : tie.Need-take-drift-requires
-take-drift-requires c κs = c .before .before .before .pre .1 .1
-
 take-point-requires : tie.Need-take-point-requires
-take-point-requires c κs = (count-lt _ (c .before .before .before .args .layout) (c .before .before .before .pre .0) (c .before .before .before .pre .1 .0) (c .enum-told4 .given .1), c .before .before .before .pre .1 .1)
+take-point-requires c κs = count-lt _ (c .before .before .before .args .layout) (c .before .before .before .pre .0) (c .before .before .before .pre .1) (c .enum-told4 .given .1)
 
 take-point-requires-2 : tie.Need-take-point-requires-2
-take-point-requires-2 c κs = (count-lt _ (c .before .before .before .args .layout) (c .before .before .before .pre .0) (c .before .before .before .pre .1 .0) (c .enum-told5 .given .1), c .before .before .before .pre .1 .1)
+take-point-requires-2 c κs = count-lt _ (c .before .before .before .args .layout) (c .before .before .before .pre .0) (c .before .before .before .pre .1) (c .enum-told5 .given .1)
 
 take-direction-requires : tie.Need-take-direction-requires
-take-direction-requires c κs = (count-lt _ (c .before .before .before .args .layout) (c .before .before .before .pre .0) (c .before .before .before .pre .1 .0) (c .enum-told6 .given .1), c .before .before .before .pre .1 .1)
+take-direction-requires c κs = count-lt _ (c .before .before .before .args .layout) (c .before .before .before .pre .0) (c .before .before .before .pre .1) (c .enum-told6 .given .1)
 
 take-guard-requires : tie.Need-take-guard-requires
-take-guard-requires c κs = count-lt _ (c .before .before .before .args .layout) (c .before .before .before .pre .0) (c .before .before .before .pre .1 .0) (c .enum-told7 .given .1)
+take-guard-requires c κs = count-lt _ (c .before .before .before .args .layout) (c .before .before .before .pre .0) (c .before .before .before .pre .1) (c .enum-told7 .given .1)
 
 returns : tie.Need-returns
 returns c = by-part _ _ _ Head (c .take-head .ensures) (c .before .enum-told .given .1)
@@ -65,9 +59,9 @@ take-spec =
     (λ c. search needs)
     (λ c κs. search needs)
     (λ c. search needs)
-    take-row-requires
+    (λ c κs. search needs)
     (λ c. search needs)
-    take-drift-requires
+    (λ c κs. search needs)
     (λ c. search needs)
     take-point-requires
     (λ c. search needs)

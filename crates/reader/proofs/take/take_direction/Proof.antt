@@ -9,7 +9,9 @@ use Rattle.integers.proofs.Booleans.{and-skip, and-stop}
 use Rattle.limits.specs.Limits.{allZero, directionLimit}
 use Rattle.reachability.specs.declared.sets.Set.{Set}
 use Rattle.reachability.proofs.model.Lengths.{lengths}
-use Rattle.reader.specs.Models.{setSet, setDirections, sixAt, putRow, stateOf, withDirection}
+use Rattle.filling.specs.Models.{setSet, setDirections, putRow}
+use Rattle.columns.specs.Columns.{sixAt}
+use Rattle.reader.specs.Models.{stateOf, withDirection}
 use Rattle.reader.specs.Values.{within, directionOk}
 use Rattle.reader.proofs.take.Taking.{takenAs, takes-refused, takes-passed}
 use Rattle.reader.proofs.take.take_direction.Statement.{statement}
@@ -19,9 +21,6 @@ use Rattle.reader.proofs.take.take_direction.Tie as tie
 zeros-is : (body : List ℕ) (at : ℕ) → zeroOutside 0 0 (sixAt body at) ≡ allZero (sixAt body at) 0
 unfolding allBelow sixAt
 zeros-is body at = refl
-
-six-at-requires : tie.Need-six-at-requires
-six-at-requires c κs = omega (arith, c .before .before .pre .1)
 
 returns : tie.Need-returns
 unfolding directionOk
@@ -65,7 +64,7 @@ pub take-direction-spec : {M : Type 1} → statement M
 take-direction-spec =
     tie.close
     (tie.spec
-    six-at-requires
+    (λ c κs. search needs)
     (λ c. search needs)
     (λ c κs. search needs)
     returns

@@ -3,14 +3,12 @@ use Rattle.integers.proofs.Basics.{sym, ap, _∙_, ℤ, arith, needs}
 use mathlib.Core.List.{List}
 use borrow.Author.Tests.{not-true, not-false}
 use Rattle.reachability.specs.Sets.{reachLimit}
-use Rattle.reader.specs.Models.{setDrift, stateOf, withDrift}
+use Rattle.filling.specs.Models.{setDrift}
+use Rattle.reader.specs.Models.{stateOf, withDrift}
 use Rattle.reader.specs.Values.{within, driftOk}
 use Rattle.reader.proofs.take.Taking.{takenAs, takes-refused, takes-passed}
 use Rattle.reader.proofs.take.take_drift.Statement.{statement}
 use Rattle.reader.proofs.take.take_drift.Tie as tie
-
-six-at-requires : tie.Need-six-at-requires
-six-at-requires c κs = omega (arith, c .before .before .pre)
 
 returns : tie.Need-returns
 unfolding driftOk
@@ -27,4 +25,4 @@ returns-2 c =
 
 pub take-drift-spec : {M : Type 1} → statement M
 take-drift-spec =
-    tie.close (tie.spec six-at-requires (λ c. search needs) (λ c κs. search needs) returns returns-2)
+    tie.close (tie.spec (λ c κs. search needs) (λ c. search needs) (λ c κs. search needs) returns returns-2)

@@ -5,14 +5,15 @@ use Rattle.reachability.specs.declared.model.Model.{Model}
 use Rattle.reachability.specs.declared.sets.Set.{Set}
 use Rattle.records.specs.declared.kinds.Layout.{Layout}
 use Rattle.reader.specs.declared.state.State.{State}
-use Rattle.reader.specs.Models.{setOf, setSet, stateOf, withPoint, withSetPoint}
+use Rattle.filling.specs.Models.{setOf, setSet}
+use Rattle.reader.specs.Models.{stateOf, withPoint, withSetPoint}
 use Rattle.reader.specs.Values.{pointNumberOf}
 use Rattle.reader.proofs.take.Taking.{takenAs, takes-stopped, takes-stored}
 use Rattle.reader.proofs.take.take_point.Statement.{statement}
 use Rattle.reader.proofs.take.take_point.Tie as tie
 
 with-point-requires : tie.Need-with-point-requires
-with-point-requires c κs = (rw (c .set-of .ensures) (c .before .before .before .pre .0), c .before .before .before .pre .1)
+with-point-requires c κs = rw (c .set-of .ensures) (c .before .before .before .pre)
 
 -- the set with its point, and its number, as the definitions have them
 module _ (c : tie.After-point-number) where

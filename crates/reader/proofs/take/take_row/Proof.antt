@@ -8,12 +8,6 @@ use Rattle.reader.proofs.take.RowTaken.{fitted-taken, scaled-taken, row
 use Rattle.reader.proofs.take.take_row.Statement.{statement}
 use Rattle.reader.proofs.take.take_row.Tie as tie
 
-fitted-row-requires : tie.Need-fitted-row-requires
-fitted-row-requires c κs = omega (arith, c .before .before .before .before .pre)
-
-six-at-requires : tie.Need-six-at-requires
-six-at-requires c κs = omega (arith, c .before .before .before .before .pre)
-
 -- the row number is a byte
 store-row-requires : tie.Need-store-row-requires
 store-row-requires c κs =
@@ -48,11 +42,11 @@ pub take-row-spec : {M : Type 1} → statement M
 take-row-spec =
     tie.close
     (tie.spec
-    fitted-row-requires
+    (λ c κs. search needs)
     (λ c κs. search needs)
     store-row-requires
     returns
-    six-at-requires
+    (λ c κs. search needs)
     (λ c κs. search needs)
     (λ c κs. search needs)
     store-row-requires-2

@@ -44,11 +44,6 @@ module _ (c : tie.Else3) where
   counts : countOk (set .shape) (set .count) ≡ true
   counts = sym (c .before .count-ok .ensures) ∙ not-false _ (c .if3 .left)
 
-returns-4 : tie.Need-returns-4
-returns-4 c =
-    let b = c .before .before .before .before in
-    simp (least (range b), most (range b), counts b, sym (c .before .zero-outside .ensures) ∙ not-true _ (c .if4 .taken))
-
 -- and zero where it has to be
 module _ (c : tie.Else4) where
   abbrev counted : tie.Else3
@@ -56,6 +51,11 @@ module _ (c : tie.Else4) where
 
   outside : zeroOutside (set counted .count) (n counted) (set counted .points) ≡ true
   outside = sym (c .before .zero-outside .ensures) ∙ not-false _ (c .if4 .left)
+
+returns-4 : tie.Need-returns-4
+returns-4 c =
+    let b = c .before .before .before .before in
+    simp (least (range b), most (range b), counts b, sym (c .before .zero-outside .ensures) ∙ not-true _ (c .if4 .taken))
 
 -- the count is from 1 to 16, so `reachWithin` is the test of the reach
 reach-is : (c : tie.After-reach-within) → c .reach-within .result ≡ reachOk (set (counted (c .before .before)) .shape) (set (counted (c .before .before)) .count) (points (set (counted (c .before .before)) .points))

@@ -24,11 +24,6 @@ reaches-of-requires c κs =
 entering-reaches-requires : tie.Need-entering-reaches-requires
 entering-reaches-requires c κs = facts (c .before .before .before .before .before .before .before .before .before .before .before .before .before) .entering
 
-move-points-requires : tie.Need-move-points-requires
-move-points-requires c κs =
-    let start = c .before .before .before .before .before .before .before .before .before .before .before .before .before .before .before .before in
-    (facts start .movable, sym (lengths (start .args .model) (start .good .0) .input .points))
-
 -- the row is the direction
 row-own : (m : Model) (k : ℕ) (d : List ℤ) → k < 16 → d ≡ rowOf (m .questions .entries) k → d ≡ tabulate 6 (direction m k)
 row-own m k d h p = simp (lt-ltb k 16 h) at p
@@ -59,6 +54,11 @@ fill-rows-requires c κs =
         begins = begins-own (row-own (start .args .model) (start .args .direction) (at-row .row .result) (lt-of-lt-of-le (start .pre .inside) (facts start .directions-most)) (at-row .row .ensures)) (at-begin .begin .ensures);
       },
     )
+
+move-points-requires : tie.Need-move-points-requires
+move-points-requires c κs =
+    let start = c .before .before .before .before .before .before .before .before .before .before .before .before .before .before .before .before in
+    (facts start .movable, sym (lengths (start .args .model) (start .good .0) .input .points))
 
 pub fill-spec : {M : Type 1} → statement M
 fill-spec =

@@ -1,2 +1,0 @@
-pub mod PutRow
-pub mod Lists
