@@ -52,8 +52,7 @@ fn advance_whole(
     ensures { λ r. ⌜ Advances (now (file .entry)) at state r ⌝ }
 {
     let start = at + 1;
-    let model = state.model;
-    let unused = unused_number(model.n, layout, body);
+    let unused = unused_number(state.model.n, layout, body);
     let taken = take(state, layout, body);
     let failed = arrays::first_of(unused, taken.number);
     if failed != 0 {
@@ -62,7 +61,8 @@ fn advance_whole(
             state,
         };
     }
-    if layout.place == END {
+    let place = layout.place;
+    if place == END {
         if start < file.len() {
             return Advanced {
                 outcome: Outcome::Stopped(10, start),

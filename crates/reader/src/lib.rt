@@ -31,24 +31,22 @@ pub struct Reading {
 pub fn read(file: &[u8]) -> Reading
     ensures { λ r. ⌜ Reads (now (file .entry)) r ⌝ }
 {
-    let blank = blank_model();
     let mut at: usize = 0;
     let mut state = State {
         place: START,
         rows: 0,
-        model: blank,
+        model: blank_model(),
     };
     loop {
         let advanced = advance(file, at, state);
         let outcome = advanced.outcome;
-        let after = advanced.state;
         match outcome {
             Outcome::Next(next) => {
                 at = next;
-                state = after;
+                state = advanced.state;
             }
             Outcome::Ended => {
-                let model = after.model;
+                let model = advanced.state.model;
                 return Reading {
                     status: Status::Read,
                     model,
@@ -57,7 +55,7 @@ pub fn read(file: &[u8]) -> Reading
             Outcome::Stopped(number, offset) => {
                 return Reading {
                     status: Status::Refused(number, offset),
-                    model: blank,
+                    model: blank_model(),
                 };
             }
         }

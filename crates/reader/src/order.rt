@@ -10,24 +10,11 @@ ghost use Rattle.reader.specs.Refusals.{countOf, kindNumberOf};
 fn count_of(part: Part, state: State) -> usize
     ensures { λ r. ⌜ r ≡ countOf part state ⌝ }
 {
-    let model = state.model;
     match part {
-        Part::Initial => {
-            let set = model.initial;
-            set.count
-        }
-        Part::Input => {
-            let set = model.input;
-            set.count
-        }
-        Part::Direction => {
-            let questions = model.questions;
-            questions.directions
-        }
-        Part::Guard => {
-            let questions = model.questions;
-            questions.guards
-        }
+        Part::Initial => state.model.initial.count,
+        Part::Input => state.model.input.count,
+        Part::Direction => state.model.questions.directions,
+        Part::Guard => state.model.questions.guards,
         Part::Head => 0,
         Part::Row => 0,
         Part::Drift => 0,
@@ -43,6 +30,7 @@ pub(crate) fn kind_number(state: State, kind: u8, layout: Layout) -> u8
     let misplaced: u8 = if may_follow(place, kind) { 0 } else { 3 };
     let part = layout.part;
     let count = count_of(part, state);
-    let many: u8 = if layout.most <= count { 9 } else { 0 };
+    let most = layout.most;
+    let many: u8 = if most <= count { 9 } else { 0 };
     arrays::first_of(misplaced, many)
 }

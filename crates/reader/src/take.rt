@@ -91,14 +91,13 @@ fn store_row(state: State, layout: Layout, row: usize, entries: RowEntries) -> T
     if number != 0 {
         return Taken { number, state };
     }
-    let mut model = state.model;
-    let n = model.n;
     let six = entries.six;
-    let motion = model.motion;
-    let mut matrix = rows_of(motion);
+    let mut matrix = rows_of(state.model.motion);
     put_row(&mut matrix, row, &six);
-    let moved = with_rows(motion, matrix);
-    model.motion = moved;
+    let motion = with_rows(state.model.motion, matrix);
+    let mut model = state.model;
+    model.motion = motion;
+    let n = model.n;
     let next = row + 1;
     let place: u8 = if next < n { ROWS } else { layout.place };
     Taken {
@@ -115,9 +114,9 @@ fn store_row(state: State, layout: Layout, row: usize, entries: RowEntries) -> T
 fn take_row(state: State, layout: Layout, body: &[u8]) -> Taken
     ensures { λ r. ⌜ Takes (rowNumber state layout (now (body .entry))) (withRow state layout (now (body .entry))) r ⌝ }
 {
-    let model = state.model;
-    let n = model.n;
-    if layout.width == FITTED_WIDTH {
+    let n = state.model.n;
+    let width = layout.width;
+    if width == FITTED_WIDTH {
         let held = fitted_row(body, layout.first);
         let entries = fitted_entries(n, held);
         return store_row(state, layout, held.number, entries);
@@ -131,11 +130,11 @@ fn take_row(state: State, layout: Layout, body: &[u8]) -> Taken
 fn take_drift(state: State, layout: Layout, body: &[u8]) -> Taken
     ensures { λ r. ⌜ Takes (unless (driftOk layout (now (body .entry))) 17) (withDrift state layout (now (body .entry))) r ⌝ }
 {
-    let mut model = state.model;
     let drift = six_at(body, layout.first);
     if !arrays::all_between(LEAST_DRIFT, DRIFT_LIMIT, &drift) {
         return Taken { number: 17, state };
     }
+    let mut model = state.model;
     model.drift = drift;
     Taken {
         number: 0,
@@ -210,23 +209,21 @@ fn take_point(state: State, input: bool, layout: Layout, body: &[u8]) -> Taken
     requires { ⌜ setOf input (state .model) .count < 16 ⌝ }
     ensures { λ r. ⌜ Takes (pointNumber input state layout (now (body .entry))) (withSetPoint input state layout (now (body .entry))) r ⌝ }
 {
-    let model = state.model;
-    let n = model.n;
-    let before = set_of(input, model);
+    let before = set_of(input, state.model);
     let set = with_point(before, layout, body);
-    let drift = model.drift;
+    let drift = state.model.drift;
     let point = layout.point;
-    let number = point_number(input, n, point, set, &drift);
+    let number = point_number(input, state.model.n, point, set, &drift);
     if number != 0 {
         return Taken { number, state };
     }
-    let next = with_set(input, model, set);
+    let model = with_set(input, state.model, set);
     Taken {
         number: 0,
         state: State {
             place: layout.place,
             rows: state.rows,
-            model: next,
+            model,
         },
     }
 }
@@ -235,7 +232,6 @@ fn take_direction(state: State, layout: Layout, body: &[u8]) -> Taken
     requires { ⌜ state .model .questions .directions < 16 ⌝ }
     ensures { λ r. ⌜ Takes (unless (directionOk layout (now (body .entry))) 7) (withDirection state layout (now (body .entry))) r ⌝ }
 {
-    let mut model = state.model;
     let six = six_at(body, layout.first);
     if !arrays::all_between(LEAST_DIRECTION, DIRECTION_LIMIT, &six) {
         return Taken { number: 7, state };
@@ -243,14 +239,15 @@ fn take_direction(state: State, layout: Layout, body: &[u8]) -> Taken
     if arrays::zero_outside(0, 0, &six) {
         return Taken { number: 7, state };
     }
-    let mut questions = model.questions;
+    let mut questions = state.model.questions;
     let directions = questions.directions;
     let mut entries = questions.entries;
     put_row(&mut entries, directions, &six);
-    let input = input_at(state.place, model);
-    model.input = input;
     questions.directions = directions + 1;
     questions.entries = entries;
+    let input = input_at(state.place, state.model);
+    let mut model = state.model;
+    model.input = input;
     model.questions = questions;
     Taken {
         number: 0,
@@ -266,12 +263,12 @@ fn take_guard(state: State, layout: Layout, body: &[u8]) -> Taken
     requires { ⌜ state .model .questions .guards < 16 ⌝ }
     ensures { λ r. ⌜ Takes (unless (guardOk state (now (body .entry))) 8) (withGuard state layout (now (body .entry))) r ⌝ }
 {
-    let mut model = state.model;
     let direction = first_byte(body);
-    let mut questions = model.questions;
-    if questions.directions <= direction {
+    let directions = state.model.questions.directions;
+    if directions <= direction {
         return Taken { number: 8, state };
     }
+    let mut questions = state.model.questions;
     let guards = questions.guards;
     let mut watched = questions.watched;
     let mut levels = questions.levels;
@@ -280,6 +277,7 @@ fn take_guard(state: State, layout: Layout, body: &[u8]) -> Taken
     questions.guards = guards + 1;
     questions.watched = watched;
     questions.levels = levels;
+    let mut model = state.model;
     model.questions = questions;
     Taken {
         number: 0,

@@ -32,7 +32,8 @@ pub fn record_at<'a, 'b, 'c>(
     *kind = first;
     // A known kind may have a record, an unknown one none.
     let layout = kinds::layout_of(first);
-    if layout.most == 0 {
+    let most = layout.most;
+    if most == 0 {
         *number = 2;
         return &file[..0];
     }

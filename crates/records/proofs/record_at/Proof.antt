@@ -33,27 +33,27 @@ returns c =
 -- an unknown kind
 returns-2 : tie.Need-returns-2
 returns-2 c =
-    let at-call = c .before .before .before in
+    let at-call = c .before .before in
     let a = at-call .before .before .before .before .args in
     step-of (recordAt-unknown (a .file .now) (a .at) (at-call .before .before .if1 .left) (bodyLength-unknown _ (sym (ap (λ (l : Layout). l .most) (at-call .layout-of .ensures)) ∙ c .before .if2 .taken))) refl refl
 
 -- a known kind
 module _ (c : tie.Else2) where
   abbrev file : RefT (List ℕ)
-  file = c .before .before .before .before .before .before .args .file
+  file = c .before .before .before .before .before .args .file
 
   abbrev at : ℕ
-  at = c .before .before .before .before .before .before .args .at
+  at = c .before .before .before .before .before .args .at
 
   abbrev n : ℕ
-  n = c .before .before .layout-of .result .length
+  n = c .before .layout-of .result .length
 
   inside : at < length (now file)
-  inside = c .before .before .before .before .if1 .left
+  inside = c .before .before .before .if1 .left
 
   known : bodyLength (getD (now file) at 0) ≡ Bytes n
   known =
-      let is = c .before .before .layout-of .ensures in
+      let is = c .before .layout-of .ensures in
       bodyLength-known _ (λ z. c .if2 .left (ap (λ (l : Layout). l .most) is ∙ z)) ∙ sym (ap (λ (l : Layout). Bytes (l .length)) is)
 
 -- the file's end cuts the body off

@@ -33,7 +33,7 @@ add-start c = omega (arith, whole-of _ _ _ _ (c .before .before .pre .0) .within
 
 take-requires : tie.Need-take-requires
 take-requires c κs =
-    let start = c .before .before .before .before in
+    let start = c .before .before .before in
     let is = start .pre .1 .0 in
     let a = start .args in (
       ap (oneTooMany (a .state)) is ∙ kindNumber-zero _ _ (start .pre .1 .1) .1,
@@ -43,7 +43,7 @@ take-requires c κs =
 -- the number of the body, as the definitions have it
 module _ (c : tie.After-first-of) where
   abbrev start : tie.Start
-  start = c .before .before .before .before .before .before
+  start = c .before .before .before .before .before
 
   number-is : c .first-of .result ≡ bodyNumber (start .args .state) (start .args .kind) (start .args .body .now)
   unfolding bodyNumber
@@ -62,26 +62,26 @@ returns c = let at = c .before in advances-value (start at .pre .1 .1) (start at
 
 returns-2 : tie.Need-returns-2
 returns-2 c =
-    let at = c .before .before .before .before in
+    let at = c .before .before .before in
     let end = end-is at ∙ eq-eqb _ _ (c .before .if2 .taken) in
-    advances-more (start at .pre .1 .1) (start at .pre .0) (sym (number-is at) ∙ c .before .before .before .if1 .left) end (c .if3 .taken) refl
+    advances-more (start at .pre .1 .1) (start at .pre .0) (sym (number-is at) ∙ c .before .before .if1 .left) end (c .if3 .taken) refl
 
 returns-3 : tie.Need-returns-3
 returns-3 c =
-    let at = c .before .before .before .before in
+    let at = c .before .before .before in
     let end = end-is at ∙ eq-eqb _ _ (c .before .if2 .taken) in
-    advances-ended (start at .pre .1 .1) (start at .pre .0) (sym (number-is at) ∙ c .before .before .before .if1 .left) end (c .if3 .left) refl refl
+    advances-ended (start at .pre .1 .1) (start at .pre .0) (sym (number-is at) ∙ c .before .before .if1 .left) end (c .if3 .left) refl refl
 
 add-t20 : tie.Need-add-t20
-add-t20 c = omega (arith, whole-of _ _ _ _ (start (c .before .before .before .before) .pre .0) .within)
+add-t20 c = omega (arith, whole-of _ _ _ _ (start (c .before .before .before) .pre .0) .within)
 
 returns-4 : tie.Need-returns-4
 unfolding stored
 returns-4 c =
-    let at = c .before .before .before .before in
+    let at = c .before .before .before in
     let a = start at .args in
     let other = end-is at ∙ ne-eqb _ _ (c .before .if2 .left) in
-    let z = sym (number-is at) ∙ c .before .before .before .if1 .left in
+    let z = sym (number-is at) ∙ c .before .before .if1 .left in
     let values = bodyNumber-zero (a .state) (a .kind) (a .body .now) z .1 in
     let none = ap (λ (l : Layout). valueNumber (l .part) (a .state) l (a .body .now)) (start at .pre .1 .0) ∙ values in
     advances-next (start at .pre .1 .1) (start at .pre .0) z other refl

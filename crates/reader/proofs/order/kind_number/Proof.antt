@@ -15,7 +15,7 @@ use Rattle.reader.proofs.order.kind_number.Tie as tie
 -- where the tests have met
 module _ (c : tie.Joined2) where
   abbrev start : tie.Start
-  start = c .before .before .before .before .before
+  start = c .before .before .before .before
 
   abbrev s : State
   s = start .args .state
@@ -26,15 +26,15 @@ module _ (c : tie.Joined2) where
   abbrev l : Layout
   l = start .args .layout
 
-  misplaced-is : c .before .before .before .if1 .misplaced ≡ cond (mayFollow (s .place) kind) 0 3
+  misplaced-is : c .before .before .if1 .misplaced ≡ cond (mayFollow (s .place) kind) 0 3
   misplaced-is =
-      let follows = sym (c .before .before .before .before .may-follow .ensures) in
-      ⊎-elim (λ w. rw (follows ∙ w .0 .taken) (w .1)) (λ w. rw (follows ∙ w .0 .left) (w .1)) (c .before .before .before .if1 .came)
+      let follows = sym (c .before .before .before .may-follow .ensures) in
+      ⊎-elim (λ w. rw (follows ∙ w .0 .taken) (w .1)) (λ w. rw (follows ∙ w .0 .left) (w .1)) (c .before .before .if1 .came)
 
   many-is : c .if2 .many ≡ cond (oneTooMany s l) 9 0
   many-is =
-      let count = c .before .before .count-of .result in
-      let many : leb (l .most) count ≡ oneTooMany s l = ap (leb (l .most)) (c .before .before .count-of .ensures) in
+      let count = c .before .count-of .result in
+      let many : leb (l .most) count ≡ oneTooMany s l = ap (leb (l .most)) (c .before .count-of .ensures) in
       rw (← many) (⊎-elim (λ w. rw (le-leb (l .most) count (w .0 .taken)) (w .1)) (λ w. rw (lt-leb (l .most) count (w .0 .left)) (w .1)) (c .if2 .came))
 
 returns : tie.Need-returns

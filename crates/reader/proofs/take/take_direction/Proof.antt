@@ -41,23 +41,23 @@ returns-2 c =
 -- the block of entries has its length by what is known of the state's model
 slice-aggregate-put-row : tie.Need-slice-aggregate-put-row
 slice-aggregate-put-row c =
-    let start = c .before .before .before .before .before .before .before .before .before .before .before .before in
+    let start = c .before .before .before .before .before .before .before .before .before .before .before in
     let known = lengths (start .args .state .model) (start .good .0 .1 .1 .1 .1 .0) .questions .entries in
     search (needs, known)
 
 returns-3 : tie.Need-returns-3
 unfolding directionOk withDirection
 returns-3 c =
-    let at-put = c .before .before in
+    let at-put = c .before .before .before in
     let at-zero = at-put .before .before .before .before .before .before in
     let at-six = at-zero .before .before .before .before .before in
-    let a = at-six .before .before .before .args in
+    let a = at-six .before .before .args in
     let m = a .state .model in
     let six = at-six .six-at .ensures in
     let small = ap (within directionLimit) (sym six) ∙ sym (at-zero .before .before .before .all-between .ensures) ∙ not-false _ (at-zero .before .before .if1 .left) in
     let some = sym (zeros-is _ _) ∙ ap (zeroOutside 0 0) (sym six) ∙ sym (at-zero .zero-outside .ensures) ∙ at-put .before .before .before .before .before .if2 .left in
     takes-passed 7 (and-skip _ small ∙ ap not some)
-    (ap₂ (λ (input : Set) (xs : List ℤ). takenAs (stateOf (a .layout .place) (a .state .rows) (setDirections (setSet true m input) (m .questions .directions + 1) xs))) (c .input-at .ensures)
+    (ap₂ (λ (input : Set) (xs : List ℤ). takenAs (stateOf (a .layout .place) (a .state .rows) (setDirections (setSet true m input) (m .questions .directions + 1) xs))) (c .before .input-at .ensures)
     (at-put .put-row .ensures ∙ ap (putRow (m .questions .entries) (m .questions .directions)) six))
 
 pub take-direction-spec : {M : Type 1} → statement M
@@ -73,6 +73,6 @@ take-direction-spec =
     returns-2
     slice-aggregate-put-row
     (λ c κs. search needs)
-    (λ c κs. search needs)
     (λ c. search needs)
+    (λ c κs. search needs)
     returns-3)

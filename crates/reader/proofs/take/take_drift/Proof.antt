@@ -18,9 +18,9 @@ returns c =
 returns-2 : tie.Need-returns-2
 unfolding driftOk withDrift
 returns-2 c =
-    let at-six = c .before .before .before in
-    let a = at-six .before .before .before .args in
-    takes-passed 17 (ap (within reachLimit) (sym (at-six .six-at .ensures)) ∙ sym (c .before .all-between .ensures) ∙ not-false _ (c .if1 .left))
+    let at-six = c .before .before .before .before in
+    let a = at-six .before .before .args in
+    takes-passed 17 (ap (within reachLimit) (sym (at-six .six-at .ensures)) ∙ sym (c .before .before .all-between .ensures) ∙ not-false _ (c .before .if1 .left))
     (ap (λ (six : List ℤ). takenAs (stateOf (a .layout .place) (a .state .rows) (setDrift (a .state .model) six))) (at-six .six-at .ensures))
 
 pub take-drift-spec : {M : Type 1} → statement M

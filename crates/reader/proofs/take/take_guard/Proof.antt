@@ -10,17 +10,18 @@ use Rattle.reader.proofs.take.take_guard.Tie as tie
 
 returns : tie.Need-returns
 returns c =
-    let s = c .before .before .before .before .before .before .args .state in
-    takes-refused 8 (ap (λ (d : ℕ). ltb d (s .model .questions .directions)) (sym (c .before .before .before .first-byte .ensures)) ∙ le-ltb _ _ (c .if1 .taken)) (omega arith)
+    let s = c .before .before .before .args .state in
+    takes-refused 8 (ap (λ (d : ℕ). ltb d (s .model .questions .directions)) (sym (c .before .first-byte .ensures)) ∙ le-ltb _ _ (c .if1 .taken)) (omega arith)
 
 returns-2 : tie.Need-returns-2
 unfolding withGuard
 returns-2 c =
-    let at-if = c .before .before .before in
-    let a = at-if .before .before .before .before .before .before .args in
+    let at-level = c .before in
+    let at-if = at-level .before .before .before .before in
+    let a = at-if .before .before .before .args in
     let m = a .state .model in
-    let first = at-if .before .before .before .first-byte .ensures in
-    let level = toZ-ofZ (record { sfits = c .i64-at .ok }) ∙ c .i64-at .ensures in
+    let first = at-if .before .first-byte .ensures in
+    let level = toZ-ofZ (record { sfits = at-level .i64-at .ok }) ∙ at-level .i64-at .ensures in
     takes-passed 8 (ap (λ (d : ℕ). ltb d (m .questions .directions)) (sym first) ∙ lt-ltb _ _ (at-if .if1 .left))
     (ap₂ (λ (d : ℕ) (l : ℤ). takenAs (stateOf (a .layout .place) (a .state .rows) (setGuards m (m .questions .guards + 1) (set (m .questions .watched) (m .questions .guards) d) (set (m .questions .levels) (m .questions .guards) l)))) first level)
 

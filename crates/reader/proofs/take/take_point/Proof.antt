@@ -13,12 +13,12 @@ use Rattle.reader.proofs.take.take_point.Statement.{statement}
 use Rattle.reader.proofs.take.take_point.Tie as tie
 
 with-point-requires : tie.Need-with-point-requires
-with-point-requires c κs = rw (c .set-of .ensures) (c .before .before .before .pre)
+with-point-requires c κs = rw (c .set-of .ensures) (c .before .before .pre)
 
 -- the set with its point, and its number, as the definitions have them
 module _ (c : tie.After-point-number) where
   abbrev start : tie.Start
-  start = c .before .before .before .before .before .before .before
+  start = c .before .before .before .before .before .before
 
   abbrev s : State
   s = start .args .state

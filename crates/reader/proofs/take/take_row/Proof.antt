@@ -12,14 +12,14 @@ use Rattle.reader.proofs.take.take_row.Tie as tie
 store-row-requires : tie.Need-store-row-requires
 store-row-requires c κs =
     let held = c .before .fitted-row .ensures in
-    omega (arith, ap (λ (x : FittedRow). x .number) held, c .before .before .before .before .before .shared-slice-known .given 0)
+    omega (arith, ap (λ (x : FittedRow). x .number) held, c .before .before .before .shared-slice-known .given 0)
 
 store-row-requires-2 : tie.Need-store-row-requires-2
-store-row-requires-2 c κs = omega (arith, c .first-byte .ensures, c .before .before .before .before .before .before .shared-slice-known .given 0)
+store-row-requires-2 c κs = omega (arith, c .first-byte .ensures, c .before .before .before .before .shared-slice-known .given 0)
 
 returns : tie.Need-returns
 returns c =
-    let at-known = c .before .before .before .before .before .before in
+    let at-known = c .before .before .before .before in
     let a = at-known .before .args in
     let held = c .before .before .fitted-row .ensures in
     row-taken (a .state) (a .layout) (a .body .now) (ap (λ (x : FittedRow). x .number) held)
@@ -31,7 +31,7 @@ returns c =
 returns-2 : tie.Need-returns-2
 returns-2 c =
     let at-scaled = c .before .before in
-    let a = at-scaled .before .before .before .before .before .before .args in
+    let a = at-scaled .before .before .before .before .args in
     row-taken (a .state) (a .layout) (a .body .now) (c .before .first-byte .ensures)
     (at-scaled .scaled-entries .ensures
     ∙ ap (λ (six : List ℤ). entriesOf (a .state .model .n) (scaledRow six)) (at-scaled .before .six-at .ensures)
