@@ -33,13 +33,11 @@ pub fn accepts(model: Model) -> bool
     ensures { λ b. ⌜ b ≡ accepted model ⌝ }
 {
     let n = model.n;
-    let motion = model.motion;
-    let matrix = motion.matrix;
+    let matrix = model.motion.matrix;
     if !limits::frame_ok(n, model.steps, &matrix) {
         return false;
     }
-    let initial = model.initial;
-    if !set_ok(n, initial) {
+    if !set_ok(n, model.initial) {
         return false;
     }
     let input = model.input;
@@ -56,13 +54,12 @@ pub fn accepts(model: Model) -> bool
     if !entering_within(shape, count, &points, &drift) {
         return false;
     }
-    let questions = model.questions;
-    let directions = questions.directions;
-    let entries = questions.entries;
+    let directions = model.questions.directions;
+    let entries = model.questions.entries;
     if !limits::directions_ok(n, directions, &entries) {
         return false;
     }
-    let watched = questions.watched;
-    let levels = questions.levels;
-    limits::guards_ok(directions, questions.guards, &watched, &levels)
+    let watched = model.questions.watched;
+    let levels = model.questions.levels;
+    limits::guards_ok(directions, model.questions.guards, &watched, &levels)
 }

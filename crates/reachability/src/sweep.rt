@@ -23,11 +23,12 @@ pub fn sweep(model: Model, direction: usize, bounds: &mut [i64], slacks: &mut [i
     if !accepts(model) {
         return Swept::Invalid;
     }
-    let questions = model.questions;
-    if questions.directions <= direction {
+    let directions = model.questions.directions;
+    if directions <= direction {
         return Swept::NoDirection;
     }
-    let size = model.steps + 1;
+    let last = model.steps;
+    let size = last + 1;
     if bounds.len() != size {
         return Swept::WrongLength;
     }
@@ -37,8 +38,9 @@ pub fn sweep(model: Model, direction: usize, bounds: &mut [i64], slacks: &mut [i
     let mut bound_row = rows::blank();
     let mut slack_row = rows::blank();
     let filled = rows::fill(model, direction, &mut bound_row, &mut slack_row);
-    if filled.steps < size {
-        return Swept::Growth(filled.steps);
+    let steps = filled.steps;
+    if steps < size {
+        return Swept::Growth(steps);
     }
     rows::copy(&bound_row, bounds);
     rows::copy(&slack_row, slacks);

@@ -117,8 +117,7 @@ pub(crate) fn fill(
     requires { ⌜ FillAsks model direction (now bounds) (now slacks) ⌝ }
     ensures { λ a. ⌜ Fills model direction (a .steps) (a .largest) (now (bounds .exit)) (now (slacks .exit)) ⌝ }
 {
-    let motion = model.motion;
-    let matrix = matrix_at(motion, 0);
+    let matrix = matrix_at(model.motion, 0);
     let initial = model.initial;
     let initial_shape = initial.shape;
     let initial_count = initial.count;
@@ -128,8 +127,7 @@ pub(crate) fn fill(
     let input_count = input.count;
     let mut input_points = input.points;
     let drift = model.drift;
-    let questions = model.questions;
-    let entries = questions.entries;
+    let entries = model.questions.entries;
     let initial_reaches = reaches_of(initial_shape, initial_count, &initial_points);
     let input_reaches = entering_reaches(input_shape, input_count, &input_points, &drift);
     move_points(input_shape, input_count, &mut input_points, &drift);

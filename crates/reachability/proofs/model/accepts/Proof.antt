@@ -23,7 +23,7 @@ returns c = simp (sym (c .before .frame-ok .ensures) ∙ not-true _ (c .if1 .tak
 -- n, the steps and the matrix pass
 module _ (c : tie.Else1) where
   abbrev m : Model
-  m = c .before .before .before .before .before .args .model
+  m = c .before .before .before .before .args .model
 
   frame : motionOk (m .n) (m .steps) (m .motion) ≡ true
   unfolding motionOk
@@ -35,12 +35,12 @@ module _ (c : tie.Else1) where
 
 returns-2 : tie.Need-returns-2
 returns-2 c =
-    let b = c .before .before .before in
+    let b = c .before .before in
     simp (frame b, alone b (setAccepted (m b .n) (m b .initial)) _ (c .before .set-ok .ensures) ∙ not-true _ (c .if2 .taken))
 
 module _ (c : tie.Else2) where
   abbrev at-frame : tie.Else1
-  at-frame = c .before .before .before
+  at-frame = c .before .before
 
   initial-passes : setAccepted (m at-frame .n) (m at-frame .initial) ≡ true
   initial-passes = alone at-frame (setAccepted (m at-frame .n) (m at-frame .initial)) _ (c .before .set-ok .ensures) ∙ not-false _ (c .if2 .left)
@@ -101,12 +101,12 @@ module _ (c : tie.Else5) where
   drift-passes = left (at-sets at-drift) ∙ and-skip _ (and-skip _ (beyond at-drift) ∙ sym (reach-alone (at-sets at-drift) (c .before .entering-within .ensures)) ∙ not-false _ (c .if5 .left))
 
 returns-6 : tie.Need-returns-6
-returns-6 c = sym (drift-passes (c .before .before .before .before .before) ∙ and-stop _ (sym (c .before .directions-ok .ensures) ∙ not-true _ (c .if6 .taken)))
+returns-6 c = sym (drift-passes (c .before .before .before .before) ∙ and-stop _ (sym (c .before .directions-ok .ensures) ∙ not-true _ (c .if6 .taken)))
 
 returns-7 : tie.Need-returns-7
 returns-7 c =
     let at-directions = c .before .before .before .before .before in
-    c .guards-ok .ensures ∙ sym (drift-passes (at-directions .before .before .before .before .before) ∙ and-skip _ (sym (at-directions .before .directions-ok .ensures) ∙ not-false _ (at-directions .if6 .left)))
+    c .guards-ok .ensures ∙ sym (drift-passes (at-directions .before .before .before .before) ∙ and-skip _ (sym (at-directions .before .directions-ok .ensures) ∙ not-false _ (at-directions .if6 .left)))
 
 pub accepts-spec : {M : Type 1} → statement M
 accepts-spec =

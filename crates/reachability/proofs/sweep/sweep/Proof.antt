@@ -42,34 +42,31 @@ module _ (c : tie.Else1) where
 
 returns-2 : tie.Need-returns-2
 returns-2 c =
-    let b = c .before .before .before in
+    let b = c .before in
     refuses (m b) (d b) (b₀ b) (s₀ b) NoDirection 11 refl (answer-no-direction (m b) (d b) _ _ (ok b) (omega (arith, c .if2 .taken)))
 
 add-size : tie.Need-add-size
-add-size c =
-    let at-direction = c .before in
-    let b = at-direction .before .before .before in
-    omega (arith, facts b .steps-most)
+add-size c = omega (arith, facts (c .before) .steps-most)
 
 returns-3 : tie.Need-returns-3
 returns-3 c =
-    let at-direction = c .before .before in
-    let b = at-direction .before .before .before in
+    let at-direction = c .before in
+    let b = at-direction .before in
     refuses (m b) (d b) (b₀ b) (s₀ b) WrongLength 12 refl (answer-wrong-bounds (m b) (d b) _ _ (ok b) (at-direction .if2 .left) (c .if3 .taken))
 
 returns-4 : tie.Need-returns-4
 returns-4 c =
-    let at-direction = c .before .before .before in
-    let b = at-direction .before .before .before in
+    let at-direction = c .before .before in
+    let b = at-direction .before in
     refuses (m b) (d b) (b₀ b) (s₀ b) WrongLength 12 refl (answer-wrong-slacks (m b) (d b) _ _ (ok b) (at-direction .if2 .left) (c .if4 .taken))
 
 -- every test has passed
 module _ (c : tie.Else4) where
   abbrev at : tie.Else1
-  at = c .before .before .before .before .before .before
+  at = c .before .before .before
 
   inside : d at < m at .questions .directions
-  inside = c .before .before .before .if2 .left
+  inside = c .before .before .if2 .left
 
   long-b : length (b₀ at) ≡ m at .steps + 1
   long-b = c .before .if3 .left
@@ -84,8 +81,8 @@ fill-requires c κs =
 
 returns-5 : tie.Need-returns-5
 returns-5 c =
-    let t = c .before .before .before .before .before .before .before in
-    let filled = c .before .before .fill in
+    let t = c .before .before .before .before .before .before in
+    let filled = c .before .fill in
     let grown : filled .result .steps ≤ m (at t) .steps = omega (arith, c .if5 .taken) in
     let answer = ap Growth (filled .ensures .steps-are) ∙ answer-growth (m (at t)) (d (at t)) _ _ (ok (at t)) (inside t) (long-b t) (long-s t) (subst (λ (g : ℕ). g ≤ m (at t) .steps) (filled .ensures .steps-are) grown) in
     refuses (m (at t)) (d (at t)) (b₀ (at t)) (s₀ (at t)) (Growth (filled .result .steps)) 13 refl answer
@@ -97,15 +94,15 @@ short c = omega (arith, facts (at c) .steps-most)
 -- no step has growth
 module _ (c : tie.Else5) where
   abbrev tested : tie.Else4
-  tested = c .before .before .before .before .before .before .before
+  tested = c .before .before .before .before .before .before
 
   calm : m (at tested) .steps < growthStep (m (at tested)) (d (at tested))
   calm =
-      let whole : m (at tested) .steps < c .before .before .fill .result .steps = omega (arith, c .if5 .left) in
-      subst (λ (g : ℕ). m (at tested) .steps < g) (c .before .before .fill .ensures .steps-are) whole
+      let whole : m (at tested) .steps < c .before .fill .result .steps = omega (arith, c .if5 .left) in
+      subst (λ (g : ℕ). m (at tested) .steps < g) (c .before .fill .ensures .steps-are) whole
 
-  largest-is : c .before .before .fill .result .largest ≡ maxℕ (suc (m (at tested) .steps)) (sumAt (m (at tested)) (d (at tested)))
-  largest-is = c .before .before .fill .ensures .largest-is calm
+  largest-is : c .before .fill .result .largest ≡ maxℕ (suc (m (at tested) .steps)) (sumAt (m (at tested)) (d (at tested)))
+  largest-is = c .before .fill .ensures .largest-is calm
 
 copy-requires : tie.Need-copy-requires
 copy-requires c κs =
@@ -128,7 +125,7 @@ returns-6 c =
     let b = c .before .before .before .before .before .before .before .before .before in
     let t = tested b in
     let spare-is : Spare (c .spare-of .result) ≡ Spare (spareFigure (m (at t)) (d (at t))) = ap Spare (c .spare-of .ensures ∙ ap spare (largest-is b)) in
-    sweeps (m (at t)) (facts (at t)) (d (at t)) (b₀ (at t)) (s₀ (at t)) _ _ (Spare (c .spare-of .result)) (b .before .before .fill .ensures) (calm b) (long-b t) (long-s t) (c .before .before .before .before .before .before .copy .ensures) (c .before .before .copy2 .ensures) spare-is (spare-is ∙ answer-spare (m (at t)) (d (at t)) _ _ (ok (at t)) (inside t) (long-b t) (long-s t) (calm b))
+    sweeps (m (at t)) (facts (at t)) (d (at t)) (b₀ (at t)) (s₀ (at t)) _ _ (Spare (c .spare-of .result)) (b .before .fill .ensures) (calm b) (long-b t) (long-s t) (c .before .before .before .before .before .before .copy .ensures) (c .before .before .copy2 .ensures) spare-is (spare-is ∙ answer-spare (m (at t)) (d (at t)) _ _ (ok (at t)) (inside t) (long-b t) (long-s t) (calm b))
 
 pub sweep-spec : {M : Type 1} → statement M
 sweep-spec =

@@ -18,11 +18,11 @@ facts c = model-facts (c .args .model) (c .pre .accepts)
 
 reaches-of-requires : tie.Need-reaches-of-requires
 reaches-of-requires c κs =
-    let f = facts (c .before .before .before .before .before .before .before .before .before .before) in
+    let f = facts (c .before .before .before .before .before .before .before .before) in
     (f .initial .counted, f .initial .reach-small)
 
 entering-reaches-requires : tie.Need-entering-reaches-requires
-entering-reaches-requires c κs = facts (c .before .before .before .before .before .before .before .before .before .before .before .before .before) .entering
+entering-reaches-requires c κs = facts (c .before .before .before .before .before .before .before .before .before .before .before) .entering
 
 -- the row is the direction
 row-own : (m : Model) (k : ℕ) (d : List ℤ) → k < 16 → d ≡ rowOf (m .questions .entries) k → d ≡ tabulate 6 (direction m k)
@@ -38,8 +38,8 @@ fill-rows-requires c κs =
     let at-moved = at-row .before .before in
     let at-input = at-moved .before .before .before in
     let at-initial = at-input .before .before .before in
-    let at-matrix = at-initial .before .before .before .before .before .before .before .before .before in
-    let start = at-matrix .before .before in (
+    let at-matrix = at-initial .before .before .before .before .before .before .before .before in
+    let start = at-matrix .before in (
       start .pre,
       record {
         matrix-is = at-matrix .matrix-at .ensures;
@@ -57,7 +57,7 @@ fill-rows-requires c κs =
 
 move-points-requires : tie.Need-move-points-requires
 move-points-requires c κs =
-    let start = c .before .before .before .before .before .before .before .before .before .before .before .before .before .before .before .before in
+    let start = c .before .before .before .before .before .before .before .before .before .before .before .before .before .before in
     (facts start .movable, sym (lengths (start .args .model) (start .good .0) .input .points))
 
 pub fill-spec : {M : Type 1} → statement M
