@@ -102,7 +102,7 @@ pub fn with_set(input: bool, model: Model, set: Set) -> Model
 pub fn input_at(place: u8, model: Model) -> Set
     ensures { λ r. ⌜ r ≡ inputAt place model ⌝ }
 {
-    let input = model.input;
+    let own = model.input;
     if place < INPUT {
         let zero = Set {
             shape: Shape::Box,
@@ -111,5 +111,5 @@ pub fn input_at(place: u8, model: Model) -> Set
         };
         return zero;
     }
-    input
+    own
 }

@@ -91,13 +91,13 @@ fn store_row(state: State, layout: Layout, row: usize, entries: RowEntries) -> T
     if number != 0 {
         return Taken { number, state };
     }
-    let six = entries.six;
-    let mut matrix = rows_of(state.model.motion);
-    put_row(&mut matrix, row, &six);
-    let motion = with_rows(state.model.motion, matrix);
     let mut model = state.model;
-    model.motion = motion;
     let n = model.n;
+    let six = entries.six;
+    let mut matrix = rows_of(model.motion);
+    put_row(&mut matrix, row, &six);
+    let motion = with_rows(model.motion, matrix);
+    model.motion = motion;
     let next = row + 1;
     let place: u8 = if next < n { ROWS } else { layout.place };
     Taken {

@@ -57,23 +57,23 @@ module _ (c : tie.After-with-rows) where
   at-rows = c .before .before .before .before .before
 
   abbrev at-number : tie.After-first-of
-  at-number = at-rows .before .before .before
+  at-number = at-rows .before .before .before .before
 
   moved-is : c .with-rows .result ≡ withRows (s at-number .model .motion) (putRow (rowsOf (s at-number .model .motion)) (row at-number) (entries at-number .six))
   moved-is = c .with-rows .ensures ∙ ap (withRows (s at-number .model .motion)) (c .before .before .put-row .ensures ∙ ap (λ (xs : List ℤ). putRow xs (row at-number) (entries at-number .six)) (at-rows .rows-of .ensures))
 
   takes : {place : ℕ} → place ≡ rowPlace (l at-number) (row at-number + 1) (s at-number .model .n) → Takes (firstOf (unless (eqb (row at-number) (s at-number .rows)) 5) (entries at-number .number)) (rowStored (s at-number) (l at-number) (entries at-number .six)) (takenAs (stateOf place (row at-number + 1) (setMotion (s at-number .model) (c .with-rows .result))))
   takes e =
-      let none = at-rows .before .before .if2 .left in
+      let none = at-rows .before .before .before .if2 .left in
       takes-stored (sym (number-is at-number) ∙ none)
       (ap₂ (λ (l : ℕ) (motion : Motion). takenAs (stateOf l (row at-number + 1) (setMotion (s at-number .model) motion))) e moved-is
       ∙ ap (λ (k : ℕ). takenAs (stateOf (rowPlace (l at-number) (k + 1) (s at-number .model .n)) (k + 1) (setMatrix (s at-number .model) (putRow (rowsOf (s at-number .model .motion)) k (entries at-number .six))))) (next at-number none))
 
 returns-2 : tie.Need-returns-2
-returns-2 c = takes (c .before .before) (rw (lt-ltb _ _ (c .if3 .taken)) refl)
+returns-2 c = takes (c .before) (rw (lt-ltb _ _ (c .if3 .taken)) refl)
 
 returns-3 : tie.Need-returns-3
-returns-3 c = takes (c .before .before) (rw (le-ltb _ _ (c .if3 .left)) refl)
+returns-3 c = takes (c .before) (rw (le-ltb _ _ (c .if3 .left)) refl)
 
 pub store-row-spec : {M : Type 1} → statement M
 store-row-spec =
