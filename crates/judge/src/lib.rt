@@ -33,12 +33,12 @@ pub fn judge(model: Model, guard: usize, bounds: &mut [i64], slacks: &mut [i64])
     if !accepts(model) {
         return Judged::Invalid;
     }
-    let questions = model.questions;
-    if questions.guards <= guard {
+    let guards = model.questions.guards;
+    if guards <= guard {
         return Judged::NoGuard;
     }
-    let watched = questions.watched;
-    let levels = questions.levels;
+    let watched = model.questions.watched;
+    let levels = model.questions.levels;
     let direction = watched[guard];
     let level = levels[guard];
     let swept = sweep(model, direction, bounds, slacks);

@@ -38,14 +38,12 @@ module _ (c : tie.Else1) where
 
 returns-2 : tie.Need-returns-2
 returns-2 c =
-    let b = c .before .before .before in
+    let b = c .before in
     judge-refuses (m b) (g b) (b₀ b) (s₀ b) NoGuard refl (answer-no-guard (m b) (g b) _ _ (ok b) (omega (arith, c .if2 .taken))) tt
 
 -- the guard is one of the sixteen
-below : (c : tie.Else2) → g (c .before .before .before) < 16
-below c =
-    let accepted = c .before .before .before in
-    guard-below (m accepted) (g accepted) (ok accepted) (c .if2 .left)
+below : (c : tie.Else2) → g (c .before) < 16
+below c = guard-below (m (c .before)) (g (c .before)) (ok (c .before)) (c .if2 .left)
 
 mul-direction : tie.Need-mul-direction
 mul-direction c = record { fits = omega (arith, below (c .before .before)) }
@@ -65,7 +63,7 @@ module _ (c : tie.After-sweep) where
   tested = c .before .before .before .before .before .before
 
   abbrev at : tie.Else1
-  at = tested .before .before .before
+  at = tested .before
 
   abbrev b : List ℤ
   b = c .sweep .last .1 .1 .0
