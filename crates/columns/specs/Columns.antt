@@ -11,8 +11,8 @@ use lib.ListN.{getD}
 use Rattle.integers.specs.Sums.{allBelow, tabulate}
 use Rattle.coefficients.specs.declared.rows.FittedRow.{FittedRow}
 use Rattle.coefficients.specs.Binary64.{isZero}
-use Rattle.records.specs.declared.kinds.Layout.{Layout}
 use Rattle.numbers.specs.Numbers.{littleEndian, signedAt}
+use Rattle.records.specs.declared.kinds.Layout.{Layout}
 
 -- ---- the numbers of a body
 

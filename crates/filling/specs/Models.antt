@@ -1,5 +1,5 @@
--- Reading 3, File 3, File 8 and File 10: a model as it is filled. Definitions only. In order: the blank model; a model with one part
--- changed; six numbers put in as a row; the shape that a point gives its set; the input set that was left out. Assumes nothing.
+-- Reading 3, File 3, File 10 and Routines 22: a model as it is filled. Definitions only. In order: the blank model; a model with
+-- another set; six numbers put in as a row; the shape that a point gives its set; the input set that was left out. Assumes nothing.
 use mathlib.Core.Bool.{Bool, cond}
 use mathlib.Core.List.{List}
 use Prim.Native.Nat.{ℕ, zero, suc, _+_, _*_}
@@ -17,7 +17,6 @@ use Rattle.reachability.specs.declared.motion.Motion.{Motion}
 use Rattle.reachability.specs.declared.model.Questions.{Questions}
 use Rattle.reachability.specs.declared.model.Model.{Model}
 use Rattle.reachability.specs.Sets.{zeroBox}
-use Rattle.reachability.specs.Motion.{withRows}
 
 -- ---- the blank model
 
@@ -40,7 +39,7 @@ blankModel =
       questions = record { directions = 0; entries = zeros 96; guards = 0; watched = replicate 16 0; levels = zeros 16 };
     }
 
--- ---- a model with one part changed
+-- ---- a model with another set
 
 -- The model of these parts, in the order of the code.
 abbrev pub modelOf : ℕ → ℕ → Motion → List ℤ → Set → Set → Questions → Model
@@ -55,44 +54,16 @@ modelOf n steps motion drift initial input questions =
       questions = questions;
     }
 
-abbrev pub setHead : Model → ℕ → ℕ → Model
-setHead m n steps = modelOf n steps (m .motion) (m .drift) (m .initial) (m .input) (m .questions)
-
-abbrev pub setMotion : Model → Motion → Model
-setMotion m motion = modelOf (m .n) (m .steps) motion (m .drift) (m .initial) (m .input) (m .questions)
-
-abbrev pub setMatrix : Model → List ℤ → Model
-setMatrix m matrix = setMotion m (withRows (m .motion) matrix)
-
-abbrev pub setDrift : Model → List ℤ → Model
-setDrift m drift = modelOf (m .n) (m .steps) (m .motion) drift (m .initial) (m .input) (m .questions)
-
--- The initial set or, with `input`, the input set.
+-- Routines 22: the initial set or, with `input`, the input set; and the model with another set in that place.
 abbrev pub setOf : Bool → Model → Set
 setOf input m = cond input (m .input) (m .initial)
 
 abbrev pub setSet : Bool → Model → Set → Model
 setSet input m set = modelOf (m .n) (m .steps) (m .motion) (m .drift) (cond input (m .initial) set) (cond input set (m .input)) (m .questions)
 
-abbrev pub setQuestions : Model → Questions → Model
-setQuestions m questions = modelOf (m .n) (m .steps) (m .motion) (m .drift) (m .initial) (m .input) questions
-
--- The questions of these fields, in the order of the code.
-abbrev pub questionsOf : ℕ → List ℤ → ℕ → List ℕ → List ℤ → Questions
-questionsOf directions entries guards watched levels =
-    record { directions = directions; entries = entries; guards = guards; watched = watched; levels = levels }
-
-abbrev pub setDirections : Model → ℕ → List ℤ → Model
-setDirections m directions entries =
-    setQuestions m (questionsOf directions entries (m .questions .guards) (m .questions .watched) (m .questions .levels))
-
-abbrev pub setGuards : Model → ℕ → List ℕ → List ℤ → Model
-setGuards m guards watched levels =
-    setQuestions m (questionsOf (m .questions .directions) (m .questions .entries) guards watched levels)
-
 -- ---- rows, points and the input set
 
--- The first k of six numbers stored as one row of rows of six.
+-- Routines 22: the first k of six numbers stored as one row of rows of six, and all of them. `set` beyond the end changes nothing.
 abbrev pub putFirst : ℕ → List ℤ → ℕ → List ℤ → List ℤ
 putFirst zero xs row six = xs
 putFirst (suc k) xs row six = set (putFirst k xs row six) (6 * row + k) (vector six k)
@@ -100,7 +71,7 @@ putFirst (suc k) xs row six = set (putFirst k xs row six) (6 * row + k) (vector 
 unfoldable pub putRow : List ℤ → ℕ → List ℤ → List ℤ
 putRow xs row six = putFirst 6 xs row six
 
--- File 3: the shape of the set that a point belongs to.
+-- File 3, Routines 22: the shape of the set that a point belongs to.
 abbrev pub shapeOf : Point → Shape
 shapeOf NoPoint = Box
 shapeOf Lower = Box
@@ -109,7 +80,7 @@ shapeOf Centre = Zonotope
 shapeOf Generator = Zonotope
 shapeOf Vertex = Vertices
 
--- File 10: the input set once a direction stands at a place. Before the places of the input set no record of it was read, and it is the
+-- File 10, Routines 22: the input set once a direction stands at a place. Before the places of the input set no record of it was read, and it is the
 -- box from zero to zero.
 abbrev pub inputAt : ℕ → Model → Set
 inputAt place m = cond (ltb place inputPlace) zeroBox (m .input)

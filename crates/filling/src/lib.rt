@@ -41,7 +41,7 @@ pub fn blank_model() -> Model
     }
 }
 
-// Routines 22. Six numbers stored as one row of rows of six. There is no row beyond the end.
+// Routines 22. Six numbers stored as one row of rows of six. A number that would lie beyond the end is left out.
 pub fn put_row(xs: &mut [i32], row: usize, six: &[i32; 6])
     ensures { λ _. ⌜ now (xs .exit) ≡ putRow (now (xs .entry)) row (now (six .entry)) ⌝ }
 {

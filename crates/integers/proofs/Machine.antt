@@ -1,5 +1,6 @@
 -- Machine integers in proofs. A signed local is its bits: `toZ w` reads them and `ofZ w` writes them.
--- In order: bits that are 0; ranges; a product that is added to a sum; lists filled from the front, and of one value. Assumes nothing.
+-- In order: bits that are 0; bytes; ranges; a product that is added to a sum; lists filled from the front, and of one value.
+-- Assumes nothing.
 use mathlib.Core.Path.{_≡_, refl, sym, ap, ap₂, subst, _∙_}
 use mathlib.Core.Bool.{Bool, true, false, cond}
 use mathlib.Core.List.{List, [], _∷_, _++_}
@@ -15,8 +16,8 @@ use lib.ListN.{length, getD, set, drop, replicate, List·getD-append}
 use lib.Seq.{ext-getD}
 use lib.IntN.{ℤ, pos, negsuc, natAbs, _+ℤ_, _*ℤ_}
 use lib.Signed.{mag, shrZ, mag-shr}
-use mir.Syntax.{Width, w32, w64}
-use mir.Val.{SFits, hbits, toZ, ofZ}
+use mir.Syntax.{Width, w8, w32, w64}
+use mir.Val.{Fits, SFits, hbits, toZ, ofZ}
 use mir.Facts.{toZ-ofZ, toZ-pos, sfits-widen}
 use Rattle.integers.specs.Sums.{tabulate}
 
@@ -42,6 +43,12 @@ eqb-of-bits w {z} f = cases (eqb (ofZ w z) 0) refl
     cases : (b : Bool) → eqb (ofZ w z) 0 ≡ b → eqb (ofZ w z) 0 ≡ eqb (natAbs z) 0
     cases true e = e ∙ sym (eqb-of-bits-zero w f (eqb-true (ofZ w z) 0 e))
     cases false e = e ∙ sym (eqb-of-bits-nonzero w z (eqb-false (ofZ w z) 0 e))
+
+-- ---- bytes
+
+-- Each element is a byte, past the end too, where 0 stands. What is known of a slice (`.shared-slice-known .given`) is this.
+abbrev pub AllBytes : List ℕ → Type 0
+AllBytes l = (i : ℕ) → Fits w8 (getD l i 0)
 
 -- ---- ranges
 

@@ -7,13 +7,8 @@ use native.Mathlib.Nat.{lt-of-lt-of-le, mul-le-mul-left}
 use native.Mathlib.Omega.{arith}
 use lib.ListN.{length, getD, List·getD-eq-default}
 use lib.Pow.{pow-add, pow-mono}
-use mir.Syntax.{w8}
-use mir.Val.{Fits}
+use Rattle.integers.proofs.Machine.{AllBytes}
 use Rattle.numbers.specs.Numbers.{littleEndian}
-
--- Each element is a byte, past the end too, where 0 stands. What is known of a slice (`.shared-slice-known .given`) is this.
-abbrev pub AllBytes : List ℕ → Type 0
-AllBytes l = (i : ℕ) → Fits w8 (getD l i 0)
 
 -- one byte more in front
 pub littleEndian-suc : (k : ℕ) (l : List ℕ) (at : ℕ) → littleEndian (suc k) l at ≡ getD l at 0 + 256 * littleEndian k l (suc at)

@@ -1,5 +1,5 @@
 -- Laws of `twosComplement` and `signedAt`, once for every width. In order: the numbers that stand for themselves; those that
--- stand for numbers below 0; the range; a part of a list. Assumes nothing.
+-- stand for numbers below 0; the range. Assumes nothing.
 use mathlib.Core.Path.{_≡_, refl, sym, ap, subst, _∙_}
 use mathlib.Core.List.{List}
 use Prim.Native.Nat.{ℕ, _*_, _-_, _^_, _≤_, _<_}
@@ -13,7 +13,8 @@ use mir.Val.{SFits, bytes, hbits, toZ}
 use mir.Facts.{toZ-pos}
 use Rattle.integers.proofs.SignedParts.{v, #, _⊖_, eq! }
 use Rattle.numbers.specs.Numbers.{littleEndian, twosComplement, signedAt}
-use Rattle.numbers.proofs.LittleEndian.{AllBytes, littleEndian-lt}
+use Rattle.integers.proofs.Machine.{AllBytes}
+use Rattle.numbers.proofs.LittleEndian.{littleEndian-lt}
 
 module _ (half n : ℕ) where
   pub twosComplement-low : n < half → twosComplement half n ≡ pos n
@@ -66,5 +67,3 @@ signedAt-fits w l at b =
     let small = littleEndian-lt (bytes w) l at b in
     subst (λ (half : ℕ). SFits w (twosComplement half n)) (sym (half-of w))
     (twosComplement-fits (2 ^ hbits w) n w (le-refl (2 ^ hbits w)) (omega (arith, small, twice-half-of w)))
-
--- ---- a part of a list

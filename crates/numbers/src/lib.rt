@@ -1,4 +1,6 @@
 // Numbers of several bytes in a slice, least significant byte first (File 2). A byte beyond the slice's end counts as 0.
+//
+// No public function has a `requires`: any bytes and any offset get their answer.
 ghost use mathlib.Core.Path.{_≡_};
 ghost use Prim.Native.Nat.{_+_, _*_, _^_, _≤_, _<_};
 ghost use lib.ListN.{getD};

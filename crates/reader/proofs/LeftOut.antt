@@ -26,12 +26,11 @@ use Rattle.reachability.specs.Sets.{zeroBox}
 use Rattle.columns.specs.Columns.{unusedZero, sixAt}
 use Rattle.reader.specs.declared.Status.the-variants.{Read}
 use Rattle.reader.specs.declared.state.State.{State}
-use Rattle.reader.specs.Order.{isEnd}
-use Rattle.filling.specs.Models.{putRow, setSet, setDirections, inputAt}
-use Rattle.reader.specs.Models.{start, stateOf, withHead, withRow, withDrift, withSetPoint, withDirection, withGuard}
+use Rattle.filling.specs.Models.{putRow, setSet, inputAt}
+use Rattle.reader.specs.Models.{setDirections, start, stateOf, withHead, withRow, withDrift, withSetPoint, withDirection, withGuard}
 use Rattle.reader.specs.Values.{unless, rowNumber, valueNumber, bodyNumber}
 use Rattle.reader.specs.Refusals.{countOf, kindNumber, refusal, storedIn, stored}
-use Rattle.reader.specs.Reading.{storedRecord, stopFor, readFrom, readModel}
+use Rattle.reader.specs.Reading.{isEnd, storedRecord, stopFor, readFrom, readModel}
 use Rattle.reader.specs.LeftOut.{LeftOutAt, putIn, moved}
 use Rattle.reader.proofs.OrderFacts.{every, order-at, order-rises, fact, order-fact}
 use Rattle.reader.proofs.order.KindNumbers.{kindNumber-zero}

@@ -23,8 +23,8 @@ use Rattle.reachability.specs.Sets.{reachLimit}
 use Rattle.columns.proofs.ColumnLaws.{unusedZero-of}
 use Rattle.reader.specs.declared.Status.the-variants.{Read}
 use Rattle.reader.specs.declared.state.State.{State}
-use Rattle.filling.specs.Models.{zeros, setDrift}
-use Rattle.reader.specs.Models.{start, stateOf, withHead, withRow, withDrift, withSetPoint, withDirection, withGuard}
+use Rattle.filling.specs.Models.{zeros}
+use Rattle.reader.specs.Models.{setDrift, start, stateOf, withHead, withRow, withDrift, withSetPoint, withDirection, withGuard}
 use Rattle.reader.specs.Values.{driftOk, unless, within, bodyNumber}
 use Rattle.reader.specs.Refusals.{kindNumber, stored}
 use Rattle.reader.specs.Reading.{stopFor, readFrom, readModel}

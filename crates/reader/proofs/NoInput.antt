@@ -32,12 +32,11 @@ use Rattle.columns.specs.Columns.{unusedZero, sixAt}
 use Rattle.columns.proofs.ColumnLaws.{unusedZero-of}
 use Rattle.reader.specs.declared.Status.the-variants.{Read}
 use Rattle.reader.specs.declared.state.State.{State}
-use Rattle.filling.specs.Models.{shapeOf, zeros, blankSet, putRow, setSet, setDirections, inputAt}
-use Rattle.reader.specs.Order.{isEnd}
-use Rattle.reader.specs.Models.{start, stateOf, withHead, withRow, withDrift, withPoint, withSetPoint, withDirection, withGuard}
+use Rattle.filling.specs.Models.{shapeOf, zeros, blankSet, putRow, setSet, inputAt}
+use Rattle.reader.specs.Models.{setDirections, start, stateOf, withHead, withRow, withDrift, withPoint, withSetPoint, withDirection, withGuard}
 use Rattle.reader.specs.Values.{pointOk, enteringPointOk, unless, pointNumberOf, valueNumber, bodyNumber}
 use Rattle.reader.specs.Refusals.{countOf, kindNumber, refusal, storedIn, stored}
-use Rattle.reader.specs.Reading.{stopFor, readFrom, readModel}
+use Rattle.reader.specs.Reading.{isEnd, stopFor, readFrom, readModel}
 use Rattle.reader.specs.LeftOut.{LeftOutAt, zeroBody, putIn, moved}
 use Rattle.reader.specs.NoInput.{completesInitial, NoInputAt, zeroCorners}
 use Rattle.reader.proofs.BodyNumbers.{bodyNumber-value}

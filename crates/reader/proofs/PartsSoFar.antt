@@ -29,11 +29,10 @@ use Rattle.records.specs.declared.kinds.Point.{Point}
 use Rattle.records.specs.declared.kinds.Point.the-variants.{NoPoint, Lower, Upper, Centre, Generator, Vertex}
 use Rattle.records.specs.Places.{startPlace, rowsPlace, matrixPlace, driftPlace, inputPlace, directionPlace}
 use Rattle.filling.specs.Models.{shapeOf, zeros, blankSet, putRow}
-use Rattle.reader.specs.Order.{isUpper}
 use Rattle.columns.specs.Columns.{entryAt, unusedZero, sixAt}
 use Rattle.columns.proofs.ColumnLaws.{entryZero-is, columnZero-whole, unusedZero-at}
 use Rattle.reader.specs.Models.{rowPlace, withPoint}
-use Rattle.reader.specs.Values.{within, driftOk, pointOk, enteringPointOk, directionOk}
+use Rattle.reader.specs.Values.{isUpper, within, driftOk, pointOk, enteringPointOk, directionOk}
 use Rattle.filling.proofs.PutRow.{length-putRow}
 use Rattle.reader.proofs.RowsOfSix.{vector-zeros, zeros-putRow, small-putRow, Nonzero, nonzero-putRow, Guarded}
 use Rattle.reader.proofs.OrderFacts.{isDone, isDone-early, isDone-centre, pointPlace, pointMay, pointMost, PointOf, point-low}

@@ -15,10 +15,9 @@ use Rattle.records.specs.Records.{Record, recordAt, recordKind}
 use Rattle.reader.specs.declared.Status.the-variants.{Read}
 use Rattle.reader.specs.declared.Reading.{Reading}
 use Rattle.reader.specs.declared.state.State.{State}
-use Rattle.reader.specs.Order.{isEnd}
 use Rattle.reader.specs.Models.{start}
 use Rattle.reader.specs.Refusals.{kindNumber, refusal, stored}
-use Rattle.reader.specs.Reading.{behind, storedRecord, stopFor, stopFrom, refused, readFrom, readModel, statusNumber}
+use Rattle.reader.specs.Reading.{isEnd, behind, storedRecord, stopFor, stopFrom, refused, readFrom, readModel, statusNumber}
 use Rattle.reader.specs.LeftOut.{putIn, moved}
 use Rattle.reader.proofs.ReadingOn.{goesOn-true, stopFor-ind, stopFor-inside, readFrom-next, readFrom-refused, readFrom-nothing, readFrom-comes}
 use Rattle.reader.proofs.ReadingRest.{readFrom-more-before, readFrom-same-start}

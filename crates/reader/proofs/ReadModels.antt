@@ -29,11 +29,10 @@ use Rattle.records.specs.declared.kinds.Part.{Part}
 use Rattle.records.specs.declared.kinds.Part.the-variants.{Head, Row, Drift, Initial, Input, Direction, Guard, End}
 use Rattle.records.specs.Places.{initialPlace, inputPlace, directionPlace}
 use Rattle.records.specs.Kinds.{layoutOf, partOf}
-use Rattle.reader.specs.Order.{isEnd}
 use Rattle.filling.specs.Models.{blankModel}
 use Rattle.reader.specs.Models.{start}
 use Rattle.reader.specs.Refusals.{refusal, stored}
-use Rattle.reader.specs.Reading.{Stop, stopHere, goesOn, behind, storedRecord, stopFor, stopFrom, numberAt, offsetAt, refused, readAs, readingAt, readFrom, readModel, readNumber, readOffset, statusNumber, statusOffset, Reads}
+use Rattle.reader.specs.Reading.{isEnd, Stop, stopHere, goesOn, behind, storedRecord, stopFor, stopFrom, numberAt, offsetAt, refused, readAs, readingAt, readFrom, readModel, readNumber, readOffset, statusNumber, statusOffset, Reads}
 use Rattle.reader.proofs.order.KindNumbers.{kindNumber-zero}
 use Rattle.arrays.proofs.FirstOf.{firstOf-zero}
 use Rattle.reader.proofs.ReadingOn.{refusal-zero, whole-of-refusal, GoesOn, goesOn-true, stopFor-ind, stopFor-enough, stopFor-stops}

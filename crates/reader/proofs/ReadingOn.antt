@@ -15,10 +15,9 @@ use Rattle.records.specs.Kinds.{partOf}
 use Rattle.records.specs.Records.{Record, whole, short, unknown, nothing, recordAt, recordKind, recordBody}
 use Rattle.records.proofs.RecordAt.{whole-of}
 use Rattle.reader.specs.declared.state.State.{State}
-use Rattle.reader.specs.Order.{isEnd}
 use Rattle.reader.specs.Values.{bodyNumber}
 use Rattle.reader.specs.Refusals.{kindNumber, refusal, stored}
-use Rattle.reader.specs.Reading.{Stop, stopHere, goesOn, behind, storedRecord, stopFor, numberAt, offsetAt, refused, readAs, readingAt, readFrom}
+use Rattle.reader.specs.Reading.{isEnd, Stop, stopHere, goesOn, behind, storedRecord, stopFor, numberAt, offsetAt, refused, readAs, readingAt, readFrom}
 
 -- ---- the number of a record
 

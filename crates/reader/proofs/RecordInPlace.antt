@@ -10,10 +10,9 @@ use Rattle.records.specs.Kinds.{Bytes, bodyLength, layoutOf, partOf}
 use Rattle.records.proofs.RecordAt.{recordAt-stands}
 use Rattle.reader.specs.declared.state.State.{State}
 use Rattle.columns.proofs.ColumnLaws.{unusedZero-none}
-use Rattle.reader.specs.Order.{isEnd}
 use Rattle.reader.specs.Values.{bodyNumber}
 use Rattle.reader.specs.Refusals.{kindNumber, stored}
-use Rattle.reader.specs.Reading.{readAs, readFrom}
+use Rattle.reader.specs.Reading.{isEnd, readAs, readFrom}
 use Rattle.reader.proofs.BodyNumbers.{bodyNumber-value}
 use Rattle.reader.proofs.ReadingOn.{refusal-whole, readFrom-next, readFrom-end}
 

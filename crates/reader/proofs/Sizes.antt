@@ -19,13 +19,13 @@ use Rattle.records.specs.Order.{mayFollow}
 use Rattle.records.proofs.KnownKinds.{known-at, known-length}
 use Rattle.reachability.specs.Sets.{zeroBox}
 use Rattle.reader.specs.declared.state.State.{State}
-use Rattle.reader.specs.Order.{isEnd}
 use Rattle.filling.specs.Models.{blankSet, blankModel, inputAt}
 use Rattle.reader.specs.Models.{start, rowPlace, withHead, withRow, withDrift, withPoint, withSetPoint, withDirection, withGuard}
 use Rattle.reader.specs.Refusals.{storedIn, stored}
 use Rattle.reader.proofs.OrderFacts.{isPlain, pointFact, point-of, point-low, fact, order-fact}
 use Rattle.reader.proofs.PartsSoFar.{n-most, none-count}
 use Rattle.reader.proofs.AcceptedSoFar.{AcceptedSoFar}
+use Rattle.reader.specs.Reading.{isEnd}
 
 -- ---- the longest body of each part
 

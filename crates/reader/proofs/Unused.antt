@@ -19,7 +19,8 @@ use Rattle.records.specs.Places.{startPlace, rowsPlace}
 use Rattle.records.specs.Kinds.{layoutOf, partOf}
 use Rattle.records.specs.Records.{Record, whole, nothing, recordAt, recordKind, recordBody}
 use Rattle.records.proofs.KnownKinds.{layout-at}
-use Rattle.numbers.proofs.LittleEndian.{AllBytes, littleEndian-lt}
+use Rattle.integers.proofs.Machine.{AllBytes}
+use Rattle.numbers.proofs.LittleEndian.{littleEndian-lt}
 use Rattle.records.proofs.RecordAt.{recordAt-nothing, whole-of, whole-bytes}
 use Rattle.columns.specs.Columns.{entryAt, fittedWidth, bitsAt, unusedZero}
 use Rattle.columns.proofs.ColumnLaws.{entryZero-is, columnZero-fitted, columnZero-whole, unusedZero-at, unusedZero-none}

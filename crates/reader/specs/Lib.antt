@@ -1,4 +1,3 @@
-pub mod Order
 pub mod Models
 pub mod Values
 pub mod Refusals

@@ -8,6 +8,11 @@ use Prim.Native.Nat.{ℕ, _+_}
 use lib.Dec.{eqb, ltb}
 use lib.ListN.{set}
 use lib.IntN.{ℤ}
+use Rattle.reachability.specs.declared.sets.Set.{Set}
+use Rattle.reachability.specs.declared.motion.Motion.{Motion}
+use Rattle.reachability.specs.declared.model.Questions.{Questions}
+use Rattle.reachability.specs.declared.model.Model.{Model}
+use Rattle.reachability.specs.Motion.{rowsOf, withRows}
 use Rattle.coefficients.specs.declared.EntryAnswer.{EntryAnswer}
 use Rattle.coefficients.specs.Entries.{entryOfBits, scaledEntry}
 use Rattle.coefficients.specs.Rows.{storedSix}
@@ -15,11 +20,8 @@ use Rattle.numbers.specs.Numbers.{littleEndian, signedAt}
 use Rattle.records.specs.declared.kinds.Layout.{Layout}
 use Rattle.records.specs.Places.{startPlace, rowsPlace}
 use Rattle.columns.specs.Columns.{firstByte, entryAt, sixAt, fittedWidth, bitsAt}
-use Rattle.reachability.specs.declared.sets.Set.{Set}
-use Rattle.reachability.specs.declared.model.Model.{Model}
-use Rattle.reachability.specs.Motion.{rowsOf}
+use Rattle.filling.specs.Models.{blankModel, modelOf, setOf, setSet, putRow, shapeOf, inputAt}
 use Rattle.reader.specs.declared.state.State.{State}
-use Rattle.filling.specs.Models.{blankModel, setHead, setMatrix, setDrift, setOf, setSet, setDirections, setGuards, putRow, shapeOf, inputAt}
 
 -- Before the first record: the first place, no row, a blank model.
 unfoldable pub start : State
@@ -38,6 +40,36 @@ usualSteps = 120
 
 abbrev pub defaultSteps : ℕ → ℕ
 defaultSteps k = cond (eqb k 0) usualSteps k
+
+-- ---- a model with one part changed
+
+abbrev pub setHead : Model → ℕ → ℕ → Model
+setHead m n steps = modelOf n steps (m .motion) (m .drift) (m .initial) (m .input) (m .questions)
+
+abbrev pub setMotion : Model → Motion → Model
+setMotion m motion = modelOf (m .n) (m .steps) motion (m .drift) (m .initial) (m .input) (m .questions)
+
+abbrev pub setMatrix : Model → List ℤ → Model
+setMatrix m matrix = setMotion m (withRows (m .motion) matrix)
+
+abbrev pub setDrift : Model → List ℤ → Model
+setDrift m drift = modelOf (m .n) (m .steps) (m .motion) drift (m .initial) (m .input) (m .questions)
+
+abbrev pub setQuestions : Model → Questions → Model
+setQuestions m questions = modelOf (m .n) (m .steps) (m .motion) (m .drift) (m .initial) (m .input) questions
+
+-- The questions of these fields, in the order of the code.
+abbrev pub questionsOf : ℕ → List ℤ → ℕ → List ℕ → List ℤ → Questions
+questionsOf directions entries guards watched levels =
+    record { directions = directions; entries = entries; guards = guards; watched = watched; levels = levels }
+
+abbrev pub setDirections : Model → ℕ → List ℤ → Model
+setDirections m directions entries =
+    setQuestions m (questionsOf directions entries (m .questions .guards) (m .questions .watched) (m .questions .levels))
+
+abbrev pub setGuards : Model → ℕ → List ℕ → List ℤ → Model
+setGuards m guards watched levels =
+    setQuestions m (questionsOf (m .questions .directions) (m .questions .entries) guards watched levels)
 
 -- ---- what each record adds
 

@@ -4,12 +4,12 @@ use mathlib.Core.Path.{_≡_}
 use mathlib.Core.Bool.{Bool, cond}
 use mathlib.Core.List.{List}
 use Prim.Native.Nat.{ℕ, _≤_}
+use Rattle.reachability.specs.declared.sets.Set.{Set}
 use Rattle.records.specs.declared.kinds.Part.{Part}
 use Rattle.records.specs.declared.kinds.Part.the-variants.{Initial, Input}
 use Rattle.records.specs.Kinds.{layoutOf, partOf}
-use Rattle.reachability.specs.declared.sets.Set.{Set}
-use Rattle.reader.specs.declared.state.State.{State}
 use Rattle.filling.specs.Models.{setOf}
+use Rattle.reader.specs.declared.state.State.{State}
 use Rattle.reader.specs.Models.{start, withPoint}
 use Rattle.reader.specs.Refusals.{kindNumber}
 use Rattle.reader.specs.Reading.{stopFor}

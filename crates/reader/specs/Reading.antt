@@ -1,21 +1,22 @@
 -- Reading 1 to 3: where the reading of a file stops, the number and the offset there, and the model. Definitions only. A file is
 -- the list of its bytes. Assumes nothing.
 use mathlib.Core.Path.{_≡_}
-use mathlib.Core.Bool.{Bool, cond, not, _&&_}
+use mathlib.Core.Bool.{Bool, true, false, cond, not, _&&_}
 use mathlib.Core.List.{List}
 use Prim.Native.Nat.{ℕ, zero, suc, _+_, _-_, _<_}
 use lib.Dec.{eqb, ltb}
 use lib.ListN.{length}
 use Rattle.arrays.specs.Tests.{firstOf}
+use Rattle.reachability.specs.declared.model.Model.{Model}
+use Rattle.records.specs.declared.kinds.Part.{Part}
+use Rattle.records.specs.declared.kinds.Part.the-variants.{Head, Row, Drift, Initial, Input, Direction, Guard, End}
 use Rattle.records.specs.Records.{Record, recordAt, recordKind, recordBody}
 use Rattle.records.specs.Kinds.{partOf}
-use Rattle.reachability.specs.declared.model.Model.{Model}
+use Rattle.filling.specs.Models.{blankModel}
 use Rattle.reader.specs.declared.Status.{Status}
 use Rattle.reader.specs.declared.Status.the-variants.{Read, Refused}
 use Rattle.reader.specs.declared.Reading.{Reading}
 use Rattle.reader.specs.declared.state.State.{State}
-use Rattle.reader.specs.Order.{isEnd}
-use Rattle.filling.specs.Models.{blankModel}
 use Rattle.reader.specs.Models.{start}
 use Rattle.reader.specs.Refusals.{refusal, stored}
 
@@ -28,6 +29,17 @@ pub record Stop : Type 0 where
 
 abbrev pub stopHere : ℕ → State → Stop
 stopHere at s = record { at = at; state = s }
+
+-- File 3: the end record.
+abbrev pub isEnd : Part → Bool
+isEnd Head = false
+isEnd Row = false
+isEnd Drift = false
+isEnd Initial = false
+isEnd Input = false
+isEnd Direction = false
+isEnd Guard = false
+isEnd End = true
 
 -- Reading goes on behind a record that is not refused and is not the end.
 abbrev pub goesOn : State → Record → Bool

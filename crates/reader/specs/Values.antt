@@ -6,21 +6,21 @@ use lib.Dec.{eqb, leb, ltb}
 use lib.IntN.{ℤ, pos, negℤ}
 use Rattle.arrays.specs.Tests.{allBetween, firstOf}
 use Rattle.stepping.specs.Refusals.{dimensionOk}
+use Rattle.limits.specs.Limits.{directionLimit, allZero, cornersOrdered}
+use Rattle.reachability.specs.Sets.{reachLimit, reachWithin}
+use Rattle.reachability.specs.Entering.{enteringWithin}
+use Rattle.reachability.specs.declared.sets.Set.{Set}
 use Rattle.coefficients.specs.Rows.{entriesNumber}
 use Rattle.numbers.specs.Numbers.{littleEndian}
 use Rattle.records.specs.Kinds.{layoutOf, partOf}
-use Rattle.columns.specs.Columns.{unusedZero, firstByte, sixAt}
-use Rattle.reachability.specs.Sets.{reachLimit, reachWithin}
-use Rattle.reachability.specs.Entering.{enteringWithin}
-use Rattle.limits.specs.Limits.{directionLimit, allZero, cornersOrdered}
-use Rattle.reachability.specs.declared.sets.Set.{Set}
 use Rattle.records.specs.declared.kinds.Layout.{Layout}
 use Rattle.records.specs.declared.kinds.Point.{Point}
+use Rattle.records.specs.declared.kinds.Point.the-variants.{NoPoint, Lower, Upper, Centre, Generator, Vertex}
 use Rattle.records.specs.declared.kinds.Part.{Part}
 use Rattle.records.specs.declared.kinds.Part.the-variants.{Head, Row, Drift, Initial, Input, Direction, Guard, End}
-use Rattle.reader.specs.declared.state.State.{State}
-use Rattle.reader.specs.Order.{isUpper}
+use Rattle.columns.specs.Columns.{unusedZero, firstByte, sixAt}
 use Rattle.filling.specs.Models.{setOf}
+use Rattle.reader.specs.declared.state.State.{State}
 use Rattle.reader.specs.Models.{rowAnswer, withPoint}
 
 -- Refusals 4 does not apply.
@@ -37,6 +37,15 @@ within limit six = allBetween (negℤ (pos limit)) (pos limit) six
 -- Refusals 17 does not apply to the drift.
 unfoldable pub driftOk : Layout → List ℕ → Bool
 driftOk l body = within reachLimit (sixAt body (l .first))
+
+-- File 3: at the upper corner both corners of a box are there.
+abbrev pub isUpper : Point → Bool
+isUpper NoPoint = false
+isUpper Lower = false
+isUpper Upper = true
+isUpper Centre = false
+isUpper Generator = false
+isUpper Vertex = false
 
 -- Limits 8: the corners are compared at the upper one.
 abbrev pub cornersOk : ℕ → Point → List ℤ → Bool

@@ -15,7 +15,7 @@ use denote.Ref.{RefT, now}
 use Rattle.records.specs.Kinds.{BodyLength, Bytes, Unknown, bodyLength}
 use Rattle.records.specs.Records.{Record, whole, short, unknown, nothing, recordOf, recordAt, recordNumber, recordKind, recordBody, RecordStep}
 use Rattle.records.proofs.KnownKinds.{kind-above-zero, bodyLength-le}
-use Rattle.numbers.proofs.LittleEndian.{AllBytes}
+use Rattle.integers.proofs.Machine.{AllBytes}
 
 -- ---- the four cases
 

@@ -17,7 +17,7 @@ layout part point length first width most place =
     record { part = part; point = point; length = length; first = first; width = width; most = most; place = place }
 
 -- Refusals 9: a set has at most 16 points, and there are at most 16 directions and 16 guards. A zonotope has its centre and 8
--- generators (Sets 5). A head, rows, a drift and the end are not counted, so that it makes no difference what stands there.
+-- generators (Sets 5). A head, rows, a drift and the end are not counted, so that any number above 0 may stand there.
 abbrev pub most : ℕ
 most = 16
 
@@ -59,7 +59,7 @@ pub data BodyLength : Type 0 where
 unfoldable pub bodyLength : ℕ → BodyLength
 bodyLength kind = told (λ l. Bytes (l .length)) Unknown kind kinds
 
--- What a kind is. An unknown one, which is refused before anything of this is asked, is an end with nothing in it.
+-- Routines 13: what a kind is. An unknown one is an end with 0 in every number, and 0 records are the most that it may have.
 abbrev pub noLayout : Layout
 noLayout = layout End NoPoint 0 0 0 0 startPlace
 

@@ -30,7 +30,7 @@ pub fn record_at<'a, 'b, 'c>(
     }
     let first = file[at];
     *kind = first;
-    // A known kind may have a record, an unknown one none.
+    // The most records are at least 1 in every row of the table, and 0 for an unknown kind.
     let layout = kinds::layout_of(first);
     let most = layout.most;
     if most == 0 {

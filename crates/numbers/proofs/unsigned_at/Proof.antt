@@ -4,7 +4,8 @@ use Rattle.integers.proofs.Basics.{_≡_, sym, ap, subst, ℕ, suc, _+_, _*_, _
 use mathlib.Core.List.{List}
 use Prim.Native.Nat.{_^_}
 use Rattle.numbers.specs.Numbers.{littleEndian}
-use Rattle.numbers.proofs.LittleEndian.{AllBytes, littleEndian-suc, littleEndian-lt-of-le}
+use Rattle.integers.proofs.Machine.{AllBytes}
+use Rattle.numbers.proofs.LittleEndian.{littleEndian-suc, littleEndian-lt-of-le}
 use Rattle.numbers.proofs.unsigned_at.Statement.{statement}
 use Rattle.numbers.proofs.unsigned_at.Tie as tie
 

@@ -16,10 +16,9 @@ use Rattle.reader.specs.declared.state.State.{State}
 use Rattle.reader.specs.declared.advance.Outcome.{Outcome}
 use Rattle.reader.specs.declared.advance.Outcome.the-variants.{Next, Ended, Stopped}
 use Rattle.reader.specs.declared.advance.Advanced.{Advanced}
-use Rattle.reader.specs.Order.{isEnd}
 use Rattle.reader.specs.Values.{bodyNumber}
 use Rattle.reader.specs.Refusals.{kindNumber, refusal, stored}
-use Rattle.reader.specs.Reading.{refused, readAs, readFrom}
+use Rattle.reader.specs.Reading.{isEnd, refused, readAs, readFrom}
 use Rattle.reader.specs.Inner.{followed, Advances}
 use Rattle.reader.proofs.ReadingOn.{refusal-short-kind, refusal-short, refusal-whole, refusal-whole-kind, readFrom-next, readFrom-refused, readFrom-nothing, readFrom-more, readFrom-end}
 

@@ -7,19 +7,19 @@ use Prim.Native.Nat.{ℕ, _+_, _*_, _<_}
 use borrow.Author.Tests.{eq-eqb, ne-eqb}
 use lib.Dec.{eqb}
 use lib.IntN.{pos}
-use Rattle.integers.proofs.Machine.{getD-tabulate}
+use Rattle.integers.proofs.Machine.{getD-tabulate, AllBytes}
+use Rattle.arrays.specs.Tests.{firstOf}
 use Rattle.coefficients.specs.declared.rows.RowEntries.{RowEntries}
 use Rattle.coefficients.specs.declared.Coefficient.the-variants.{Fitted}
 use Rattle.coefficients.specs.Entries.{entryOfBits, scaledEntry, entryOf}
-use Rattle.arrays.specs.Tests.{firstOf}
 use Rattle.coefficients.specs.Rows.{entriesOf, scaledRow, fittedRow}
 use Rattle.coefficients.proofs.Fitting.{entryOf-bits}
 use Rattle.coefficients.proofs.RowLaws.{entriesOf-cong, each-of-six}
-use Rattle.numbers.proofs.LittleEndian.{AllBytes, littleEndian-lt}
-use Rattle.reader.specs.declared.state.State.{State}
-use Rattle.reader.specs.declared.take.Taken.{Taken}
+use Rattle.numbers.proofs.LittleEndian.{littleEndian-lt}
 use Rattle.records.specs.declared.kinds.Layout.{Layout}
 use Rattle.columns.specs.Columns.{entryAt, fittedWidth, bitsAt, firstByte, sixAt, fittedAt, heldRow}
+use Rattle.reader.specs.declared.state.State.{State}
+use Rattle.reader.specs.declared.take.Taken.{Taken}
 use Rattle.reader.specs.Models.{rowAnswer, rowStored, withRow}
 use Rattle.reader.specs.Values.{unless, rowNumber}
 use Rattle.reader.specs.Inner.{Takes}

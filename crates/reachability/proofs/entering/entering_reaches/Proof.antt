@@ -90,6 +90,7 @@ loop-again c =
     let value = ap (λ (y : ℤ). toZ w64 (ofZ w64 y)) (both c) ∙ toZ-ofZ (fits c) ∙ ap₂ _+ℤ_ (sym (own-at z)) (ap pos (size-is z)) in
     (omega (arith, inside z), ap₂ (λ l (y : ℤ). set l (i z) y) (at-loop .loop .inv .1) value ∙ filled-more (sumAt (own z) (start z .args .drift .now)) (i z) (own z) (omega (arith, long z, inside z)))
 
+-- below `loop-again`, so that a wrong operand fails there first
 add-reaches : tie.Need-add-reaches Inv-loop μ-loop
 add-reaches c = subst (SFits w64) (sym (both c)) (fits c)
 

@@ -10,7 +10,6 @@ use Rattle.records.specs.Kinds.{Bytes, bodyLength, layoutOf, partOf}
 use Rattle.records.proofs.KnownKinds.{known-at, most-le}
 use Rattle.records.proofs.RecordAt.{whole-of, whole-length}
 use Rattle.columns.specs.Columns.{unusedZero}
-use Rattle.reader.specs.Order.{isEnd}
 use Rattle.reader.specs.Values.{unless, valueNumber, bodyNumber}
 use Rattle.reader.specs.Refusals.{oneTooMany, storedIn, stored}
 use Rattle.reader.proofs.BodyNumbers.{bodyNumber-zero}
@@ -18,10 +17,11 @@ use Rattle.reader.proofs.order.KindNumbers.{kindNumber-zero}
 use Rattle.reader.proofs.advance.Outcomes.{advances-value, advances-more, advances-ended, advances-next}
 use Rattle.reader.proofs.advance.advance_whole.Statement.{statement}
 use Rattle.reader.proofs.advance.advance_whole.Tie as tie
+use Rattle.reader.specs.Reading.{isEnd}
 
 -- of the known kinds the end alone leads to the last place
-end-place : (kind n : ℕ) → bodyLength kind ≡ Bytes n → isEnd (partOf kind) ≡ eqb (layoutOf kind .place) endPlace
-end-place kind n known = agree (isEnd (partOf kind)) (eqb (layoutOf kind .place) endPlace) (known-at kind n known (λ k l. cond (isEnd (l .part)) (eqb (l .place) endPlace) (not (eqb (l .place) endPlace))) refl)
+isEnd-place : (kind n : ℕ) → bodyLength kind ≡ Bytes n → isEnd (partOf kind) ≡ eqb (layoutOf kind .place) endPlace
+isEnd-place kind n known = agree (isEnd (partOf kind)) (eqb (layoutOf kind .place) endPlace) (known-at kind n known (λ k l. cond (isEnd (l .part)) (eqb (l .place) endPlace) (not (eqb (l .place) endPlace))) refl)
   where
     agree : (a b : Bool) → cond a b (not b) ≡ true → a ≡ b
     agree true b e = sym e
@@ -54,7 +54,7 @@ module _ (c : tie.After-first-of) where
 
   end-is : isEnd (partOf (start .args .kind)) ≡ eqb (start .args .layout .place) endPlace
   end-is =
-      end-place (start .args .kind) _ (whole-length _ _ _ _ (start .pre .0))
+      isEnd-place (start .args .kind) _ (whole-length _ _ _ _ (start .pre .0))
       ∙ ap (λ (l : Layout). eqb (l .place) endPlace) (sym (start .pre .1 .0))
 
 returns : tie.Need-returns

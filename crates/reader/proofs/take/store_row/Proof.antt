@@ -11,8 +11,8 @@ use Rattle.records.specs.declared.kinds.Layout.{Layout}
 use Rattle.reachability.specs.Motion.{rowsOf, withRows}
 use Rattle.reachability.specs.declared.motion.Motion.{Motion}
 use Rattle.reader.specs.declared.state.State.{State}
-use Rattle.filling.specs.Models.{setMotion, setMatrix, putRow}
-use Rattle.reader.specs.Models.{rowPlace, stateOf, rowStored}
+use Rattle.filling.specs.Models.{putRow}
+use Rattle.reader.specs.Models.{setMotion, setMatrix, rowPlace, stateOf, rowStored}
 use Rattle.reader.specs.Values.{unless}
 use Rattle.reader.specs.Inner.{Takes}
 use Rattle.arrays.proofs.FirstOf.{firstOf-zero}

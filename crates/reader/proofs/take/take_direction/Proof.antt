@@ -9,9 +9,9 @@ use Rattle.integers.proofs.Booleans.{and-skip, and-stop}
 use Rattle.limits.specs.Limits.{allZero, directionLimit}
 use Rattle.reachability.specs.declared.sets.Set.{Set}
 use Rattle.reachability.proofs.model.Lengths.{lengths}
-use Rattle.filling.specs.Models.{setSet, setDirections, putRow}
+use Rattle.filling.specs.Models.{setSet, putRow}
 use Rattle.columns.specs.Columns.{sixAt}
-use Rattle.reader.specs.Models.{stateOf, withDirection}
+use Rattle.reader.specs.Models.{setDirections, stateOf, withDirection}
 use Rattle.reader.specs.Values.{within, directionOk}
 use Rattle.reader.proofs.take.Taking.{takenAs, takes-refused, takes-passed}
 use Rattle.reader.proofs.take.take_direction.Statement.{statement}

@@ -3,8 +3,7 @@ use Rattle.integers.proofs.Basics.{sym, ap, _∙_, ℤ, arith, needs}
 use mathlib.Core.List.{List}
 use borrow.Author.Tests.{not-true, not-false}
 use Rattle.reachability.specs.Sets.{reachLimit}
-use Rattle.filling.specs.Models.{setDrift}
-use Rattle.reader.specs.Models.{stateOf, withDrift}
+use Rattle.reader.specs.Models.{setDrift, stateOf, withDrift}
 use Rattle.reader.specs.Values.{within, driftOk}
 use Rattle.reader.proofs.take.Taking.{takenAs, takes-refused, takes-passed}
 use Rattle.reader.proofs.take.take_drift.Statement.{statement}

@@ -2,8 +2,7 @@
 use Rattle.integers.proofs.Basics.{sym, ap, ap₂, _∙_, ℕ, _+_, arith, needs, set, ℤ, toZ-ofZ}
 use borrow.Author.Tests.{lt-ltb, le-ltb}
 use lib.Dec.{ltb}
-use Rattle.filling.specs.Models.{setGuards}
-use Rattle.reader.specs.Models.{stateOf, withGuard}
+use Rattle.reader.specs.Models.{setGuards, stateOf, withGuard}
 use Rattle.reader.proofs.take.Taking.{takenAs, takes-refused, takes-passed}
 use Rattle.reader.proofs.take.take_guard.Statement.{statement}
 use Rattle.reader.proofs.take.take_guard.Tie as tie

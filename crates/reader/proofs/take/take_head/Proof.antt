@@ -2,8 +2,7 @@
 use Rattle.integers.proofs.Basics.{_≡_, sym, ap, ap₂, _∙_, ℕ, _<_, arith, needs}
 use mathlib.Core.Logic.{⊎-elim}
 use borrow.Author.Tests.{le-leb, lt-leb, eq-eqb, ne-eqb}
-use Rattle.filling.specs.Models.{setHead}
-use Rattle.reader.specs.Models.{usualSteps, defaultSteps, stateOf, withHead}
+use Rattle.reader.specs.Models.{setHead, usualSteps, defaultSteps, stateOf, withHead}
 use Rattle.reader.specs.Values.{headValuesOk, headOk}
 use Rattle.reader.proofs.take.Taking.{takenAs, takes-refused, takes-passed}
 use Rattle.reader.proofs.take.take_head.Statement.{statement}

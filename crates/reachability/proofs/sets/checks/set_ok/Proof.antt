@@ -52,6 +52,7 @@ module _ (c : tie.Else4) where
   outside : zeroOutside (set counted .count) (n counted) (set counted .points) ≡ true
   outside = sym (c .before .zero-outside .ensures) ∙ not-false _ (c .if4 .left)
 
+-- below `outside`, so that a wrong count fails there first
 returns-4 : tie.Need-returns-4
 returns-4 c =
     let b = c .before .before .before .before in

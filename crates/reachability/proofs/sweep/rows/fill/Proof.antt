@@ -55,6 +55,7 @@ fill-rows-requires c κs =
       },
     )
 
+-- below `fill-rows-requires`, so that a wrong set fails there first
 move-points-requires : tie.Need-move-points-requires
 move-points-requires c κs =
     let start = c .before .before .before .before .before .before .before .before .before .before .before .before .before .before in
