@@ -16,7 +16,7 @@ use Rattle.records.specs.declared.kinds.Layout.{Layout}
 
 -- ---- the numbers of a body
 
--- File 3: n, the number of a row and the number of a guard's direction are the byte that a body starts with.
+-- File 3, Routines 21: n, the number of a row and the number of a guard's direction are the byte that a body starts with.
 abbrev pub firstByte : List ℕ → ℕ
 firstByte body = getD body 0 0
 
@@ -24,7 +24,7 @@ firstByte body = getD body 0 0
 abbrev pub entryAt : List ℕ → ℕ → ℕ → ℤ
 entryAt body at i = signedAt 4 body (at + 4 * i)
 
--- File 3: the six entries of a body, of 4 bytes each.
+-- File 3, Routines 21: the six entries of a body, of 4 bytes each.
 unfoldable pub sixAt : List ℕ → ℕ → List ℤ
 sixAt body at = tabulate 6 (entryAt body at)
 
@@ -35,7 +35,7 @@ fittedWidth = 8
 abbrev pub bitsAt : List ℕ → ℕ → ℕ → ℕ
 bitsAt body at i = littleEndian 8 body (at + 8 * i)
 
--- Forms 11: the number of a fitted row and its six values.
+-- Forms 11, Routines 21: the number of a fitted row and its six values.
 abbrev pub fittedAt : List ℕ → ℕ → ℕ → Float
 fittedAt body at i = ofBits binary64 (bitsAt body at i)
 
@@ -55,6 +55,6 @@ entryZero body at i = eqb (natAbs (entryAt body at i)) 0
 abbrev pub columnZero : ℕ → ℕ → List ℕ → ℕ → Bool
 columnZero at width body i = cond (eqb width fittedWidth) (isZero (bitsAt body at i)) (entryZero body at i)
 
--- Refusals 16 does not apply: each of the six entries, if there are any, is one of the first n, or zero.
+-- Refusals 16 does not apply (Routines 19): each of the six entries, if there are any, is one of the first n, or zero.
 unfoldable pub unusedZero : ℕ → Layout → List ℕ → Bool
 unusedZero n l body = eqb (l .width) 0 || allBelow 6 (λ i. ltb i n || columnZero (l .first) (l .width) body i)

@@ -80,7 +80,7 @@ shapeOf Centre = Zonotope
 shapeOf Generator = Zonotope
 shapeOf Vertex = Vertices
 
--- File 10, Routines 22: the input set once a direction stands at a place. Before the places of the input set no record of it was read, and it is the
--- box from zero to zero.
+-- File 10, Routines 22: the input set once a direction stands at a place. Before the places of the input set no record of it was
+-- read, and it is the box from zero to zero.
 abbrev pub inputAt : ℕ → Model → Set
 inputAt place m = cond (ltb place inputPlace) zeroBox (m .input)
