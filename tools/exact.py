@@ -4,13 +4,14 @@
 It was made from the words of the request, before docs/SPECIFICATION.md was. A change of it is made
 from the changed clauses, before the Rattle side is looked at.
 
-In order: the reader of files, and how it rounds fitted entries; supports and reaches, of a set and
-of what enters at a step; the recurrence over whole numbers; the listing; and, apart from all of
-these, the exact largest values as fractions, by corners, with the check of the accuracy rule
-against them. `unrounded_values` has those of a matrix of any fractions.
+In order: the reader of files, and how it rounds fitted entries; the writer; supports and reaches,
+of a set and of what enters at a step; the recurrence over whole numbers; the listing; and, apart
+from all of these, the exact largest values as fractions, by corners, with the check of the accuracy
+rule against them. `unrounded_values` has those of a matrix of any fractions.
 
-    exact.py FILE            print the listing of a file (standard input without FILE, or for `-`)
-    exact.py --check FILE    and check the accuracy rule of what is printed
+    exact.py FILE              print the listing of a file (standard input without FILE, or for `-`)
+    exact.py --check FILE      and check the accuracy rule of what is printed
+    exact.py --canonical FILE  write the one file of its model in place of the listing
 
 FILE is a packed model, or a text, which is packed first.
 """
@@ -32,7 +33,7 @@ from layout import (
     GROWTH_LIMIT, GUARD, HEAD, INITIAL, INPUT, LOWER, MATRIX_UNIT, MAX_DIRECTION_ENTRY,
     MAX_DIRECTIONS, MAX_ENTRY, MAX_FACTOR, MAX_GUARDS, MAX_N, MAX_POINTS, MAX_REACH, MAX_SPARE,
     MAX_STEPS, MIN_POINTS, POINT_KINDS, READ_LIMIT, ROW, VERTEX, ZONOTOPE, Model, Set, Vector,
-    zero_box,
+    encode, zero_box,
 )
 from listings import CLEAR, GROWTH, HIT, UNKNOWN, Growth, Listing, Refusal, Sweep, Verdict
 
@@ -244,6 +245,18 @@ def read_model(data: bytes) -> Model | Refusal:
         return _read(_File(data))
     except _Refused as refused:
         return Refusal(*refused.args)
+
+
+# Writing
+
+
+def canonical(model: Model) -> bytes:
+    """The one file of a model: nothing is written that a reader puts in by itself.
+
+    Steps are named outright and rows are scaled, a zero drift and an input set that is the box of
+    zeros are left out, and points and lists stand in stored order.
+    """
+    return encode(model, input_stated=model.input != zero_box(model.n))
 
 
 # Sets and the recurrence
@@ -473,15 +486,22 @@ def main() -> None:
     parser.add_argument("file", nargs="?", default="-",
                         help="a model, packed or as a text; - is standard input")
     parser.add_argument("--check", action="store_true", help="also check the accuracy rule")
+    parser.add_argument("--canonical", action="store_true",
+                        help="write the one file of its model in place of the listing")
     options = parser.parse_args()
+    if options.check and options.canonical:
+        parser.error("--check is for a listing, and --canonical writes none")
     data, name = files.read_bytes(options.file), files.shown(options.file)
     if pack.starts_as_text(data):
         data = pack.read_text(data, name).data
-    text = listing(data)
-    files.write_bytes(None, text.encode("ascii"))
     model = read_model(data)
+    text = listing(data)
+    if not options.canonical:
+        files.write_bytes(None, text.encode("ascii"))
     if isinstance(model, Refusal):
         raise files.Failure(refusal.message(name, data))
+    if options.canonical:
+        files.write_bytes(None, canonical(model))
     if options.check:
         try:
             check_accuracy(model, listings.parse(text))

@@ -37,6 +37,7 @@ MAX_SPARE = 10  # Recurrence 9
 # "File"
 READ_LIMIT = 2_048  # Reading 4
 LONGEST_FILE = 1_690  # File 9
+LONGEST_WRITTEN = 1_546  # Writing 6
 HEAD, ROW, FITTED, DRIFT, DIRECTION, GUARD, END = 0x01, 0x02, 0x03, 0x05, 0x30, 0x40, 0xFF  # File 3
 ROW_KINDS = (ROW, FITTED)
 INITIAL, INPUT = 0x10, 0x20  # the kinds of a set's points are one of these plus one of the next

@@ -19,9 +19,9 @@ import listings
 import models
 import readerfiles
 from layout import (
-    BODY_LENGTHS, BOX, END, FITTED, GROWTH_LIMIT, INITIAL, LONGEST_FILE, MIN_POINTS, ROW, VERTEX,
-    VERTICES, ZONOTOPE, Model, Set, direction, drift, encode, fitted, fitted_rows_of, guard, head,
-    offsets, pattern, point, row, states_input,
+    BODY_LENGTHS, BOX, END, FITTED, GROWTH_LIMIT, INITIAL, LONGEST_FILE, LONGEST_WRITTEN,
+    MIN_POINTS, ROW, VERTEX, VERTICES, ZONOTOPE, Model, Set, direction, drift, encode, fitted,
+    fitted_rows_of, guard, head, offsets, pattern, point, row, states_input,
 )
 from listings import Growth, Listing, Refusal, Sweep, Verdict
 
@@ -1105,6 +1105,114 @@ class NoInput(unittest.TestCase):
         self.assertGreater(checked, 10)
 
 
+def saved_ways(model):
+    """Files of one model: all that a save may leave out or put otherwise, in every mixture."""
+    rows = {number: [pattern(entry / 65_536) for entry in entries]
+            for number, entries in enumerate(model.matrix)}
+    zeros = {number: [bits or pattern(-0.0) for bits in entries] for number, entries in rows.items()}
+    for stated, input_, patterns, drift_ in itertools.product(
+        (None, 0) if model.steps == 120 else (None,),
+        (True, False) if model.input == box(*[(0, 0)] * model.n) else (True,),
+        (None, rows, zeros, {0: rows[0]}),
+        (False, True),
+    ):
+        yield encode(model, stated, input_, patterns, drift_)
+
+
+class Writer(unittest.TestCase):
+    """2026-08: the one file of a model, byte by byte, and read again."""
+
+    START = f"01 01 0300 02 00 00800000 {REST}"
+    ASKED = f"30 01000000 {REST} FF"
+
+    def written(self, middle, **changes):
+        """Check the bytes of the halved value, asked for the direction 1, with these parts."""
+        model = replace(single(32_768, (0, 0), (0, 0), 1, 3), **changes)
+        expected = bytes.fromhex(f"{self.START} {middle} {self.ASKED}")
+        self.assertEqual(exact.canonical(model), expected)
+        self.assertEqual(exact.read_model(expected), model)
+
+    def test_sample(self):
+        self.assertEqual(exact.canonical(exact.read_model(SAMPLE)), SAMPLE)
+
+    def test_a_zero_box_is_left_out_as_input_alone(self):
+        corners = f"10 00000000 {REST} 11 00000000 {REST}"
+        self.written(corners)
+        self.written(f"{corners} 20 00000000 {REST} 21 01000000 {REST}", input=box((0, 1)))
+        self.written(f"{corners} 20 FFFFFFFF {REST} 21 00000000 {REST}", input=box((-1, 0)))
+
+    def test_other_sets_of_zeros_are_written(self):
+        corners = f"10 00000000 {REST} 11 00000000 {REST}"
+        zero = ((0,),)
+        for form, part in ((VERTICES, f"24 00000000 {REST}"),
+                           (ZONOTOPE, f"22 00000000 {REST} 23 00000000 {REST}")):
+            set_ = Set(form, zero * MIN_POINTS[form])
+            self.written(f"{corners} {part}", input=set_)
+            initial = part.replace("22 ", "12 ").replace("23 ", "13 ").replace("24 ", "14 ")
+            self.written(initial, initial=set_)
+        self.written(f"{corners} 24 00000000 {REST} 24 00000000 {REST}",
+                     input=Set(VERTICES, zero * 2))
+
+    def test_a_drift_only_where_it_is_not_zero(self):
+        corners = f"10 00000000 {REST} 11 00000000 {REST}"
+        self.written(f"05 FEFFFFFF {REST} {corners}", drift=(-2,))
+        self.written(corners, drift=(0,))
+
+    def test_points_and_lists_in_stored_order(self):
+        model = Model(2, 256, ((1, -2), (3, 4)), Set(VERTICES, ((5, 6), (-7, 8), (5, 6))),
+                      Set(ZONOTOPE, ((9, 0), (0, 1), (0, 0))), ((1_000, -1), (0, 2), (1_000, -1)),
+                      ((2, -(2**63)), (0, 2**63 - 1), (2, -(2**63))), (0, -1))
+        rest = "00" * 16
+        self.assertEqual(exact.canonical(model), bytes.fromhex(
+            "01 02 0001"
+            f"02 00 01000000 FEFFFFFF {rest} 02 01 03000000 04000000 {rest}"
+            f"05 00000000 FFFFFFFF {rest}"
+            f"14 05000000 06000000 {rest} 14 F9FFFFFF 08000000 {rest} 14 05000000 06000000 {rest}"
+            f"22 09000000 00000000 {rest} 23 00000000 01000000 {rest} 23 00000000 00000000 {rest}"
+            f"30 E8030000 FFFFFFFF {rest} 30 00000000 02000000 {rest} 30 E8030000 FFFFFFFF {rest}"
+            "40 02 0000000000000080 40 00 FFFFFFFFFFFFFF7F 40 02 0000000000000080 FF"
+        ))
+
+    def test_every_way_to_save_a_model_gives_one_file(self):
+        zero = box((0, 0), (0, 0))
+        start = Model(2, 120, ((-1, 0), (0, 131_072)), zero, zero, ((1, 0),), ((0, 4),))
+        some = Model(2, 3, ((0, 0), (7, 0)), zero, Set(VERTICES, ((0, 0),)), ((1, 0),), (), (0, 5))
+        for model, ways in ((start, 2 * 2 * 4 * 2), (some, 4 * 2)):
+            data = list(saved_ways(model))
+            self.assertEqual(len(data), ways)
+            self.assertEqual({exact.canonical(exact.read_model(way)) for way in data},
+                             {exact.canonical(model)})
+
+    def test_reading_gives_the_model_back(self):
+        rng = random.Random(8)
+        seen = collections.Counter()
+        by_bytes = {}
+        for _ in range(1_500):
+            model = models.random_model(rng)
+            data = exact.canonical(model)
+            self.assertEqual(exact.read_model(data), model)
+            self.assertEqual(exact.canonical(exact.read_model(data)), data)
+            self.assertEqual(by_bytes.setdefault(data, model), model)
+            seen[any(model.drift), states_input(data)] += 1
+        self.assertEqual(len(seen), 4)
+        self.assertGreater(min(seen.values()), 50, seen)
+
+    def test_an_accepted_file_is_no_shorter(self):
+        for data in itertools.islice(models.stream(8, 2_000), 2_000):
+            model = exact.read_model(data)
+            if not isinstance(model, Refusal):
+                self.assertLessEqual(len(exact.canonical(model)), len(data))
+                self.assertEqual(exact.read_model(exact.canonical(model)), model)
+
+    def test_the_longest(self):
+        points = Set(VERTICES, ((1,) * 6,) * 16)
+        model = Model(6, 256, ((0,) * 6,) * 6, points, points, ((1,) * 6,) * 16, ((15, 0),) * 16,
+                      (1,) * 6)
+        self.assertEqual((len(exact.canonical(model)), LONGEST_WRITTEN), (1_546, 1_546))
+        # Head, rows, drift, points, directions, guards and end at their most.
+        self.assertEqual(4 + 6 * 26 + 25 + 2 * 16 * 25 + 16 * 25 + 16 * 10 + 1, LONGEST_WRITTEN)
+
+
 def values_by_runs(model):
     """The exact largest values over all corner runs, each counted whole by the run's definition."""
     largest = [[None] * (model.steps + 1) for _ in model.directions]
@@ -1295,6 +1403,15 @@ class Command(unittest.TestCase):
         self.assertEqual((out, status), (b"", 1))
         self.assertEqual(said, run_tool("pack.py", "pack", "-", stdin=wrong)[1])
         self.assertEqual(said.count("\n"), 2)
+
+    def test_canonical(self):
+        saved = SAMPLE.replace(b"\x10", b"\x05" + bytes(24) + b"\x10", 1)
+        self.assertEqual(run_tool("exact.py", "--canonical", "-", stdin=saved), (SAMPLE, "", 0))
+        out, said, status = run_tool("exact.py", "--canonical", "-", stdin=SAMPLE[:-1])
+        self.assertEqual((out, status), (b"", 1))
+        self.assertIn("refused 1 at 185", said)
+        out, said, status = run_tool("exact.py", "--canonical", "--check", "-", stdin=SAMPLE)
+        self.assertEqual((out, status), (b"", 2))
 
     def test_a_refused_file_is_told_in_words(self):
         out, said, status = run_tool("exact.py", "-", stdin=SAMPLE[:-1])
