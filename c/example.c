@@ -1,9 +1,9 @@
 /* The C interface in use. Makes the specification's sample file (Listing 8), sweeps its direction, judges its guards, sweeps the
  * same model with a fitted row, sweeps and judges the model of Figures 24, which has a drift, makes two steps of Figures 5 and two
- * of Figures 17, lists the sample in one call, and shows refusals: six files, a direction with growth (Figures 8), calls that ask
- * for what isn't there, and a buffer that is too small. What it writes is compared with expected.txt. Returns 1 where a call is
- * refused that should not be, or finishes that should not, or where a number is taken for one that refuses the file and isn't, or
- * the other way round. */
+ * of Figures 17, lists the sample in one call, writes the one file of models that were saved in several ways, and shows refusals:
+ * six files, a direction with growth (Figures 8), calls that ask for what isn't there, and memory that is too small. What it writes
+ * is compared with expected.txt. Returns 1 where a call is refused that should not be, or finishes that should not, or changes
+ * memory that it should not, or where a number is taken for one that refuses the file and isn't, or the other way round. */
 #include "pepperscarp.h"
 
 #include <inttypes.h>
@@ -182,21 +182,54 @@ static void step(size_t n, const int32_t matrix[36], int64_t r[6], int64_t e[6],
            PEPPERSCARP_FIGURE(answer));
 }
 
+/* From this place on the bytes are still 255. */
+static void expect_255(const uint8_t *bytes, size_t from, size_t count)
+{
+    for (; from < count; from++)
+        if (bytes[from] != 255)
+            wrong = 1;
+}
+
 static uint8_t text[PEPPERSCARP_LISTING_ROOM];
 
-/* The text of a file, with so much room. The bytes behind it stay 255. */
+/* The text of a file, with so much room. The bytes behind it stay as they were. */
 static void list(const struct file *f, size_t room, int finished)
 {
-    size_t count, k;
+    size_t count;
     memset(text, 255, sizeof text);
     count = pepperscarp_listing(f->bytes, f->length, text, room);
     if ((count != 0) != finished)
         wrong = 1;
-    for (k = count; k < sizeof text; k++)
-        if (text[k] != 255)
-            wrong = 1;
+    expect_255(text, count, sizeof text);
     printf("%zu bytes of text\n", count);
     fwrite(text, 1, count, stdout);
+}
+
+static uint8_t written[PEPPERSCARP_WRITE_ROOM];
+
+/* The one file of a file's model, with so much room, compared with the file that it should be. The bytes behind it stay as they
+ * were. */
+static void write_one(const struct file *f, const struct file *one, size_t room, unsigned number)
+{
+    uint64_t answer;
+    size_t count = 0;
+    memset(written, 255, sizeof written);
+    answer = pepperscarp_write(f->bytes, f->length, written, room);
+    expect(number, answer);
+    switch (PEPPERSCARP_NUMBER(answer)) {
+    case PEPPERSCARP_FINISHED:
+        count = PEPPERSCARP_FIGURE(answer);
+        printf("%zu bytes written as %zu\n", f->length, count);
+        if (count != one->length || memcmp(written, one->bytes, count) != 0)
+            wrong = 1;
+        break;
+    case PEPPERSCARP_TOO_SHORT:
+        printf("not written into %zu bytes\n", room);
+        break;
+    default:
+        write_refusal(answer);
+    }
+    expect_255(written, count, sizeof written);
 }
 
 /* Of each number that an answer has room for, with some verdict and figure beside it, whether it refuses the file. The argument is
@@ -235,6 +268,7 @@ int main(void)
     int64_t e[6] = {0};
     struct file sample = model(3), fitted = model(3), beyond = model(3), growing = model(11);
     struct file drifting = model(2), too_far = model(3), together = model(3), unclean;
+    struct file otherwise = model(3), unstated = model(0), outright = model(PEPPERSCARP_STEPS_DEFAULT);
     int64_t level;
 
     put_scaled(&sample, 32768);
@@ -256,8 +290,17 @@ int main(void)
     put_scaled(&together, 32768);
     put_drift(&together, 1048576);
     put_sets(&together, none, to_one);
-    for (level = 1; level <= 3; level++)
+    put_fitted(&otherwise, 0.5);
+    put_drift(&otherwise, 0);
+    put_sets(&otherwise, none, to_one);
+    put_scaled(&unstated, 32768);
+    put_sets(&unstated, none, none);
+    put_scaled(&outright, 32768);
+    put_sets(&outright, none, NULL);
+    for (level = 1; level <= 3; level++) {
         put_guard(&sample, level);
+        put_guard(&otherwise, level);
+    }
     put_end(&sample);
     put_end(&fitted);
     put_end(&beyond);
@@ -265,6 +308,9 @@ int main(void)
     put_end(&drifting);
     put_end(&too_far);
     put_end(&together);
+    put_end(&otherwise);
+    put_end(&unstated);
+    put_end(&outright);
     unclean = sample;
     unclean.bytes[10] = 1; /* the second entry of the row */
 
@@ -293,6 +339,13 @@ int main(void)
 
     list(&sample, sizeof text, 1);
     list(&sample, sizeof text - 1, 0);
+
+    write_one(&sample, &sample, sizeof written, PEPPERSCARP_FINISHED);
+    write_one(&otherwise, &sample, sample.length, PEPPERSCARP_FINISHED);
+    write_one(&unstated, &outright, sizeof written, PEPPERSCARP_FINISHED);
+    write_one(&outright, &outright, sizeof written, PEPPERSCARP_FINISHED);
+    write_one(&otherwise, &sample, sample.length - 1, PEPPERSCARP_TOO_SHORT);
+    write_one(&unclean, &sample, 0, 16);
 
     memset(bounds, 255, sizeof bounds);
     memset(slacks, 255, sizeof slacks);

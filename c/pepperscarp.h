@@ -1,11 +1,11 @@
 /* Pepperscarp: envelopes of stepped linear models, from C and C++. docs/SPECIFICATION.md says what the figures are.
  *
- * Answers. Every call is answered, whatever the values. A refusal by step, sweep or judge has a number, 1 to 17 (the
+ * Answers. Every call is answered, whatever the values. A refusal by step, sweep, judge or write has a number, 1 to 17 or 22 (the
  * specification's "Refusals" says what each means), and leaves the lent memory as it was.
  *
  * Memory. Pointers must not be null, not even for a list of no elements; each must lead to as many elements as its length says;
- * and the memory of a list that is written must overlap nothing else that the same call is lent. Lists of int32_t stand at a
- * multiple of 4 bytes and lists of int64_t at a multiple of 8; `file` and `out` may stand anywhere.
+ * and memory that is written must overlap nothing else that the same call is lent. Lists of int32_t stand at a multiple of 4 bytes
+ * and lists of int64_t at a multiple of 8; `file` and `out` may stand anywhere.
  *
  * Threads. The functions keep no state: the archive has no memory of its own that could be written, and a call touches what it is
  * lent and its stack. Any number of threads may call at once, and a call may be made from a signal handler or an interrupt while
@@ -35,7 +35,7 @@
 extern "C" {
 #endif
 
-/* What step, sweep and judge return is one number, number + 256 * verdict + 65536 * figure. These take it apart. A call has
+/* What step, sweep, judge and write return is one number, number + 256 * verdict + 65536 * figure. These take it apart. A call has
  * finished where PEPPERSCARP_NUMBER is 0; the returned value itself is then seldom 0. */
 #define PEPPERSCARP_NUMBER(answer) ((unsigned)((uint64_t)(answer) & 255u))
 #define PEPPERSCARP_VERDICT(answer) ((unsigned)(((uint64_t)(answer) >> 8) & 255u))
@@ -52,6 +52,7 @@ extern "C" {
 #define PEPPERSCARP_NOT_THERE 12u    /* no such direction, or no such guard */
 #define PEPPERSCARP_WRONG_LENGTH 13u /* a list has other than K + 1 elements */
 #define PEPPERSCARP_GROWTH 14u       /* growth; the figure is the first such step */
+#define PEPPERSCARP_TOO_SHORT 22u    /* what would be written is longer than the room for it */
 
 /* Whether an answer refuses the file, 1 or 0. */
 #define PEPPERSCARP_FILE_REFUSED(answer) pepperscarp_file_refused((uint64_t)(answer))
@@ -66,14 +67,15 @@ static inline int pepperscarp_file_refused(uint64_t answer)
 #define PEPPERSCARP_UNKNOWN 2u /* not settled; the figure is the first step whose bound reaches the level */
 #define PEPPERSCARP_CLEAR 3u   /* no run reaches the level at any step */
 
-/* The most stack that a call takes, in bytes, its return address among them. Sweep, judge and listing have 2,000 bytes of it as
- * room for memcpy and memset; their binding by the dynamic linker at the first call fits too (measured with glibc). Frames are
- * touched page by page from above, so that a guard page of 4,096 bytes stops a call that has too little stack. c/test measures the
- * four, and refuses a figure that is below the need or above twice the need. */
+/* The most stack that a call takes, in bytes, its return address among them. All but the step have 2,000 bytes of it as room for
+ * memcpy and memset; their binding by the dynamic linker at the first call fits too (measured with glibc). Frames are touched page
+ * by page from above, so that a guard page of 4,096 bytes stops a call that has too little stack. c/test measures the five, and
+ * refuses a figure that is below the need or above twice the need. */
 #define PEPPERSCARP_STEP_STACK 512
 #define PEPPERSCARP_SWEEP_STACK 24576
 #define PEPPERSCARP_JUDGE_STACK 24576
 #define PEPPERSCARP_LISTING_STACK 32768
+#define PEPPERSCARP_WRITE_STACK 24576
 
 /* The most steps that a model has. Lists of one more suffice for every model, lent with a length of K + 1. */
 #define PEPPERSCARP_STEPS_MOST 256
@@ -118,6 +120,20 @@ uint64_t pepperscarp_judge(const uint8_t *file, size_t file_length, size_t guard
  * Returns how many bytes of text stand at the start of `out`; no zero follows them, and what lies behind them is as it was.
  * Returns 0, with `out` as it was, where it has less room. */
 size_t pepperscarp_listing(const uint8_t *file, size_t file_length, uint8_t *out, size_t out_length);
+
+/* Room for every file that is written, in bytes. */
+#define PEPPERSCARP_WRITE_ROOM 1546
+
+/* The one file of the model that a model file holds. Takes the file's bytes and room for what is written, which must not be the
+ * file itself or a part of it. However a model was saved, the same bytes are written: the head names the steps, a fitted row
+ * becomes the scaled row of its rounded entries, a drift of zeros and an input box of zeros are left out, and all else stands as
+ * and in the order in which it was. Two files have the same bytes written for them just where their models are equal in every
+ * stored number.
+ * Number 0: the file stands at the start of `out`, and the figure is its length; what lies behind it is as it was. Reading it
+ * gives the same model.
+ * Numbers 1 to 10 and 15 to 17: the file is refused. 22: `out` is shorter than what would be written. The first that applies is
+ * answered, in this order, and `out` is as it was. 11 never comes, as for the sweep. */
+uint64_t pepperscarp_write(const uint8_t *file, size_t file_length, uint8_t *out, size_t out_length);
 
 #ifdef __cplusplus
 }

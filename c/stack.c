@@ -5,7 +5,7 @@
  *
  * The calls: steps that are accepted and steps that are refused; the files that the arguments name; the largest models with scaled
  * rows and with fitted ones and a drift, and every pair of kinds of sets, and those with two of a kind cut at every length and with
- * every third byte changed; growth; directions and guards that aren't there, and lists and buffers of a wrong length.
+ * every third byte changed; growth; directions and guards that aren't there, and lists and memory of a wrong length.
  *
  * What is measured is how far the stack pointer went: each deepest path ends in a function that pushes registers.
  * Returns 1 where a need is above its figure, or a figure above twice the need, or a call isn't answered as it should be. */
@@ -20,16 +20,17 @@ static int wrong = 0;
 
 /* ---- the call */
 
-enum { STEP, SWEEP, JUDGE, LISTING, FUNCTIONS };
+enum { STEP, SWEEP, JUDGE, LISTING, WRITE, FUNCTIONS };
 
 typedef uint64_t step_function(size_t, const int32_t *, int64_t *, int64_t *);
 typedef uint64_t list_function(const uint8_t *, size_t, size_t, int64_t *, size_t, int64_t *, size_t);
-typedef size_t text_function(const uint8_t *, size_t, uint8_t *, size_t);
+/* The listing and the writing: on x86-64 a size_t is a uint64_t. */
+typedef uint64_t bytes_function(const uint8_t *, size_t, uint8_t *, size_t);
 
 /* The functions that `call` calls. It can't know which they are. */
 static step_function *volatile step_called;
 static list_function *volatile list_called;
-static text_function *volatile text_called;
+static bytes_function *volatile bytes_called;
 
 static int function;
 static size_t n, length, number, rows, room;
@@ -37,7 +38,7 @@ static int32_t matrix[36];
 static int64_t r[6], e[6];
 static const uint8_t *file;
 static int64_t bounds[PEPPERSCARP_STEPS_MOST + 1], slacks[PEPPERSCARP_STEPS_MOST + 1];
-static uint8_t text[PEPPERSCARP_LISTING_ROOM];
+static uint8_t out[PEPPERSCARP_LISTING_ROOM];
 static uint64_t answer;
 
 static void call(void)
@@ -47,7 +48,8 @@ static void call(void)
         answer = step_called(n, matrix, r, e);
         break;
     case LISTING:
-        answer = text_called(file, length, text, room);
+    case WRITE:
+        answer = bytes_called(file, length, out, room);
         break;
     default:
         answer = list_called(file, length, number, bounds, rows, slacks, rows);
@@ -68,7 +70,7 @@ static uint64_t no_list(const uint8_t *a, size_t b, size_t c, int64_t *d, size_t
     return 0;
 }
 
-static size_t no_text(const uint8_t *a, size_t b, uint8_t *c, size_t d)
+static uint64_t no_bytes(const uint8_t *a, size_t b, uint8_t *c, size_t d)
 {
     (void)a, (void)b, (void)c, (void)d;
     return 0;
@@ -125,7 +127,7 @@ static void measure(int which)
     function = which;
     step_called = pepperscarp_step;
     list_called = which == SWEEP ? pepperscarp_sweep : pepperscarp_judge;
-    text_called = pepperscarp_listing;
+    bytes_called = which == WRITE ? pepperscarp_write : pepperscarp_listing;
     taken = deepest() - idle[which] + RETURN_ADDRESS;
     if (taken > need[which])
         need[which] = taken;
@@ -135,7 +137,7 @@ static void measure_idle(void)
 {
     step_called = no_step;
     list_called = no_list;
-    text_called = no_text;
+    bytes_called = no_bytes;
     for (function = 0; function < FUNCTIONS; function++)
         idle[function] = deepest();
 }
@@ -186,7 +188,15 @@ static void one_call(int which, size_t asked, size_t lent)
     measure(which);
 }
 
-/* The sweep of direction 0, the judge of guard 0 and the text, with what PEPPERSCARP_NUMBER says of the sweep. */
+/* The writing with so much room: a file that the sweep refused has the same number, any other has the one that is expected. */
+static void write_call(size_t lent, unsigned said, unsigned expected)
+{
+    one_call(WRITE, 0, lent);
+    if (PEPPERSCARP_NUMBER(answer) != (PEPPERSCARP_FILE_REFUSED(said) ? said : expected))
+        wrong = 1;
+}
+
+/* The sweep of direction 0, the judge of guard 0, the text and the written file, with what PEPPERSCARP_NUMBER says of the sweep. */
 static unsigned plain_calls(const uint8_t *bytes, size_t count)
 {
     unsigned said;
@@ -198,13 +208,14 @@ static unsigned plain_calls(const uint8_t *bytes, size_t count)
     one_call(SWEEP, 0, k + 1);
     said = PEPPERSCARP_NUMBER(answer);
     one_call(JUDGE, 0, k + 1);
-    one_call(LISTING, 0, sizeof text);
+    one_call(LISTING, 0, sizeof out);
     if (answer == 0)
         wrong = 1;
+    write_call(PEPPERSCARP_WRITE_ROOM, said, PEPPERSCARP_FINISHED);
     return said;
 }
 
-/* The same, then a direction and a guard that aren't there, and lists and a buffer that are too short. */
+/* The same, then a direction and a guard that aren't there, and lists and memory that are too short. */
 static unsigned all_calls(const uint8_t *bytes, size_t count)
 {
     unsigned said = plain_calls(bytes, count);
@@ -213,9 +224,10 @@ static unsigned all_calls(const uint8_t *bytes, size_t count)
         one_call(which, 16, PEPPERSCARP_STEPS_MOST + 1);
         one_call(which, 0, 0);
     }
-    one_call(LISTING, 0, sizeof text - 1);
+    one_call(LISTING, 0, sizeof out - 1);
     if (answer != 0)
         wrong = 1;
+    write_call(0, said, PEPPERSCARP_TOO_SHORT);
     return said;
 }
 
@@ -337,9 +349,9 @@ static void write_count(size_t count)
 
 int main(int count, char **words)
 {
-    static const char *const names[FUNCTIONS] = {"step", "sweep", "judge", "listing"};
+    static const char *const names[FUNCTIONS] = {"step", "sweep", "judge", "listing", "write"};
     static const size_t figures[FUNCTIONS] = {PEPPERSCARP_STEP_STACK, PEPPERSCARP_SWEEP_STACK, PEPPERSCARP_JUDGE_STACK,
-                                              PEPPERSCARP_LISTING_STACK};
+                                              PEPPERSCARP_LISTING_STACK, PEPPERSCARP_WRITE_STACK};
     static uint8_t read[4096];
     struct model m = largest(SCALED, 10000, 0, 0);
     FILE *in;
@@ -347,7 +359,7 @@ int main(int count, char **words)
     int i;
 
     /* What the dynamic linker does at the first call of memcpy and memset isn't measured. */
-    pepperscarp_listing(m.bytes, m.length, text, sizeof text);
+    pepperscarp_listing(m.bytes, m.length, out, sizeof out);
     measure_idle();
     steps();
     models(SCALED);

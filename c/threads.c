@@ -1,5 +1,5 @@
-/* Calls the C interface from sixteen threads at once. One thread alone first calls step, sweep, judge and listing for every file
- * that an argument names, and keeps every answer and every byte of the lent memory. Then sixteen threads, which start together,
+/* Calls the C interface from sixteen threads at once. One thread alone first calls step, sweep, judge, listing and write for every
+ * file that an argument names, and keeps every answer and every byte of the lent memory. Then sixteen threads, which start together,
  * make the same calls again, each from another file on and with memory of its own, and compare. Half of the threads lend a copy of
  * the file, the others all the same bytes. What a thread lends is aligned no better than the header asks, with every remainder.
  * Returns 1 where a file can't be read, a thread can't be started or anything differs. */
@@ -41,7 +41,7 @@ struct worker {
     int64_t r[6 + 1], e[6 + 1];
     int64_t bounds[LIST + 1], slacks[LIST + 1];
     uint8_t file[FILE_MOST + THREADS];
-    uint8_t text[PEPPERSCARP_LISTING_ROOM + THREADS];
+    uint8_t out[PEPPERSCARP_LISTING_ROOM + THREADS];
 };
 
 /* Keeps the bytes, where this is the thread alone; compares them with what it kept, where not. */
@@ -113,18 +113,39 @@ static void lists(struct worker *w, struct model *m, const uint8_t *file, int ju
     } while (PEPPERSCARP_NUMBER(answer) == PEPPERSCARP_FINISHED || PEPPERSCARP_NUMBER(answer) == PEPPERSCARP_GROWTH);
 }
 
-/* The listing. The bytes behind the text stay as they were. */
+/* What a call answered and wrote. The bytes behind it, up to the end of the room, stay as they were. */
+static void note_bytes(struct worker *w, struct model *m, uint64_t answer, const uint8_t *out, size_t count, size_t room)
+{
+    size_t rest = room - count;
+    note_answer(w, m, answer);
+    note(w, m, out, count);
+    if (rest > 0 && (out[count] != FILL || memcmp(out + count, out + count + 1, rest - 1) != 0))
+        w->differences++;
+}
+
 static void listing(struct worker *w, struct model *m, const uint8_t *file)
 {
-    uint8_t *text = w->text + w->number;
-    size_t count, rest;
+    uint8_t *text = w->out + w->number;
+    size_t count;
     memset(text, FILL, PEPPERSCARP_LISTING_ROOM);
     count = pepperscarp_listing(file, m->length, text, PEPPERSCARP_LISTING_ROOM);
-    note_answer(w, m, count);
-    note(w, m, text, count);
-    rest = PEPPERSCARP_LISTING_ROOM - count;
-    if (count == 0 || (rest > 0 && (text[count] != FILL || memcmp(text + count, text + count + 1, rest - 1) != 0)))
+    note_bytes(w, m, count, text, count, PEPPERSCARP_LISTING_ROOM);
+    if (count == 0)
         w->differences++;
+}
+
+/* The writing, with room for every file and with none. */
+static void writing(struct worker *w, struct model *m, const uint8_t *file)
+{
+    uint8_t *out = w->out + w->number;
+    uint64_t answer;
+    size_t count;
+    memset(out, FILL, PEPPERSCARP_WRITE_ROOM);
+    answer = pepperscarp_write(file, m->length, out, 0);
+    note_bytes(w, m, answer, out, 0, PEPPERSCARP_WRITE_ROOM);
+    answer = pepperscarp_write(file, m->length, out, PEPPERSCARP_WRITE_ROOM);
+    count = PEPPERSCARP_NUMBER(answer) == PEPPERSCARP_FINISHED ? PEPPERSCARP_FIGURE(answer) : 0;
+    note_bytes(w, m, answer, out, count, PEPPERSCARP_WRITE_ROOM);
 }
 
 static void all_calls(struct worker *w, struct model *m)
@@ -139,6 +160,7 @@ static void all_calls(struct worker *w, struct model *m)
     lists(w, m, file, 0);
     lists(w, m, file, 1);
     listing(w, m, file);
+    writing(w, m, file);
     if (!w->alone && w->place != m->kept_length)
         w->differences++;
 }

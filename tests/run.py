@@ -4,14 +4,12 @@
     run.py
 
 Each test has a small clone of its own, with the built program, target/bin/envelope, and fails where
-there is none. Nothing is proved: the `rt` of a clone only writes rows as the real one does, and
-notes how it was called.
+there is none. Nothing is proved (`clones`).
 """
 
 from __future__ import annotations
 
 import errno
-import fcntl
 import os
 import re
 import shutil
@@ -22,162 +20,26 @@ import tempfile
 import time
 import unittest
 from pathlib import Path
-from typing import Callable, Sequence
 
-ROOT = Path(__file__).resolve().parent.parent
-EXAMPLES = ROOT / "examples"
-RAIL_BIN, RAIL_TEXT = EXAMPLES / "rail.bin", EXAMPLES / "rail.listing"
-SAMPLE = (ROOT / "crates" / "envelope" / "stdin").read_bytes()
-SAMPLE_TEXT = (ROOT / "crates" / "envelope" / "stdout").read_bytes()
+from clones import (
+    EXAMPLES, ROOT, SAMPLE, SAMPLE_TEXT, TIME_LIMIT, Clone, crates_of, heed_signals, is_free, script,
+    until,
+)
+
 sys.path.insert(0, str(ROOT / "tools"))
 
 import pack  # noqa: E402
 
+RAIL_BIN, RAIL_TEXT = EXAMPLES / "rail.bin", EXAMPLES / "rail.listing"
 # A text of the rail with whole numbers, so that nothing is rounded and nothing is said of it.
 TEXTS = tempfile.TemporaryDirectory()
 RAIL = Path(TEXTS.name) / "rail.model"
 RAIL.write_text(pack.unpack(RAIL_BIN.read_bytes()))
-TIME_LIMIT = 20  # seconds; a command that has not ended by then hangs
-# What `run` calls, beside the program.
-COMMANDS = (
-    "awk bash find flock head mkdir mkfifo mktemp od python3 readlink rm sed tac touch wc".split()
-)
-# The crates that the program is made of. Not each has all parts.
-(ROW,) = re.findall(r"^envelope:([^#\n]*)", (ROOT / "crates.txt").read_text(), re.MULTILINE)
-USED = [name for name in ROW.split() if (ROOT / "crates" / name).is_dir()] + ["envelope"]
-OTHER_FILES = ("reader/specs/Some.antt", "reader/proofs/some/Proof.antt", "reader/must-fail/some.edit")
-# An `rt`. Like the real one it leaves the program alone where its stamp is there.
-RT = """#!/usr/bin/env bash
-echo "$*" >> '{notes}/calls'
-mkdir '{notes}/busy' || echo two >> '{notes}/overlaps'
-for crate in {crates}; do echo "fn $crate::some: proved"; echo "rt: $crate proved (3 s)"; done
-sleep {seconds}
-[ -e target/stamp/envelope ] || {{ mkdir -p target/bin && cp '{program}' target/bin/envelope; }}
-{last}
-status=$?
-rmdir '{notes}/busy'
-exit $status
-"""
+USED = crates_of("envelope")
 
 
 def setUpModule() -> None:
-    # What a shell starts in the background ignores these, and hands that on.
-    for signal_ in (signal.SIGINT, signal.SIGHUP):
-        signal.signal(signal_, lambda *_: sys.exit(2))
-
-
-def script(path: Path, text: str) -> None:
-    path.write_text(text)
-    path.chmod(0o755)
-
-
-def until(condition: Callable[[], bool]) -> None:
-    """Wait for something that another process does."""
-    limit = time.monotonic() + TIME_LIMIT
-    while not condition():
-        assert time.monotonic() < limit, "it does not come"
-        time.sleep(0.01)
-
-
-def end(started: subprocess.Popen[bytes]) -> None:
-    with started:
-        started.kill()
-
-
-class Clone(unittest.TestCase):
-    """A clone in a folder of its own, whose program is newer than its sources."""
-
-    def setUp(self) -> None:
-        self.folder = Path(tempfile.mkdtemp())
-        self.addCleanup(shutil.rmtree, self.folder, ignore_errors=True)
-        self.clone, self.notes, self.temporary, self.bin = (
-            self.folder / name for name in ("clone", "notes", "temporary", "bin")
-        )
-        for folder in (self.clone, self.notes, self.temporary, self.bin):
-            folder.mkdir()
-        for name in ("run", "VERSION", "crates.txt"):
-            shutil.copy(ROOT / name, self.clone / name)
-        (self.clone / "tools").symlink_to(ROOT / "tools")
-        for file in (*(f"{crate}/src/lib.rt" for crate in [*USED, "figures"]), *OTHER_FILES):
-            (self.clone / "crates" / file).parent.mkdir(parents=True)
-            (self.clone / "crates" / file).touch()
-        self.program = self.clone / "target" / "bin" / "envelope"
-        self.program.parent.mkdir(parents=True)
-        shutil.copy(ROOT / "target" / "bin" / "envelope", self.program)
-        (self.bin / "python3").symlink_to(sys.executable)
-        self.rt()
-
-    def rt(self, last: str = "true", seconds: float = 0, crates: list[str] = USED) -> None:
-        """An `rt` that sleeps, and ends with a command of the test's."""
-        script(
-            self.bin / "rt",
-            RT.format(
-                notes=self.notes, program=ROOT / "target" / "bin" / "envelope",
-                crates=" ".join(crates), seconds=seconds, last=last,
-            ),
-        )
-
-    def stamp(self) -> None:
-        """Let `rt` leave the program alone."""
-        stamp = self.clone / "target" / "stamp" / "envelope"
-        stamp.parent.mkdir()
-        stamp.touch()
-
-    def path(self, without: str = "", more: Sequence[str] = ()) -> str:
-        """A PATH with what `run` calls and no more."""
-        places = {"python3": sys.executable, "rt": self.bin / "rt"}
-        folder = self.folder / "path"
-        folder.mkdir()
-        for name in {*COMMANDS, *more} - {without}:
-            (folder / name).symlink_to(places.get(name) or str(shutil.which(name)))
-        return str(folder)
-
-    def start(
-        self, *words: str | Path, path: str | None = None, command: str | Path | None = None, **how
-    ) -> subprocess.Popen[bytes]:
-        """Start `run`, or another command."""
-        path = path or f"{self.bin}:{os.environ['PATH']}"
-        how = {"stdin": subprocess.DEVNULL, "stdout": subprocess.PIPE, "stderr": subprocess.PIPE, **how}
-        started = subprocess.Popen(
-            [command or self.clone / "run", *words],
-            env={**os.environ, "TMPDIR": str(self.temporary), "PATH": path}, bufsize=0, **how,
-        )
-        self.addCleanup(end, started)
-        return started
-
-    def run_on(
-        self, *words: str | Path, data: bytes | None = None, **how
-    ) -> subprocess.CompletedProcess[bytes]:
-        if data is not None:
-            how["stdin"] = subprocess.PIPE
-        started = self.start(*words, **how)
-        out, err = started.communicate(data, TIME_LIMIT)
-        self.assertEqual(list(self.temporary.iterdir()), [], "temporary files are left")
-        return subprocess.CompletedProcess(words, started.returncode, out, err)
-
-    def assert_done(
-        self, done: subprocess.CompletedProcess[bytes], status: int, out: bytes, err: bytes | None = None
-    ) -> None:
-        self.assertEqual((done.returncode, done.stdout), (status, out), done.stderr)
-        if err is not None:
-            self.assertEqual(done.stderr, err)
-
-    def calls(self) -> int:
-        """How often `rt` was called."""
-        calls = self.notes / "calls"
-        return len(calls.read_text().splitlines()) if calls.exists() else 0
-
-    def make_newer(self, file: Path) -> None:
-        """Changed a second after the program was built."""
-        time_ = self.program.stat().st_mtime + 1
-        os.utime(file, (time_, time_))
-
-    def age(self) -> None:
-        """Put everything an hour back, so that whatever is done now is newer."""
-        hour_ago = time.time() - 3600
-        for file in [self.clone / "crates.txt", *self.clone.glob("crates/**/*")]:
-            os.utime(file, (hour_ago, hour_ago))
-        os.utime(self.program, (hour_ago + 1, hour_ago + 1))
+    heed_signals()
 
 
 class Models(Clone):
@@ -713,15 +575,6 @@ class Build(Clone):
         (self.clone / "target").touch()
         done = self.run_on(RAIL_BIN)
         self.assert_done(done, 2, b"", b"run: %s/target can't be written\n" % bytes(self.clone))
-
-
-def is_free(lock: int) -> bool:
-    """Whether a lock can be had; it then is held."""
-    try:
-        fcntl.flock(lock, fcntl.LOCK_EX | fcntl.LOCK_NB)
-    except BlockingIOError:
-        return False
-    return True
 
 
 class Without(Clone):

@@ -7,10 +7,14 @@ read or written.
 
 from __future__ import annotations
 
+import contextlib
 import errno
 import os
 import re
+import signal
+import stat
 import sys
+import tempfile
 import traceback
 from typing import Callable, TextIO
 
@@ -21,6 +25,7 @@ CONTROL = re.compile(rb"[\x00-\x08\x0B\x0C\x0E-\x1F\x7F]")
 OTHER_END = re.compile(rb"\r(?!\r*$)|\xC2\x85|\xE2\x80[\xA8\xA9]")
 WIDE = (b"\xff\xfe", b"\xfe\xff", b"\0\0\xfe\xff")  # what UTF-16 and UTF-32 start with
 MOST_WRONG = 5  # rows with wrong bytes, beyond which bytes are no text at all
+MOST_LINKS = 40  # that are followed from a path
 
 
 class Failure(Exception):
@@ -121,6 +126,72 @@ def write_bytes(path: str | None, data: bytes) -> None:
         if path is None or path == "-":
             sys.stdout = None
             path = "standard output"
+        reason = getattr(error, "strerror", None) or error
+        raise AccessFailure(f"{path}: cannot be written: {reason}") from None
+
+
+def _open_file(path: str) -> int | None:
+    """The number of the open file that a path such as /dev/stdout stands for."""
+    for _ in range(MOST_LINKS):
+        folder, name = os.path.split(path)
+        folder = os.path.realpath(folder)
+        if folder == f"/proc/{os.getpid()}/fd" and name.isdigit():
+            return int(name)
+        path = os.path.join(folder, name)
+        if not os.path.islink(path):
+            break
+        path = os.path.join(folder, os.readlink(path))
+    return None
+
+
+def _replace(path: str, data: bytes, old: os.stat_result | None) -> None:
+    """Put a new file in the place of an old one, or of none; the mode of an old one is kept.
+
+    Signals wait until this is done.
+    """
+    if old is not None and not os.access(path, os.W_OK):
+        raise PermissionError(errno.EACCES, os.strerror(errno.EACCES))
+    before = signal.pthread_sigmask(signal.SIG_BLOCK, signal.valid_signals())
+    try:
+        number, new = tempfile.mkstemp(".new", ".", os.path.dirname(path))
+        try:
+            with open(number, "wb") as file:
+                file.write(data)
+                file.flush()
+                if old is None:
+                    mask = os.umask(0)
+                    os.umask(mask)
+                    os.fchmod(number, 0o666 & ~mask)
+                else:
+                    with contextlib.suppress(PermissionError):
+                        os.fchown(number, old.st_uid, old.st_gid)
+                    os.fchmod(number, stat.S_IMODE(old.st_mode))
+                os.fsync(number)
+            os.replace(new, path)
+        except BaseException:
+            os.unlink(new)
+            raise
+    finally:
+        signal.pthread_sigmask(signal.SIG_SETMASK, before)
+
+
+def write_whole(path: str, data: bytes) -> None:
+    """Write a file that then stands there whole, or not at all, so that an old one is as it was.
+
+    A link is followed. What is no plain file, as a pipe, a device or /dev/stdout, is written to.
+    """
+    try:
+        if not os.path.basename(path):
+            raise IsADirectoryError(errno.EISDIR, os.strerror(errno.EISDIR))
+        number, old = _open_file(path), None
+        with contextlib.suppress(FileNotFoundError):
+            old = os.stat(path)
+        if number is None and (old is None or stat.S_ISREG(old.st_mode)):
+            _replace(os.path.realpath(path), data, old)
+            return
+        with open(path if number is None else number, "wb", closefd=number is None) as file:
+            file.write(data)
+    except (OSError, ValueError) as error:
         reason = getattr(error, "strerror", None) or error
         raise AccessFailure(f"{path}: cannot be written: {reason}") from None
 

@@ -3,8 +3,8 @@
 
 In order: the parts of an accepted model; guards near the model's own bounds; fitted rows that
 become those of the model; values beyond a limit; damaged files; rubbish beyond n, alone and beside
-another fault; points for tests that build a set point by point. Most models have few steps and
-directions, so that checking them is quick.
+another fault; points for tests that build a set point by point; all ways to save one model. Most
+models have few steps and directions, so that checking them is quick.
 
     models.py SEED NUMBER    write file NUMBER of that seed to standard output
 """
@@ -12,6 +12,7 @@ directions, so that checking them is quick.
 from __future__ import annotations
 
 import argparse
+import itertools
 import math
 import random
 import struct
@@ -21,10 +22,11 @@ from typing import Iterator
 import exact
 import files
 from layout import (
-    BODY_LENGTHS, BOX, DIRECTION, END, FITTED, GUARD, HEAD, INITIAL, INPUT, LONGEST_FILE,
-    MATRIX_UNIT, MAX_DIRECTION_ENTRY, MAX_DIRECTIONS, MAX_ENTRY, MAX_GUARDS, MAX_LEVEL, MAX_N,
-    MAX_POINTS, MAX_REACH, MAX_STEPS, MIN_LEVEL, READ_LIMIT, ROW, ROW_KINDS, VERTICES, ZONOTOPE,
-    Model, Set, Vector, drift, entry_places, guard, head, zero_box, pattern, point, records,
+    BODY_LENGTHS, BOX, DEFAULT_STEPS, DIRECTION, END, FITTED, GUARD, HEAD, INITIAL, INPUT,
+    LONGEST_FILE, MATRIX_UNIT, MAX_DIRECTION_ENTRY, MAX_DIRECTIONS, MAX_ENTRY, MAX_GUARDS,
+    MAX_LEVEL, MAX_N, MAX_POINTS, MAX_REACH, MAX_STEPS, MIN_LEVEL, READ_LIMIT, ROW, ROW_KINDS,
+    VERTICES, ZONOTOPE, Model, Set, Vector, drift, encode, entry_places, guard, head, pattern,
+    point, records, zero_box,
 )
 from listings import Growth, Refusal
 
@@ -617,6 +619,25 @@ def growing(rng: random.Random, form: str, n: int) -> tuple[Vector, ...]:
         if rng.random() < 0.2:
             points[index] = rng.choice(points[:index])
     return tuple(points)
+
+
+# Files of one model
+
+
+def saved_ways(model: Model) -> Iterator[bytes]:
+    """Files of one model: all that a save may leave out or put otherwise, in every mixture."""
+    rows = {
+        number: [pattern(entry / MATRIX_UNIT) for entry in entries]
+        for number, entries in enumerate(model.matrix)
+    }
+    zeros = {number: [bits or SIGN for bits in entries] for number, entries in rows.items()}
+    for stated, input_stated, patterns, drift_stated in itertools.product(
+        (None, 0) if model.steps == DEFAULT_STEPS else (None,),
+        (True, False) if model.input == zero_box(model.n) else (True,),
+        (None, rows, zeros, {0: rows[0]}),
+        (False, True),
+    ):
+        yield encode(model, stated, input_stated, patterns, drift_stated)
 
 
 def main() -> None:

@@ -14,8 +14,8 @@ and - is standard input. Of a folder all texts (*.model) and packed files (*.bin
 are taken, but for a packed file that its text beside it packs to, and for linked folders. Several
 models have a row each.
 
-Bounds, slacks and verdicts are those of the proved program envelope, which ./run builds where it is
-missing or older than its sources. Each direction is multiplied by the largest whole number, its
+Bounds, slacks and verdicts are those of the proved program envelope, which is built first where it
+is missing or older than its sources. Each direction is multiplied by the largest whole number, its
 factor, that the limit of its entries and the growth of the arithmetic allow, and its levels too:
 the runs are the same, and the slack shrinks by about that factor. Figures are divided by it again
 and rounded outward, so that each follows from a proved one. Where entries were rounded (~, fitted),
@@ -36,32 +36,21 @@ import argparse
 import os
 import signal
 import sys
-from typing import NoReturn, Sequence
+from typing import Sequence
 
+import commands
 import files
-from reporting import batch, data, inputs, page, program, terminal
+import inputs
+from inputs import Failed, Input
+from reporting import batch, data, page, program, terminal
 from reporting.changes import Changes, changes
-from reporting.reports import NOT_RUN, Failed, Input, Report, Result, worst
+from reporting.reports import Report, Result, worst
 
 EXAMPLES = """examples:
   ./report examples/rail.model
   ./report --html rail.html examples/rail.model
   ./report examples
   ./report examples/rail.model --against examples/rail.bin"""
-
-
-def tell(message: str) -> None:
-    """Say something on standard error, where that can be written."""
-    try:
-        if sys.stderr is not None:
-            print(message, file=sys.stderr, flush=True)
-    except OSError:
-        sys.stderr = None  # nothing more goes there, not even at exit
-
-
-class Parser(argparse.ArgumentParser):
-    def error(self, message: str) -> NoReturn:
-        raise files.AccessFailure(f"{message} (./report --help tells more)")
 
 
 def whole_number(word: str) -> int:
@@ -72,10 +61,7 @@ def whole_number(word: str) -> int:
 
 def options_of(arguments: Sequence[str]) -> argparse.Namespace:
     """The options and the models."""
-    raw = argparse.RawDescriptionHelpFormatter
-    parser = Parser(prog="./report", description=__doc__, epilog=EXAMPLES, usage=argparse.SUPPRESS,
-                    formatter_class=raw, allow_abbrev=False, add_help=False)
-    parser.add_argument("models", metavar="MODEL", nargs="*", help=argparse.SUPPRESS)
+    parser = commands.Parser("./report", __doc__, EXAMPLES)
     form = parser.add_mutually_exclusive_group()
     form.add_argument("--json", action="store_true", help="JSON in place of the text")
     form.add_argument("--csv", action="store_true", help="CSV: a row for each guard")
@@ -85,15 +71,7 @@ def options_of(arguments: Sequence[str]) -> argparse.Namespace:
     parser.add_argument("--against", metavar="OLD", help="what changed from the model OLD")
     parser.add_argument("--jobs", metavar="N", type=whole_number, default=program.cores(),
                         help="how many models at once (as many as there are cores)")
-    parser.add_argument("--help", action="store_true", help="tell this")
-    parser.add_argument("--version", action="store_true", help="tell the version")
-    options = parser.parse_args(arguments)
-    if options.help or options.version:
-        told = parser.format_help() if options.help else f"Pepperscarp {program.version()}\n"
-        files.write_bytes(None, told.encode("utf-8"))
-        sys.exit(0)
-    if not options.models:
-        parser.error("name a MODEL")
+    options = parser.parsed(arguments)
     if options.against is not None and len(options.models) != 1:
         parser.error("--against takes one MODEL")
     return options
@@ -102,12 +80,12 @@ def options_of(arguments: Sequence[str]) -> argparse.Namespace:
 def tell_failures(results: Sequence[Result]) -> None:
     for result in results:
         if isinstance(result, Failed):
-            tell(result.message)
+            commands.tell(result.message)
 
 
 def answered(words: Sequence[str], options: argparse.Namespace) -> list[Result]:
     """The results of all models. The program is built only where there is one to run it on."""
-    given = inputs.models_of(words)
+    given = inputs.models_of("report", words)
     if any(isinstance(one, Input) for one in given):
         program.ready()
     return batch.results_of(given, options.plain, options.jobs)
@@ -158,18 +136,5 @@ def run(arguments: Sequence[str]) -> int:
     return status
 
 
-def main() -> int:
-    try:
-        return run(sys.argv[1:])
-    except files.Failure as failure:
-        tell(f"report: {failure}")
-    except KeyboardInterrupt:
-        return 128 + signal.SIGINT
-    except Exception as error:
-        said = f"{type(error).__name__}: {error}"
-        tell(f"report: a fault of the tool, please tell us: {said}")
-    return NOT_RUN
-
-
 if __name__ == "__main__":
-    sys.exit(main())
+    commands.run("report", run)

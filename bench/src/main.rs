@@ -1,7 +1,9 @@
-//! Measures the sweep through the C interface against Rust of the same recurrence. Called by bench/run:
+//! Measures the sweep through the C interface against Rust of the same recurrence, and writing a model's one file against reading
+//! it. Called by bench/run:
 //!
-//!     bench report ROUNDS           agreement, the sweep, and how its time grows, as Markdown
+//!     bench report ROUNDS           agreement, the sweep, how its time grows, and writing, as Markdown
 //!     bench count WHO N SETS TIMES  does one thing so often, for an instruction counter; SETS may end in `-drift`
+//!     bench count WHO MODEL TIMES   the same for reading and writing
 //!     bench file PATH               writes the model with the largest listing
 //!     bench listing PATH            prints the listing of a model file, from the calls alone
 
@@ -10,10 +12,11 @@ mod float;
 mod models;
 mod plain;
 mod tuned;
+mod writing;
 
 use clock::{measure, Contender, Times};
 use models::{calm, drift, wordy, Sets};
-use pepperscarp::{Refusal, LISTING_ROOM};
+use pepperscarp::{Refusal, LISTING_ROOM, WRITE_ROOM};
 use std::hint::black_box;
 use std::process::exit;
 use support::records::{file, fitted, of_model, Record};
@@ -22,32 +25,33 @@ use support::{calls, listing};
 
 const SEED: u64 = 20_260_701;
 
-/// A model with its file, and room for the results.
+/// A model with its file, the file with a byte behind its end, and room for the results.
 struct Subject {
     model: Model,
     bytes: Vec<u8>,
+    byte_behind: Vec<u8>,
     bounds: Vec<i64>,
     slacks: Vec<i64>,
+    out: [u8; WRITE_ROOM],
 }
 
 impl Subject {
-    fn new(n: usize, steps: usize, sets: Sets, directions: usize) -> Subject {
-        let model = calm(SEED, n, steps, sets, directions);
-        let bytes = file(&of_model(&model));
-        Subject { model, bytes, bounds: vec![0; steps + 1], slacks: vec![0; steps + 1] }
+    fn new(model: Model) -> Subject {
+        let records = of_model(&model);
+        Subject::saved(model, &records)
     }
 
-    /// The same with a drift.
-    fn drifting(mut self) -> Subject {
-        self.model.drift = drift(SEED, self.model.n);
-        self.bytes = file(&of_model(&self.model));
-        self
+    /// With fitted rows, whose numbers are those of the scaled ones.
+    fn fitted(model: Model) -> Subject {
+        let records: Vec<Record> = of_model(&model).into_iter().map(fitted_row).collect();
+        Subject::saved(model, &records)
     }
 
-    /// The same with fitted rows, whose numbers are those of the scaled ones.
-    fn fitted(mut self) -> Subject {
-        self.bytes = file(&of_model(&self.model).into_iter().map(fitted_row).collect::<Vec<_>>());
-        self
+    fn saved(model: Model, records: &[Record]) -> Subject {
+        let bytes = file(records);
+        let byte_behind = [&bytes[..], &[0xFF]].concat();
+        let list = vec![0; model.steps + 1];
+        Subject { model, bytes, byte_behind, bounds: list.clone(), slacks: list, out: [0; WRITE_ROOM] }
     }
 
     /// One call that reads the file and sweeps.
@@ -62,6 +66,16 @@ impl Subject {
 
     fn plain(&mut self, direction: usize) -> Result<u32, Refusal> {
         plain::sweep(black_box(&self.model), black_box(direction), &mut self.bounds, &mut self.slacks)
+    }
+
+    /// One call that reads the file, tests the model and writes its one file; its length.
+    fn write(&mut self) -> Result<usize, Refusal> {
+        pepperscarp::write(black_box(&self.bytes), &mut self.out).map(<[u8]>::len)
+    }
+
+    /// One call that reads the whole file and refuses it by 10: no model is tested, and nothing is written.
+    fn read(&mut self) -> Result<usize, Refusal> {
+        pepperscarp::write(black_box(&self.byte_behind), &mut self.out).map(<[u8]>::len)
     }
 
     /// Laying out the model is a part of it.
@@ -98,12 +112,13 @@ fn main() {
     match arguments[..] {
         ["report", rounds] => report(number(rounds)),
         ["count", who, n, sets, times] => count(who, number(n), sets, number(times)),
+        ["count", who, model, times] => writing::count(who, model, number(times)),
         ["file", path] => std::fs::write(path, largest()).unwrap_or_else(|error| fail(&format!("{path}: {error}"))),
         ["listing", path] => match std::fs::read(path) {
             Ok(bytes) => print!("{}", listing::text(calls::listing(&bytes))),
             Err(error) => fail(&format!("{path}: {error}")),
         },
-        _ => fail("usage: bench report ROUNDS | count WHO N SETS TIMES | file PATH | listing PATH"),
+        _ => fail("usage: bench report ROUNDS | count WHO N SETS TIMES | count WHO MODEL TIMES | file PATH | listing PATH"),
     }
 }
 
@@ -123,6 +138,7 @@ fn report(rounds: usize) {
     growth_with_steps(rounds / 2);
     growth_with_coordinates(rounds / 2);
     growth_with_directions(rounds / 2);
+    writing::times(rounds / 2);
     listing_times(rounds / 2);
 }
 
@@ -130,15 +146,19 @@ fn report(rounds: usize) {
 
 /// All results of all versions agree, or the run ends here. The float version: how far it is off.
 fn agreement() {
-    let mut compared = 0usize;
+    let (mut compared, mut written) = (0usize, 0usize);
     let (mut below, mut above, mut outside, mut figures) = (0f64, 0f64, 0usize, 0usize);
     for (sets, drift) in CASES {
         for n in 1..=6 {
             for steps in [1, 32, 64, 128, 256] {
                 let size = Size { n, steps, sets, drift, ..Size::FULL };
-                let mut subject = size.subject();
-                let mut with_fitted = size.subject().fitted();
+                let mut subject = Subject::new(size.model());
+                let mut with_fitted = Subject::fitted(size.model());
                 let mut values = vec![0.0; steps + 1];
+                for saved in [&mut subject, &mut with_fitted] {
+                    writing::agree(saved);
+                    written += 1;
+                }
                 for direction in 0..16 {
                     let spare =
                         subject.call(direction).unwrap_or_else(|refusal| fail(&format!("the sweep is refused: {refusal}")));
@@ -171,7 +191,8 @@ fn agreement() {
     println!("## Agreement\n");
     println!(
         "{compared} sweeps, half of them with a drift: bounds, slacks and spare figures of the C interface, with scaled and with \
-         fitted rows, plain and tuned Rust agree to the last number."
+         fitted rows, plain and tuned Rust agree to the last number. {written} files: the C interface and plain Rust write the \
+         same bytes."
     );
     println!(
         "The float version, without error terms, is at most {below:.1} counts below and {above:.6} above the bound; of its {figures} \
@@ -201,13 +222,12 @@ impl Size {
         format!("{}{}", self.sets.name(), if self.drift { ", a drift" } else { "" })
     }
 
-    fn subject(self) -> Subject {
-        let subject = Subject::new(self.n, self.steps, self.sets, self.directions);
+    fn model(self) -> Model {
+        let mut model = calm(SEED, self.n, self.steps, self.sets, self.directions);
         if self.drift {
-            subject.drifting()
-        } else {
-            subject
+            model.drift = drift(SEED, self.n);
         }
+        model
     }
 
     /// A contender that takes all directions in turn, at least sixteen sweeps.
@@ -218,9 +238,10 @@ impl Size {
     }
 
     fn contenders(self) -> [Contender; 6] {
-        let (mut call, mut refused, mut plain, mut tuned) = (self.subject(), self.subject(), self.subject(), self.subject());
-        let mut with_fitted = self.subject().fitted();
-        let model = self.subject().model;
+        let subject = || Subject::new(self.model());
+        let (mut call, mut refused, mut plain, mut tuned) = (subject(), subject(), subject(), subject());
+        let mut with_fitted = Subject::fitted(self.model());
+        let model = self.model();
         let mut values = vec![0.0; self.steps + 1];
         [
             self.contender("call: reading, model test and sweep", move |d| spend(call.call(d))),
@@ -370,8 +391,8 @@ fn count(who: &str, n: usize, sets: &str, times: usize) {
         fail("N is 1 to 6");
     }
     let size = Size { n, sets, drift, ..Size::FULL };
-    let mut subject = size.subject();
-    let mut with_fitted = size.subject().fitted();
+    let mut subject = Subject::new(size.model());
+    let mut with_fitted = Subject::fitted(size.model());
     let mut values = vec![0.0; 257];
     for k in 0..times {
         let direction = k % 16;

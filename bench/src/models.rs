@@ -86,6 +86,18 @@ pub fn drift(seed: u64, n: usize) -> Six {
     Random::new(seed).point(n, -200_000, 200_000)
 }
 
+/// The model with the shortest file: one coordinate, one vertex, no input and one direction.
+pub fn shortest(seed: u64) -> Model {
+    let initial = Set { form: Form::Vertices, points: vec![Random::new(seed).point(1, 1, 1_000)] };
+    Model { initial, input: Set::zero_box(), ..calm(seed, 1, 256, Sets::Boxes, 1) }
+}
+
+/// A model with a longest file (File 9), where its rows are fitted; with scaled ones its one file is a longest of these (Writing 6).
+pub fn longest(seed: u64) -> Model {
+    let guards = (0..16).map(|k| (k, 100_000_000 * k as i64)).collect();
+    Model { drift: drift(seed, 6), guards, ..calm(seed, 6, 256, Sets::Vertices, 16) }
+}
+
 /// A model with about the largest listing there is: 16 directions and guards, 256 steps, long negative bounds and long slacks.
 pub fn wordy(seed: u64) -> Model {
     let mut random = Random::new(seed);

@@ -1,11 +1,11 @@
 //! Proved envelopes of linear models, step by step.
 //!
 //! Safe bindings of Pepperscarp's C interface. The routines behind it are proved: [`sweep`] leaves exactly the bounds and slacks
-//! of the specification (docs/SPECIFICATION.md), [`judge`] answers exactly its verdicts, [`listing`] writes exactly its text, and
-//! every file, number and list length gets its reply. This crate adds the types and no arithmetic. It is tested against a version
-//! of the specification in Rust, and not proved.
+//! of the specification (docs/SPECIFICATION.md), [`judge`] answers exactly its verdicts, [`listing`] writes exactly its text,
+//! [`write`] exactly the one file of a model, and every file, number and length gets its reply. This crate adds the types and no
+//! arithmetic. It is tested against a version of the specification in Rust, and not proved.
 //!
-//! A model is the bytes of a model file. What a call lends is filled to the end, or on a refusal is exactly as it was. Nothing is
+//! A model is the bytes of a model file. What a call is lent has the whole result, or on a refusal is exactly as it was. Nothing is
 //! kept from one call to the next, and calls from several threads do not disturb each other. A call takes at most 32,768 bytes of
 //! stack; `c/pepperscarp.h` tells what each function takes.
 //!
@@ -25,6 +25,12 @@
 //! assert_eq!((spare, bounds, slacks), (8, [15, 18, 21], [0, 0, 0]));
 //! let verdict = pepperscarp::judge(&file, 0, &mut bounds, &mut slacks)?;
 //! assert_eq!(verdict, pepperscarp::Verdict::Hit(2));
+//!
+//! // With its row as the number 1.0 the same model is saved otherwise; what is written for it is the first file.
+//! let row = [vec![0x03, 0], [1.0f64, 0.0, 0.0, 0.0, 0.0, 0.0].map(f64::to_le_bytes).concat()].concat();
+//! let otherwise = [&file[..4], &row, &file[30..]].concat();
+//! let mut out = [0; pepperscarp::WRITE_ROOM];
+//! assert_eq!(pepperscarp::write(&otherwise, &mut out)?, file);
 //! # Ok::<(), pepperscarp::Refusal>(())
 //! ```
 
@@ -41,6 +47,9 @@ pub const DEFAULT_STEPS: usize = 120;
 
 /// The room that is enough for every listing, in bytes.
 pub const LISTING_ROOM: usize = 270_000;
+
+/// The room that is enough for every file that is written, in bytes (Writing 6).
+pub const WRITE_ROOM: usize = 1_546;
 
 /// What is said of a guard (Verdicts 2 to 4). A value, direction · state, reaches its level by being at it or above (Verdicts 1).
 #[derive(Clone, Copy, PartialEq, Eq, Hash, Debug)]
@@ -71,10 +80,12 @@ pub enum Refusal {
     WrongLength,
     /// Number 14: the working figures of the direction pass their limit, first at this step.
     Growth(usize),
+    /// Number 22: the lent slice is shorter than the file that would be written.
+    TooShort,
 }
 
 impl Refusal {
-    /// The number of the refusal, 1 to 17, by the clauses "Refusals" of the specification.
+    /// The number of the refusal, 1 to 17 or 22, by the clauses "Refusals" of the specification.
     pub fn number(self) -> u8 {
         match self {
             Refusal::File { number, .. } => number,
@@ -82,6 +93,7 @@ impl Refusal {
             Refusal::NoSuchNumber => 12,
             Refusal::WrongLength => 13,
             Refusal::Growth(_) => 14,
+            Refusal::TooShort => 22,
         }
     }
 }
@@ -114,6 +126,7 @@ impl fmt::Display for Refusal {
             Refusal::NoSuchNumber => write!(f, "refused 12: no such direction or guard"),
             Refusal::WrongLength => write!(f, "refused 13: a list has other than K + 1 elements"),
             Refusal::Growth(step) => write!(f, "refused 14: growth at step {step}"),
+            Refusal::TooShort => write!(f, "refused 22: the file that would be written is longer than the room for it"),
         }
     }
 }
@@ -146,6 +159,8 @@ mod c {
         ) -> u64;
 
         pub fn pepperscarp_listing(file: *const u8, file_len: usize, out: *mut u8, out_len: usize) -> usize;
+
+        pub fn pepperscarp_write(file: *const u8, file_len: usize, out: *mut u8, out_len: usize) -> u64;
     }
 }
 
@@ -161,6 +176,7 @@ fn unpack(answer: u64) -> Result<(u8, u64), Refusal> {
         12 => Err(Refusal::NoSuchNumber),
         13 => Err(Refusal::WrongLength),
         14 => Err(Refusal::Growth(figure as usize)),
+        22 => Err(Refusal::TooShort),
         _ => unreachable!("no routine answers number {number}"),
     }
 }
@@ -237,6 +253,21 @@ pub fn listing<'a>(file: &[u8], out: &'a mut [u8]) -> Option<&'a [u8]> {
         0 => None,
         _ => Some(&out[..length]),
     }
+}
+
+/// The one file of the file's model (Writing 1, Writing 2): however the model was saved, the same bytes. They stand at the start of
+/// `out`, whose other bytes are as they were.
+///
+/// The head names the steps, a fitted row becomes the scaled row of its rounded entries, and a drift of zeros and an input box of
+/// zeros are left out. Read again, it is the same model. Two files have the same bytes written for them just where their models
+/// are equal in every stored number.
+///
+/// A file is refused by [`Refusal::File`]; then [`Refusal::TooShort`] is tested, and `out` keeps every byte. [`WRITE_ROOM`] bytes
+/// are never too short.
+pub fn write<'a>(file: &[u8], out: &'a mut [u8]) -> Result<&'a [u8], Refusal> {
+    // SAFETY: as for the listing.
+    let answer = unsafe { c::pepperscarp_write(file.as_ptr(), file.len(), out.as_mut_ptr(), out.len()) };
+    unpack(answer).map(|(_, length)| &out[..length as usize])
 }
 
 /// The length that the lists for this file have to have, K + 1, as its head says, where 0 stands for [`DEFAULT_STEPS`]; `None`

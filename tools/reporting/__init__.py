@@ -1,9 +1,8 @@
 """The parts of `report.py`, from the bottom up.
 
-    program    the proved program: built by `./run`, and called
+    program    the proved program: built, and called
     sharpen    the factor of each direction
     reports    the report of one model: its directions, their decimals, what is most urgent
-    inputs     models from files, folders, pipes and standard input
     batch      many models at once
     changes    what differs between two reports
     words      figures, steps, claims and margins in words

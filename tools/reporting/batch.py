@@ -11,9 +11,10 @@ from concurrent.futures import ProcessPoolExecutor, as_completed
 from concurrent.futures.process import BrokenProcessPool
 from typing import Iterator, NoReturn, Sequence
 
-import files
+import commands
+from inputs import Failed, Input, not_run
 
-from .reports import NOT_RUN, Failed, Input, Result, report_of
+from .reports import Result, report_of
 
 BAR = 30  # characters of the bar
 
@@ -45,19 +46,9 @@ class Progress:
             sys.stderr.flush()
 
 
-def failed(name: str, reason: str) -> Failed:
-    return Failed(name, "could not be run", f"report: {name}: {reason}", NOT_RUN)
-
-
 def result_of(given: Input, plain: bool) -> Result:
     """The report of a model; whatever goes wrong with it is told and stops no other."""
-    try:
-        return report_of(given, plain)
-    except files.Failure as failure:
-        return failed(given.name, str(failure))
-    except Exception as error:
-        said = f"{type(error).__name__}: {error}"
-        return failed(given.name, f"a fault of the tool, please tell us: {said}")
+    return commands.attempted("report", given, lambda one: report_of(one, plain))
 
 
 def stop(progress: Progress) -> NoReturn:
@@ -86,7 +77,7 @@ def results_at_once(
             try:
                 yield place, done.result()
             except BrokenProcessPool:
-                yield place, failed(given[place].name, "its process was ended")
+                yield place, not_run("report", given[place].name, "its process was ended")
     signal.signal(signal.SIGINT, before)
 
 

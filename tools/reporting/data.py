@@ -14,13 +14,14 @@ from fractions import Fraction
 from typing import Mapping, Sequence
 
 import pack
+import programs
 from answers import Figures, Guard
+from inputs import Failed
 from listings import CLEAR, Growth
 from quantities import exactly, told
 
-from . import program
 from .changes import Change, Changes, DirectionChange, GuardChange
-from .reports import Failed, Report, Result
+from .reports import Report, Result
 
 FORMAT = "pepperscarp-report"
 FORMAT_VERSION = 1
@@ -220,7 +221,7 @@ def as_json(results: Sequence[Result], status: int, found: Changes | None = None
     whole: dict[str, object] = {
         "format": FORMAT,
         "format_version": FORMAT_VERSION,
-        "program_version": program.version(),
+        "program_version": programs.version(),
         "status": status,
         "models": [model_of(result) for result in results],
     }

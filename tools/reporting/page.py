@@ -8,12 +8,14 @@ from typing import Iterable, Sequence
 
 import chart
 import pack
+import programs
 from answers import REACHED_MEANS
+from inputs import Failed
 from listings import CLEAR, GROWTH, HIT, UNKNOWN, Growth
 
-from . import program, tables, words
+from . import tables, words
 from .changes import Changes
-from .reports import Failed, Report, Result
+from .reports import Report, Result
 from .tables import Table
 
 STYLE = """
@@ -154,7 +156,7 @@ def facts(report: Report) -> str:
     found = [("Model file", escape(report.name)), ("SHA-256", f"<code>{report.sha256}</code>")]
     if not report.packed:
         found.append(("SHA-256 of the packed file", f"<code>{report.packed_sha256}</code>"))
-    found.append(("Program", f"Pepperscarp {escape(program.version())}"))
+    found.append(("Program", f"Pepperscarp {escape(programs.version())}"))
     rows = "\n".join(f"<dt>{name}</dt><dd>{told}</dd>" for name, told in found)
     return f"<dl>\n{rows}\n</dl>"
 

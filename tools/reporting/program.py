@@ -1,57 +1,29 @@
-"""The proved program `envelope`: `./run` builds it, and it is called with the bytes of a model."""
+"""The proved program `envelope`: built as by `./run`, and called with the bytes of a model."""
 
 from __future__ import annotations
 
 import os
-import subprocess
-from pathlib import Path
 
 import files
 import listings
-from layout import BOX, Model, Set, encode, zero_box
+import programs
 from listings import Listing, Refusal
 
-ROOT = Path(__file__).resolve().parent.parent.parent
-RUN = ROOT / "run"
-PROGRAM = ROOT / "target" / "bin" / "envelope"
-TIME_LIMIT = 60  # seconds for one model; the largest takes some milliseconds
-# Any small model: `./run` builds the program where it is missing or old before it lists this one.
-SMALL = encode(Model(1, 1, ((0,),), Set(BOX, ((0,), (0,))), zero_box(1), ((1,),), ()))
-
-
-def version() -> str:
-    return files.read_bytes(str(ROOT / "VERSION")).decode("ascii").strip()
+NAME = "envelope"
 
 
 def ready() -> None:
-    """See to it that the program is there and not older than its sources."""
-    pipes = {"stdin": subprocess.PIPE, "stdout": subprocess.DEVNULL}
-    try:
-        with subprocess.Popen([RUN, "--quiet", "-"], **pipes) as run:
-            try:
-                run.communicate(SMALL)
-            except BaseException:
-                run.terminate()  # and not killed: it ends what it has started
-                raise
-    except OSError as error:
-        raise files.AccessFailure(f"{RUN} can't be run: {error.strerror}") from None
-    if run.returncode:
-        raise files.AccessFailure("the program is not ready, so nothing could be run")
+    """See to it that the program is there and not older than its sources, as `./run` tells it."""
+    programs.ready(NAME, "run")
 
 
 def reply(data: bytes, name: str) -> Listing | Refusal:
     """What the program says of a packed model."""
-    failed = "the program did not end well on it"
+    out, err = programs.output_of(NAME, data)
+    if err:
+        raise files.AccessFailure(programs.FAILED)
     try:
-        done = subprocess.run([PROGRAM], input=data, capture_output=True, timeout=TIME_LIMIT)
-    except OSError as error:
-        raise files.AccessFailure(f"{PROGRAM} can't be run: {error.strerror}") from None
-    except subprocess.TimeoutExpired:
-        raise files.AccessFailure(failed) from None
-    if done.returncode or done.stderr:
-        raise files.AccessFailure(failed)
-    try:
-        return listings.parse(done.stdout.decode("ascii"), name)
+        return listings.parse(out.decode("ascii"), name)
     except (files.Failure, UnicodeDecodeError):
         raise files.AccessFailure("the program wrote no reply to it") from None
 

@@ -14,9 +14,10 @@ from typing import Callable, Sequence
 
 import exact
 import files
+import inputs
 import pack
-import refusal
 from answers import Direction, Figures, Guard, Written, directions_of
+from inputs import NOT_RUN, REFUSED, Failed, Input
 from layout import HEAD, MATRIX_UNIT, Model, Vector
 from listings import CLEAR, Growth, Listing, Refusal, Sweep
 from textform import Source
@@ -24,32 +25,8 @@ from textform import Source
 from . import program, sharpen
 
 # The statuses of `report`, and which of several is told: the last of these.
-ALL_CLEAR, REFUSED, NOT_RUN, NOT_CLEAR = 0, 1, 2, 3
+ALL_CLEAR, NOT_CLEAR = 0, 3
 WORST_LAST = (ALL_CLEAR, NOT_CLEAR, REFUSED, NOT_RUN)
-
-
-@dataclass(frozen=True)
-class Input:
-    """The bytes of a model under its name; `source` is that of a text."""
-
-    name: str
-    data: bytes
-    source: Source | None = None
-
-    @property
-    def packed(self) -> bytes:
-        return self.data if self.source is None else self.source.data
-
-
-@dataclass(frozen=True)
-class Failed:
-    """A model without an answer: what is told of it, and the status that it makes."""
-
-    name: str
-    said: str  # a few words
-    message: str
-    status: int
-    data: bytes | None = None
 
 
 @dataclass(frozen=True)
@@ -142,10 +119,7 @@ def report_of(given: Input, plain: bool = False, reply: Reply = program.reply) -
     """The report of a model, or why it has none."""
     told = reply(given.packed, given.name)
     if isinstance(told, Refusal):
-        said = f"refused {told.number} at {told.offset}"
-        message = refusal.message(given.name, given.packed)
-        message = message if given.data else f"report: {given.name} is empty"
-        return Failed(given.name, said, message, REFUSED, given.data)
+        return inputs.refused("report", given, told)
     source = given.source or pack.read_source(given.data, given.name)
 
     def listing(model: Model) -> Listing:

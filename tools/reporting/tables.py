@@ -6,12 +6,13 @@ from dataclasses import dataclass
 from typing import Sequence
 
 from answers import Figures
+from inputs import Failed
 from listings import Growth
 from quantities import exactly, told
 
 from . import words
 from .changes import Change, Changes, GuardChange
-from .reports import WORST_LAST, Failed, Report, Result
+from .reports import WORST_LAST, Report, Result
 
 
 @dataclass(frozen=True)

@@ -1105,20 +1105,6 @@ class NoInput(unittest.TestCase):
         self.assertGreater(checked, 10)
 
 
-def saved_ways(model):
-    """Files of one model: all that a save may leave out or put otherwise, in every mixture."""
-    rows = {number: [pattern(entry / 65_536) for entry in entries]
-            for number, entries in enumerate(model.matrix)}
-    zeros = {number: [bits or pattern(-0.0) for bits in entries] for number, entries in rows.items()}
-    for stated, input_, patterns, drift_ in itertools.product(
-        (None, 0) if model.steps == 120 else (None,),
-        (True, False) if model.input == box(*[(0, 0)] * model.n) else (True,),
-        (None, rows, zeros, {0: rows[0]}),
-        (False, True),
-    ):
-        yield encode(model, stated, input_, patterns, drift_)
-
-
 class Writer(unittest.TestCase):
     """2026-08: the one file of a model, byte by byte, and read again."""
 
@@ -1178,7 +1164,7 @@ class Writer(unittest.TestCase):
         start = Model(2, 120, ((-1, 0), (0, 131_072)), zero, zero, ((1, 0),), ((0, 4),))
         some = Model(2, 3, ((0, 0), (7, 0)), zero, Set(VERTICES, ((0, 0),)), ((1, 0),), (), (0, 5))
         for model, ways in ((start, 2 * 2 * 4 * 2), (some, 4 * 2)):
-            data = list(saved_ways(model))
+            data = list(models.saved_ways(model))
             self.assertEqual(len(data), ways)
             self.assertEqual({exact.canonical(exact.read_model(way)) for way in data},
                              {exact.canonical(model)})

@@ -16,7 +16,7 @@ from decimal import Decimal
 from fractions import Fraction
 from html.parser import HTMLParser
 
-from helpers import FolderTest
+import helpers  # noqa: F401  the way to the tools
 
 import exact
 import examples
@@ -26,10 +26,11 @@ import models
 import pack
 import quantities
 from answers import Direction, Figures
+from inputs import NOT_RUN, REFUSED, Failed, Input
 from layout import MAX_DIRECTION_ENTRY, MAX_DIRECTIONS, MAX_LEVEL, MIN_LEVEL, encode
 from listings import Growth, Refusal, Sweep, Verdict
-from reporting import batch, changes, data, inputs, page, reports, sharpen, tables, terminal, words
-from reporting.reports import ALL_CLEAR, NOT_CLEAR, NOT_RUN, REFUSED, Failed, Input
+from reporting import batch, changes, data, page, reports, sharpen, tables, terminal, words
+from reporting.reports import ALL_CLEAR, NOT_CLEAR
 
 MODEL = """\
 coordinates value
@@ -665,64 +666,8 @@ class Page(unittest.TestCase):
         self.assertIn("2.model against 1.model", content)
 
 
-class Inputs(FolderTest):
-    """Files and folders."""
-
-    def names(self, *words):
-        return [one.name for one in inputs.models_of([*map(str, words)])]
-
-    def test_a_folder_has_its_models_in_order(self):
-        for name in ("b.model", "a.bin", "sub/c.model", ".hidden.model", ".git/d.model", "x.txt"):
-            self.write(name, text("direction d 1"))
-        (self.folder / "a.bin").write_bytes(pack.parse(text("direction d 2")).data)
-        os.mkfifo(self.folder / "pipe.model")
-        expected = [str(self.folder / name) for name in ("a.bin", "b.model", "sub/c.model")]
-        self.assertEqual(self.names(self.folder), expected)
-
-    def test_a_packed_copy_of_a_text_is_left_out(self):
-        self.write("a.model", text("direction d 1"))
-        copy, other = self.folder / "a.bin", self.folder / "b.bin"
-        for path in (copy, other):
-            path.write_bytes(pack.parse(text("direction d 1")).data)
-        self.assertEqual(self.names(self.folder), [str(self.folder / "a.model"), str(other)])
-        copy.write_bytes(pack.parse(text("direction d 2")).data)
-        self.assertEqual(len(self.names(self.folder)), 3)
-        self.assertEqual(self.names(copy), [str(copy)])
-
-    def test_what_can_t_be_read(self):
-        (self.folder / "empty").mkdir()
-        for word, said, status in (
-            (self.folder / "none", "is not there", NOT_RUN),
-            (self.folder / "empty", "is a folder without a model (*.model or *.bin)", NOT_RUN),
-            ("", "is no model", NOT_RUN),
-            (self.write("wrong.model", "steps 3\n"), "the text has 1 mistake", REFUSED),
-            (self.write("long.model", "#" * inputs.MOST), "is too long: of a text less", NOT_RUN),
-        ):
-            with self.subTest(said):
-                (one,) = inputs.models_of([str(word)])
-                self.assertIsInstance(one, Failed)
-                self.assertTrue(one.said.startswith(said), one.said)
-                self.assertEqual(one.status, status)
-
-    def test_names_are_told_in_one_row(self):
-        self.assertEqual(inputs.shown("a\nb\udcffä"), "a\\nb\\udcffä")
-        self.assertEqual(inputs.shown("-"), "standard input")
-
-    def test_a_folder_that_can_t_be_read_is_told(self):
-        self.write("a.model", text("direction d 1"))
-        self.write("sub/b.model", text("direction d 1"))
-        before = os.scandir
-
-        def scandir(path):
-            if str(path).endswith("sub"):
-                raise PermissionError(13, "no", str(path))
-            return before(path)
-
-        self.addCleanup(setattr, os, "scandir", before)
-        os.scandir = scandir
-        one, other = inputs.models_of([str(self.folder)])
-        self.assertIsInstance(one, Input)
-        self.assertEqual((other.status, other.said), (NOT_RUN, "is a folder that can't be read"))
+class Batch(unittest.TestCase):
+    """Many models at once."""
 
     def test_a_process_that_is_ended_is_told(self):
         self.addCleanup(setattr, batch, "report_of", batch.report_of)

@@ -7,11 +7,9 @@ use libc::STDIN_FILENO;
 use libc::STDOUT_FILENO;
 use listing::ROOM;
 use listing::reply;
+use reader::MOST_READ;
 ghost use mathlib.Core.Path.{_≡_};
 ghost use lib.ListN.{length};
-
-// Reading 4. The most bytes that are read.
-const MOST_READ: usize = 2048;
 
 // The bytes of a file. The contract gives the length alone, here and below.
 fn file_space() -> [u8; MOST_READ]

@@ -46,14 +46,14 @@ module _ (half n : ℕ) where
       below-zero low = subst (SFits w) (sym (twosComplement-high low high)) (record { sfits = omega (arith, left-small low high) })
 
 -- the sign is one bit of a width's bytes
-half-of : (w : Width) → 2 ^ (8 * bytes w - 1) ≡ 2 ^ hbits w
+pub half-of : (w : Width) → 2 ^ (8 * bytes w - 1) ≡ 2 ^ hbits w
 half-of w8 = refl
 half-of w16 = refl
 half-of w32 = refl
 half-of w64 = refl
 half-of w128 = refl
 
-twice-half-of : (w : Width) → 2 ^ (8 * bytes w) ≡ 2 * 2 ^ hbits w
+pub twice-half-of : (w : Width) → 2 ^ (8 * bytes w) ≡ 2 * 2 ^ hbits w
 twice-half-of w8 = refl
 twice-half-of w16 = refl
 twice-half-of w32 = refl

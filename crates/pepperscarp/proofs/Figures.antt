@@ -1,5 +1,5 @@
--- Every figure is below 2 to the 48. In order: the offset of a refused file; the figures of a sweep and a judge; the growth sum
--- that a step leaves. Assumes nothing.
+-- Every figure is below 2 to the 48. In order: the offset of a refused file; what is written of a file; the figures of a sweep and a
+-- judge; the growth sum that a step leaves. Assumes nothing.
 use mathlib.Core.Path.{_≡_, refl, ap, subst, _∙_}
 use mathlib.Core.Bool.{Bool, true, false, cond}
 use mathlib.Core.List.{List}
@@ -24,11 +24,16 @@ use Rattle.reachability.specs.declared.sweep.Swept.the-variants as S
 use Rattle.reachability.specs.declared.verdicts.Judged.the-variants as J
 use Rattle.reachability.proofs.model.Facts.{model-facts}
 use Rattle.judge.specs.Answers.{judgedFigure, judgeAnswer}
-use Rattle.reader.specs.declared.Status.the-variants.{Refused}
+use Rattle.reader.specs.declared.Status.{Status}
+use Rattle.reader.specs.declared.Status.the-variants.{Read, Refused}
 use Rattle.reader.specs.declared.Reading.{Reading}
 use Rattle.reader.specs.Reading.{readModel}
-use Rattle.reader.proofs.ReadModels.{readModel-take}
+use Rattle.reader.proofs.ReadModels.{readModel-accepted, readModel-take}
 use Rattle.reader.proofs.Answers.{readModel-told}
+use Rattle.writer.specs.declared.Rewritten.the-variants as W
+use Rattle.writer.specs.Writing.{fileOf}
+use Rattle.writer.specs.Answers.{rewrittenFigure, rewrittenAs, rewriteAnswer}
+use Rattle.writer.proofs.Longest.{fileOf-short}
 use Rattle.pepperscarp.specs.Packing.{steppedFigure, figureLimit}
 use Rattle.pepperscarp.specs.Replies.{stepAnswer}
 
@@ -41,6 +46,22 @@ offset-small file number offset e =
   where
     inside : offset ≤ min 2048 (length file) → offset < figureLimit
     inside h = omega arith
+
+-- ---- a file that is rewritten: nothing longer than 1,546 bytes is written
+
+pub rewritten-small : (file : List ℕ) (room : ℕ) → rewrittenFigure (rewriteAnswer file room) < figureLimit
+rewritten-small file room = by (readModel file .status) refl
+  where
+    size : ℕ
+    size = length (fileOf (readModel file .model))
+
+    few : (t : Bool) → size ≤ 1546 → rewrittenFigure (cond t (W.Length size) W.Short) < figureLimit
+    few true h = omega arith
+    few false h = omega arith
+
+    by : (s : Status) → readModel file .status ≡ s → rewrittenFigure (rewrittenAs s size room) < figureLimit
+    by Read e = few (leb size room) (fileOf-short (readModel file .model) (readModel-accepted file e))
+    by (Refused number offset) e = offset-small file number offset e
 
 -- ---- a sweep and a judge: a step is at most K, and K at most 256
 

@@ -1,4 +1,4 @@
--- C interface 1 to 4: an answer in one number, the refusal's in bits 0 to 7, a verdict in bits 8 to 15, a figure from bit 16 on.
+-- C interface 1 to 4 and 9: an answer in one number, the refusal's in bits 0 to 7, a verdict in bits 8 to 15, a figure from bit 16 on.
 -- Definitions only. Assumes nothing.
 use Prim.Native.Nat.{ℕ, _+_, _*_}
 use Rattle.stepping.specs.Refusals.{steppedNumber}
@@ -10,6 +10,8 @@ use Rattle.reachability.specs.declared.verdicts.Judged.{Judged}
 use Rattle.reachability.specs.declared.verdicts.Judged.the-variants as J
 use Rattle.reachability.specs.declared.model.Model.{Model}
 use Rattle.judge.specs.Answers.{judgedNumber, judgedFigure, judgeAnswer, judgeNumber, judgeFigure}
+use Rattle.writer.specs.Answers.{rewrittenNumber, rewrittenFigure}
+use Rattle.writer.specs.declared.Rewritten.{Rewritten}
 
 -- C interface 1: number, verdict and figure side by side.
 abbrev pub packed : ℕ → ℕ → ℕ → ℕ
@@ -43,6 +45,9 @@ sweptPacked a = packed (sweptNumber a) 0 (sweptFigure a)
 
 abbrev pub judgedPacked : Judged → ℕ
 judgedPacked a = packed (judgedNumber a) (judgedVerdict a) (judgedFigure a)
+
+abbrev pub rewrittenPacked : Rewritten → ℕ
+rewrittenPacked a = packed (rewrittenNumber a) 0 (rewrittenFigure a)
 
 -- C interface 3 and 4: what a sweep and a judge of a model come to, by the number and the figure that they promise.
 abbrev pub sweepPacked : Model → ℕ → ℕ → ℕ → ℕ

@@ -1,4 +1,4 @@
--- C interface 2 to 7: what each function answers and leaves, for every input. Definitions only. A file is the list of its bytes;
+-- C interface 2 to 7 and 9: what each function answers and leaves, for every input. Definitions only. A file is the list of its bytes;
 -- b₀ and s₀ are the lists as lent, b and s as left. Assumes nothing.
 use mathlib.Core.Path.{_≡_}
 use mathlib.Core.Bool.{cond}
@@ -17,7 +17,8 @@ use Rattle.judge.specs.Answers.{judgeAnswer, JudgeLeaves}
 use Rattle.reader.specs.declared.Status.{Status}
 use Rattle.reader.specs.declared.Status.the-variants.{Read, Refused}
 use Rattle.reader.specs.Reading.{readModel}
-use Rattle.pepperscarp.specs.Packing.{packed, steppedPacked, sweepPacked, judgePacked}
+use Rattle.writer.specs.Answers.{rewriteAnswer, Rewrites}
+use Rattle.pepperscarp.specs.Packing.{packed, steppedPacked, sweepPacked, judgePacked, rewrittenPacked}
 
 -- The answer of a step of r and e: the growth sum of what it leaves, or number 11.
 abbrev pub stepAnswer : ℕ → List ℤ → List ℤ → List ℤ → Stepped
@@ -59,3 +60,8 @@ SweepReply = FileReply sweepPacked sweepAnswer SweepLeaves
 -- accuracy and its verdict's meaning included.
 abbrev pub JudgeReply : Promise (List ℕ) ℕ
 JudgeReply = FileReply judgePacked judgeAnswer JudgeLeaves
+
+-- C interface 9: what rewriting a file answers and leaves; b are the bytes as lent, c as left. `left` is the promise of `rewrite`.
+pub record WriteReply (file b : List ℕ) (x : ℕ) (c : List ℕ) : Type 0 where
+  pub answer : x ≡ rewrittenPacked (rewriteAnswer file (length b))
+  pub left : Rewrites file b (rewriteAnswer file (length b)) c

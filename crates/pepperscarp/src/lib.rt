@@ -1,7 +1,7 @@
-// The C interface: one step, and the sweep, the judge and the listing of a model file. Each function is exported under its own
+// The C interface: one step, and the sweep, the judge, the listing and the rewriting of a model file. Each function is exported under its own
 // name, keeps nothing, and has no `requires`: any values get their reply.
 //
-// An answer of step, sweep and judge is one number: number + 256 × verdict + 65,536 × figure. The number is the refusal's, 0 where
+// An answer of step, sweep, judge and write is one number: number + 256 × verdict + 65,536 × figure. The number is the refusal's, 0 where
 // nothing is refused. On a refusal the lent memory is as it was.
 mod packing;
 
@@ -11,8 +11,9 @@ use reachability::sweep::sweep;
 use reader::Status;
 use reader::read;
 use stepping::step;
+use writer::rewrite;
 ghost use Rattle.listing.specs.Listing.{ReplyLeaves};
-ghost use Rattle.pepperscarp.specs.Replies.{StepReply, SweepReply, JudgeReply};
+ghost use Rattle.pepperscarp.specs.Replies.{StepReply, SweepReply, JudgeReply, WriteReply};
 
 // C interface 2. One step of r and e. The figure is the growth sum of what it left. The only refusal is 11, as `stepping::step` has
 // it.
@@ -83,4 +84,14 @@ pub extern "C" fn pepperscarp_listing(file: &[u8], out: &mut [u8]) -> usize
     ensures { λ r. ⌜ ReplyLeaves (now (file .entry)) (now (out .entry)) (now (out .exit)) r ⌝ }
 {
     reply(file, out)
+}
+
+// C interface 9. The file of the file's model, at the start of `out`; the figure is its length. Refusals: 1 to 10 or 15 to 17 with the
+// offset as the figure, where the file is refused; 22 where `out` is shorter than what would be written.
+#[no_mangle]
+pub extern "C" fn pepperscarp_write(file: &[u8], out: &mut [u8]) -> u64
+    ensures { λ x. ⌜ WriteReply (now (file .entry)) (now (out .entry)) x (now (out .exit)) ⌝ }
+{
+    let answer = rewrite(file, out);
+    packing::rewritten(answer)
 }

@@ -2,11 +2,13 @@
 use reachability::sweep::Swept;
 use reachability::verdicts::Judged;
 use stepping::Stepped;
+use writer::Rewritten;
 ghost use mathlib.Core.Path.{_≡_};
 ghost use Prim.Native.Nat.{_<_};
 ghost use Rattle.reachability.specs.Answers.{sweptFigure};
 ghost use Rattle.judge.specs.Answers.{judgedFigure};
-ghost use Rattle.pepperscarp.specs.Packing.{packed, steppedPacked, sweptPacked, judgedPacked, steppedFigure, figureLimit};
+ghost use Rattle.writer.specs.Answers.{rewrittenFigure};
+ghost use Rattle.pepperscarp.specs.Packing.{packed, steppedPacked, sweptPacked, judgedPacked, rewrittenPacked, steppedFigure, figureLimit};
 
 // C interface 1. What a verdict and a figure are multiplied by.
 const VERDICT_UNIT: u64 = 256;
@@ -67,5 +69,17 @@ pub(crate) fn judged(answer: Judged) -> u64
         Judged::NoGuard => pack(12, 0, 0),
         Judged::WrongLength => pack(13, 0, 0),
         Judged::Growth(step) => pack(14, 0, step as u64),
+    }
+}
+
+// What became of a file that was to be rewritten.
+pub(crate) fn rewritten(answer: Rewritten) -> u64
+    requires { ⌜ rewrittenFigure answer < figureLimit ⌝ }
+    ensures { λ x. ⌜ x ≡ rewrittenPacked answer ⌝ }
+{
+    match answer {
+        Rewritten::Length(length) => pack(0, 0, length as u64),
+        Rewritten::Refused(number, offset) => pack(number, 0, offset as u64),
+        Rewritten::Short => pack(22, 0, 0),
     }
 }

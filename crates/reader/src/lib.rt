@@ -15,6 +15,9 @@ use records::places::START;
 use state::State;
 ghost use Rattle.reader.specs.Reading.{Reads};
 
+// Reading 4. The most bytes of a file that a program reads: no longer one is accepted, and a longer one has the reply to those.
+pub const MOST_READ: usize = 2048;
+
 // Whether a file was read, or its number and the offset that it is told at.
 pub enum Status {
     Read,

@@ -1,6 +1,6 @@
-//! The records of a model file: their lengths, makers of each kind, and the records of a model.
+//! The records of a model file: their lengths, makers of each kind, and those of a model's one file.
 
-use crate::specification::{Form, Model, Set};
+use crate::specification::{Form, Model, Set, Six};
 
 /// One record: its kind and its body.
 #[derive(Clone, Debug)]
@@ -67,25 +67,28 @@ pub fn end() -> Record {
     Record { kind: 0xFF, body: Vec::new() }
 }
 
-/// The points of a set. `family` is 0x10 for the initial set and 0x20 for the input set.
-fn points(family: u8, set: &Set) -> impl Iterator<Item = Record> + '_ {
+/// The points of a set with their kinds. `family` is 0x10 for the initial set and 0x20 for the input set.
+pub fn points(family: u8, set: &Set) -> impl Iterator<Item = (u8, &Six)> {
     let (first, others) = match set.form {
         Form::Box => (0, 1),
         Form::Zonotope => (2, 3),
         Form::Vertices => (4, 4),
     };
-    set.points.iter().enumerate().map(move |(k, point)| numbers(family + if k == 0 { first } else { others }, point))
+    set.points.iter().enumerate().map(move |(k, point)| (family + if k == 0 { first } else { others }, point))
 }
 
-/// The records of a model, from its head to its end; a drift of zero has none (File 15).
+/// The records of the one file of a model (Writing 1), from its head to its end. A drift of zeros and an input box of zeros have none
+/// (Writing 2).
 pub fn of_model(model: &Model) -> Vec<Record> {
     let mut records = vec![head(model.n as u8, model.steps as u16)];
     records.extend(model.matrix.iter().take(model.n).enumerate().map(|(number, entries)| row(number as u8, entries)));
     if model.drift != [0; 6] {
         records.push(numbers(0x05, &model.drift));
     }
-    records.extend(points(0x10, &model.initial));
-    records.extend(points(0x20, &model.input));
+    records.extend(points(0x10, &model.initial).map(|(kind, point)| numbers(kind, point)));
+    if model.input != Set::zero_box() {
+        records.extend(points(0x20, &model.input).map(|(kind, point)| numbers(kind, point)));
+    }
     records.extend(model.directions.iter().map(|direction| numbers(0x30, direction)));
     records.extend(model.guards.iter().map(|(direction, level)| guard(*direction as u8, *level)));
     records.push(end());

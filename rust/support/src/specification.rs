@@ -20,7 +20,7 @@ pub enum Form {
 }
 
 /// A set: lower and upper corner, centre and generators, or vertices. Without points it has not been read yet.
-#[derive(Clone, Debug)]
+#[derive(Clone, PartialEq, Eq, Debug)]
 pub struct Set {
     pub form: Form,
     pub points: Vec<Six>,
@@ -32,7 +32,7 @@ impl Set {
     }
 
     /// The box from zero to zero: the input set of a file that has none (File 10).
-    fn zero_box() -> Set {
+    pub fn zero_box() -> Set {
         Set { form: Form::Box, points: vec![[0; 6]; 2] }
     }
 
@@ -46,7 +46,7 @@ impl Set {
 }
 
 /// A model.
-#[derive(Clone, Debug)]
+#[derive(Clone, PartialEq, Eq, Debug)]
 pub struct Model {
     pub n: usize,
     pub steps: usize,

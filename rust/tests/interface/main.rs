@@ -13,3 +13,4 @@ mod makers;
 mod refusals;
 mod steps;
 mod sweeps;
+mod writing;

@@ -71,11 +71,11 @@ pub fn near(random: &mut Random, entry: i32) -> u64 {
     bits - u64::from(bits & !SIGN > 0 && random.one_in(4))
 }
 
-/// A fitted row near these entries. Beyond n there are zeros, of one sign or of both.
-fn fitted_row(random: &mut Random, n: usize, number: u8, entries: &[i32; 6]) -> Record {
+/// A fitted row of the 64 bits for each of these entries. Beyond n there are zeros, of one sign or of both.
+pub fn fitted_row(random: &mut Random, n: usize, number: u8, entries: &[i32; 6], bits_of: fn(&mut Random, i32) -> u64) -> Record {
     let mut patterns = [0; 6];
     for (bits, entry) in patterns.iter_mut().zip(&entries[..n]) {
-        *bits = near(random, *entry);
+        *bits = bits_of(random, *entry);
     }
     let zeros = random.pick(&[[0, 0], [SIGN, SIGN], [0, SIGN]]);
     for bits in &mut patterns[n..] {
@@ -114,7 +114,7 @@ fn matrix_rows(random: &mut Random, n: usize) -> Vec<Record> {
                 } as i32;
             }
             if fitted > 0 && random.below(2) < fitted {
-                return fitted_row(random, n, number as u8, &entries);
+                return fitted_row(random, n, number as u8, &entries, near);
             }
             row(number as u8, &entries)
         })
@@ -223,6 +223,20 @@ pub fn model(random: &mut Random) -> Vec<Record> {
         let level = random.pick(&[i64::MIN, -1, 0, 1, 1_000_000, i64::MAX]);
         records.push(guard(random.below(directions) as u8, level));
     }
+    records.push(end());
+    records
+}
+
+/// The records of the longest file that is accepted (File 9).
+pub fn longest() -> Vec<Record> {
+    let mut records = vec![head(6, 256)];
+    let entries = [9_000.0, -9_000.0, 9_000.25, -9_000.25, 9_000.5, -9_000.5].map(|x: f64| (x / 65_536.0).to_bits());
+    records.extend((0..6).map(|number| fitted(number, &entries)));
+    records.push(numbers(0x05, &[1_048_561, -1_048_561, 1, -1, 0, 7]));
+    records.extend((0..16).map(|k| numbers(0x14, &[k, -k, k, -k, k, -k])));
+    records.extend((0..16).map(|k| numbers(0x24, &[k, k, k, k, k, k])));
+    records.extend((0..16).map(|k| numbers(0x30, &[k + 1, 2, 3, 4, 5, 6])));
+    records.extend((0..16).map(|k| guard(k, 1_000)));
     records.push(end());
     records
 }

@@ -1,21 +1,23 @@
 //! Refusals: the number, offset or step is the specification's, and no lent element changes.
 
 use crate::lent::Lent;
-use crate::makers::{damage_bytes, damage_records, is_row, model, open_model, Random};
+use crate::makers::{damage_bytes, damage_records, is_row, longest, model, open_model, Random};
 use crate::sweeps::{compare_judge, compare_sweep};
-use pepperscarp::{judge, list_length, sweep, Refusal, LONGEST_LIST};
+use crate::writing::written;
+use pepperscarp::{judge, list_length, sweep, Refusal, LONGEST_LIST, WRITE_ROOM};
 use std::collections::BTreeMap;
-use support::records::{body_length, end, file, fitted, guard, head, numbers, row, Record};
+use support::records::{body_length, end, file, guard, head, numbers, of_model, row, Record};
 use support::recurrence;
 use support::specification;
 
-/// Both calls refuse the file by this number at this offset, for any direction, guard and lengths, and touch nothing.
+/// Each call refuses the file by this number at this offset, for any direction, guard and lengths, and touches nothing.
 fn assert_refused(bytes: &[u8], expected: Refusal, asked: usize, lengths: (usize, usize)) {
     for call in [sweep_as_unit, judge_as_unit] {
         let (mut bounds, mut slacks) = (Lent::new(lengths.0), Lent::new(lengths.1));
         assert_eq!(call(bytes, asked, bounds.part(), slacks.part()), Err(expected), "file {bytes:02X?}");
         assert!(bounds.is_untouched() && slacks.is_untouched());
     }
+    assert_eq!(written(bytes, lengths.0), Err(expected), "file {bytes:02X?}");
 }
 
 fn sweep_as_unit(bytes: &[u8], direction: usize, bounds: &mut [i64], slacks: &mut [i64]) -> Result<(), Refusal> {
@@ -41,6 +43,7 @@ fn compare_file(random: &mut Random, bytes: &[u8]) -> u8 {
             if !model.guards.is_empty() {
                 let _ = compare_judge(bytes, &model, random.below(model.guards.len()));
             }
+            assert_eq!(written(bytes, WRITE_ROOM), Ok(file(&of_model(&model))), "file {bytes:02X?}");
             0
         }
     }
@@ -238,16 +241,7 @@ fn one_more_of_anything_that_is_counted_is_refused_by_9_and_the_most_is_accepted
 
 #[test]
 fn the_longest_file_is_accepted_and_a_byte_more_is_refused_by_10() {
-    let mut records = vec![head(6, 256)];
-    let entries = [9_000.0, -9_000.0, 9_000.25, -9_000.25, 9_000.5, -9_000.5].map(|x: f64| (x / 65_536.0).to_bits());
-    records.extend((0..6).map(|number| fitted(number, &entries)));
-    records.push(numbers(0x05, &[1_048_561, -1_048_561, 1, -1, 0, 7]));
-    records.extend((0..16).map(|k| numbers(0x14, &[k, -k, k, -k, k, -k])));
-    records.extend((0..16).map(|k| numbers(0x24, &[k, k, k, k, k, k])));
-    records.extend((0..16).map(|k| numbers(0x30, &[k + 1, 2, 3, 4, 5, 6])));
-    records.extend((0..16).map(|k| guard(k, 1_000)));
-    records.push(end());
-    let mut bytes = file(&records);
+    let mut bytes = file(&longest());
     assert_eq!(bytes.len(), 1_690);
     let model = specification::read(&bytes).expect("a model");
     assert_eq!(model.matrix, [[9_000, -9_000, 9_000, -9_000, 9_000, -9_000]; 6]);

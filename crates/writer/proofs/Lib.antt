@@ -1,0 +1,13 @@
+pub mod Bits
+pub mod Leading
+pub mod Bodies
+pub mod SetSoFar
+pub mod ReadPoints
+pub mod ReadFrame
+pub mod ReadQuestions
+pub mod ReadBack
+pub mod StoredSoFar
+pub mod OneForm
+pub mod Longest
+pub mod StoredModels
+pub mod Answering

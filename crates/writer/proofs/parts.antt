@@ -1,0 +1,3 @@
+-- Laws of the parts of a file.
+pub mod Counts
+pub mod Lengths

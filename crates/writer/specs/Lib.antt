@@ -1,0 +1,4 @@
+pub mod Writing
+pub mod OneForm
+pub mod Answers
+pub mod Inner
