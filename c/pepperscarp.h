@@ -124,15 +124,15 @@ size_t pepperscarp_listing(const uint8_t *file, size_t file_length, uint8_t *out
 /* Room for every file that is written, in bytes. */
 #define PEPPERSCARP_WRITE_ROOM 1546
 
-/* The one file of the model that a model file holds. Takes the file's bytes and room for what is written, which must not be the
- * file itself or a part of it. However a model was saved, the same bytes are written: the head names the steps, a fitted row
- * becomes the scaled row of its rounded entries, a drift of zeros and an input box of zeros are left out, and all else stands as
- * and in the order in which it was. Two files have the same bytes written for them just where their models are equal in every
- * stored number.
- * Number 0: the file stands at the start of `out`, and the figure is its length; what lies behind it is as it was. Reading it
- * gives the same model.
+/* The one file of a model. Takes the bytes of a model file, and room for what is written; PEPPERSCARP_WRITE_ROOM bytes suffice for
+ * every model. However the model was saved, the same bytes are written: the head names the steps, a fitted row becomes the scaled
+ * row of its rounded entries, a drift of zeros and an input box of zeros are left out, and all else stands as it stood in the file.
+ * Two files have the same bytes written for them just where their models are equal in every stored number.
+ * Number 0: the written file stands at the start of `out`, and the figure is its length; what lies behind it is as it was. Reading
+ * it gives the same model.
  * Numbers 1 to 10 and 15 to 17: the file is refused. 22: `out` is shorter than what would be written. The first that applies is
- * answered, in this order, and `out` is as it was. 11 never comes, as for the sweep. */
+ * answered, in this order, and `out` is as it was. 11 never comes, as for the sweep. A file can't be written over itself: `out`
+ * must not overlap `file`. (New in version 0.7.2.) */
 uint64_t pepperscarp_write(const uint8_t *file, size_t file_length, uint8_t *out, size_t out_length);
 
 #ifdef __cplusplus

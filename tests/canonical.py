@@ -131,6 +131,15 @@ class Bytes(Canonical):
         self.assertEqual(SAMPLE, (ROOT / "crates" / "envelope" / "stdin").read_bytes())
         self.assert_answer(run(SAMPLE), SAMPLE)
 
+    def test_figures_29(self) -> None:
+        start = f"02 00 FFFFFFFF {REST} {INITIAL}"
+        end = f"{ASKED} 40 00 FEFFFFFFFFFFFFFF FF"
+        for vertices in ("", f"24 00000000 {REST}"):
+            saved = f"01 01 0000 {start} {vertices} {end}"
+            written = bytes.fromhex(f"01 01 7800 {start} {vertices} {end}")
+            self.assertEqual(run(bytes.fromhex(saved)).stdout, written)
+            self.assertEqual(len(written), 141 if vertices else 116)
+
     def test_steps_of_0_are_written_as_120(self) -> None:
         rest = f"02 00 00800000 {REST} {INITIAL} {INPUT} {ASKED} FF"
         self.written(f"01 01 0000 {rest}", f"01 01 7800 {rest}")

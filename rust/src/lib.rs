@@ -256,14 +256,14 @@ pub fn listing<'a>(file: &[u8], out: &'a mut [u8]) -> Option<&'a [u8]> {
 }
 
 /// The one file of the file's model (Writing 1, Writing 2): however the model was saved, the same bytes. They stand at the start of
-/// `out`, whose other bytes are as they were.
+/// `out`, whose other bytes are as they were. [`WRITE_ROOM`] bytes suffice for every model.
 ///
-/// The head names the steps, a fitted row becomes the scaled row of its rounded entries, and a drift of zeros and an input box of
-/// zeros are left out. Read again, it is the same model. Two files have the same bytes written for them just where their models
-/// are equal in every stored number.
+/// The head names the steps, a fitted row becomes the scaled row of its rounded entries, a drift of zeros and an input box of zeros
+/// are left out, and all else stands as it stood in the file. Reading what is written gives the same model. Two files have the same
+/// bytes written for them just where their models are equal in every stored number.
 ///
-/// A file is refused by [`Refusal::File`]; then [`Refusal::TooShort`] is tested, and `out` keeps every byte. [`WRITE_ROOM`] bytes
-/// are never too short.
+/// A file is refused by [`Refusal::File`]; then [`Refusal::TooShort`] is tested, and `out` keeps every byte. (New in version
+/// 0.7.2.)
 pub fn write<'a>(file: &[u8], out: &'a mut [u8]) -> Result<&'a [u8], Refusal> {
     // SAFETY: as for the listing.
     let answer = unsafe { c::pepperscarp_write(file.as_ptr(), file.len(), out.as_mut_ptr(), out.len()) };

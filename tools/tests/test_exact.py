@@ -1118,8 +1118,15 @@ class Writer(unittest.TestCase):
         self.assertEqual(exact.canonical(model), expected)
         self.assertEqual(exact.read_model(expected), model)
 
-    def test_sample(self):
+    def test_case_29(self):
         self.assertEqual(exact.canonical(exact.read_model(SAMPLE)), SAMPLE)
+        falling = single(-1, (0, 0), (0, 0), 1, 120, guards=(-2,))
+        vertex = replace(falling, input=Set(VERTICES, ((0,),)))
+        start = f"01 01 7800 02 00 FFFFFFFF {REST} 10 00000000 {REST} 11 00000000 {REST}"
+        end = f"30 01000000 {REST} 40 00 FEFFFFFFFFFFFFFF FF"
+        for model, middle, length in ((falling, "", 116), (vertex, f"24 00000000 {REST}", 141)):
+            self.assertEqual(exact.canonical(model), bytes.fromhex(f"{start} {middle} {end}"))
+            self.assertEqual(len(exact.canonical(model)), length)
 
     def test_a_zero_box_is_left_out_as_input_alone(self):
         corners = f"10 00000000 {REST} 11 00000000 {REST}"

@@ -1,13 +1,13 @@
 -- An answer can be taken apart again: x % 256 is its number, x / 256 % 256 its verdict and x / 65,536 its figure. And no file is
 -- answered by number 11. In order: any three; the answers of each function; number 11. Assumes nothing.
-use mathlib.Core.Path.{_≡_}
+use mathlib.Core.Path.{_≡_, refl}
 use mathlib.Core.Bool.{Bool, true, false, cond}
 use mathlib.Core.List.{List}
 use mathlib.Core.Logic.{inl, inr}
 use Prim.Native.Nat.{ℕ, _/_, _%_, _<_}
 use native.Mathlib.Omega.{arith}
 use lib.Dec.{leb, ltb}
-use lib.ListN.{getD}
+use lib.ListN.{length, getD}
 use Rattle.stepping.specs.Refusals.{steppedNumber}
 use Rattle.stepping.specs.declared.Stepped.{Stepped}
 use Rattle.stepping.specs.declared.Stepped.the-variants as P
@@ -19,11 +19,15 @@ use Rattle.reachability.specs.declared.sweep.Swept.the-variants as S
 use Rattle.reachability.specs.declared.verdicts.Judged.{Judged}
 use Rattle.reachability.specs.declared.verdicts.Judged.the-variants as J
 use Rattle.judge.specs.Answers.{judgedNumber, judgedFigure, judgeNumber}
+use Rattle.reader.specs.declared.Status.{Status}
 use Rattle.reader.specs.declared.Status.the-variants.{Read, Refused}
 use Rattle.reader.specs.Reading.{readModel}
 use Rattle.reader.proofs.ReadModels.{readModel-accepted}
 use Rattle.reader.proofs.Answers.{FileNumber, readModel-told}
-use Rattle.pepperscarp.specs.Packing.{packed, steppedFigure, judgedVerdict, steppedPacked, sweptPacked, judgedPacked}
+use Rattle.writer.specs.declared.Rewritten.the-variants as W
+use Rattle.writer.specs.Writing.{fileOf}
+use Rattle.writer.specs.Answers.{rewrittenNumber, rewrittenFigure, rewrittenAs, rewriteAnswer}
+use Rattle.pepperscarp.specs.Packing.{packed, steppedFigure, judgedVerdict, steppedPacked, sweptPacked, judgedPacked, rewrittenPacked}
 
 -- ---- any three
 
@@ -82,6 +86,20 @@ judged-unpacks a = packed-unpacks (judgedNumber a) (judgedVerdict a) (judgedFigu
     few J.NoGuard = omega arith
     few J.WrongLength = omega arith
     few (J.Growth k) = omega arith
+
+pub rewritten-unpacks : (file : List ℕ) (room : ℕ) → Unpacks (rewrittenPacked (rewriteAnswer file room)) (rewrittenNumber (rewriteAnswer file room)) 0 (rewrittenFigure (rewriteAnswer file room))
+rewritten-unpacks file room = by (readModel file .status) refl
+  where
+    size : ℕ
+    size = length (fileOf (readModel file .model))
+
+    either : (t : Bool) → Unpacks (rewrittenPacked (cond t (W.Length size) W.Short)) (rewrittenNumber (cond t (W.Length size) W.Short)) 0 (rewrittenFigure (cond t (W.Length size) W.Short))
+    either true = packed-unpacks 0 0 size (omega arith) (omega arith)
+    either false = packed-unpacks 22 0 0 (omega arith) (omega arith)
+
+    by : (s : Status) → readModel file .status ≡ s → Unpacks (rewrittenPacked (rewrittenAs s size room)) (rewrittenNumber (rewrittenAs s size room)) 0 (rewrittenFigure (rewrittenAs s size room))
+    by Read e = either (leb size room)
+    by (Refused number offset) e = refused-unpacks file number offset e
 
 -- ---- number 11: a model that was read is accepted
 

@@ -9,5 +9,6 @@ pub mod ReadBack
 pub mod StoredSoFar
 pub mod OneForm
 pub mod Longest
+pub mod Sample
 pub mod StoredModels
 pub mod Answering
