@@ -11,11 +11,11 @@ ghost use Rattle.writer.specs.Inner.{bitsOf};
 pub(crate) fn bits(x: i64) -> u64
     ensures { λ r. ⌜ r ≡ bitsOf x ⌝ }
 {
+    let size = arrays::magnitude(x);
     if x < 0 {
-        let below = (-1 - x) as u64;
-        return 0xFFFF_FFFF_FFFF_FFFF - below;
+        return 0xFFFF_FFFF_FFFF_FFFF - size + 1;
     }
-    x as u64
+    size
 }
 
 // The lowest `count` bytes of n.
