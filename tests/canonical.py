@@ -5,8 +5,10 @@
 
 What it writes is held against bytes that are worked out by hand, and against the exact program
 (`exact.read_model`, `exact.canonical`): on the files of the reader's tests, on every way to save a
-model, and on random files, of which there are 20,000 or as many as `--count` says. It takes the
-built program, target/bin/canonical, or another one, and fails where there is none.
+model, on 20,000 random accepted models or as many as `--count` says, each saved in a random way,
+and on random files, most of the refused ones among them, 3 for each 20 models. The numbers of what
+was tried are printed. It takes the built program, target/bin/canonical, or another one, and fails
+if there is none.
 """
 
 from __future__ import annotations
@@ -22,8 +24,10 @@ import subprocess
 import sys
 import tempfile
 import unittest
+from dataclasses import replace
 from pathlib import Path
 from typing import Any
+from unittest import mock
 
 ROOT = Path(__file__).resolve().parent.parent
 READER_FILES = ROOT / "crates" / "readings" / "data"
@@ -38,7 +42,7 @@ from layout import (  # noqa: E402
     DEFAULT_STEPS, LONGEST_FILE, LONGEST_WRITTEN, MAX_DIRECTIONS, MAX_GUARDS, MAX_N, MAX_STEPS,
     READ_LIMIT, VERTICES, Model, Set, encode, fitted_rows_of, states_drift, states_input, zero_box,
 )
-from listings import Refusal  # noqa: E402
+from listings import Growth, Refusal  # noqa: E402
 
 REST = "00" * 20  # entries 1 to 5
 START = f"01 01 0300 02 00 00800000 {REST}"  # n 1, 3 steps, the row 32,768
@@ -50,7 +54,9 @@ SAMPLE = bytes.fromhex(f"{START} {INITIAL} {INPUT} {ASKED} {GUARDS} FF")  # List
 
 program = str(ROOT / "target" / "bin" / "canonical")
 seed, count = 2026, 20_000
-seen: collections.Counter[str] = collections.Counter()  # what the random files were
+# What the random models were, and the random files: accepted, or refused with which number.
+seen_models: collections.Counter[str] = collections.Counter()
+seen_files: collections.Counter[str] = collections.Counter()
 
 
 def run(data: bytes | None = None, **how: Any) -> subprocess.CompletedProcess[bytes]:
@@ -63,6 +69,22 @@ def run_by(shell: str, data: bytes = SAMPLE) -> subprocess.CompletedProcess[byte
     """What the program, `$0` of a shell's command, does."""
     command = ["sh", "-c", shell, program]
     return subprocess.run(command, input=data, capture_output=True, timeout=TIME_LIMIT)
+
+
+def saved(rng: random.Random, model: Model) -> bytes:
+    """A file of a model, saved in one of its ways."""
+    share = rng.choice((0, 0, 0.5, 1))
+    rows = {
+        number: (
+            *(models.becoming(rng, entry) for entry in entries),
+            *rng.choices((0, models.SIGN), k=MAX_N - model.n),
+        )
+        for number, entries in enumerate(model.matrix)
+        if rng.random() < share
+    }
+    stated_steps = 0 if model.steps == DEFAULT_STEPS and rng.random() < 0.5 else None
+    input_stated = model.input != zero_box(model.n) or rng.random() < 0.5
+    return encode(model, stated_steps, input_stated, rows, rng.random() < 0.3)
 
 
 class Spawned:
@@ -295,29 +317,54 @@ class Files(Canonical):
         for model, (out, err) in zip(tried, written):
             self.assertEqual((exact.read_model(out), err), (model, b""))
 
-    def test_random_files_are_written_and_read_back_or_refused(self) -> None:
+    def checked(self, spawned: Spawned, data: bytes, name: str) -> Model | Refusal:
+        """`check`, which says on what it failed."""
+        try:
+            return self.check(spawned, data)
+        except AssertionError as error:
+            raise AssertionError(f"{name} of seed {seed}: {error}") from None
+
+    def test_random_models_are_written_and_read_back(self) -> None:
         by_bytes: dict[bytes, Model] = {}
-        with Spawned() as spawned:
+        # `models` sweeps a model to put guards near its bounds, which would take most of the time and
+        # makes no difference to a writer; where no sweep has bounds, it takes any levels.
+        unswept = mock.patch.object(exact, "sweep", return_value=Growth(1))
+        with Spawned() as spawned, unswept:
             for number in range(count):
-                data = models.file_of(seed, number)
-                try:
-                    read = self.check(spawned, data)
-                except AssertionError as error:
-                    raise AssertionError(f"file {number} of seed {seed}: {error}") from None
-                if isinstance(read, Refusal):
-                    seen[f"refused {read.number}"] += 1
-                    continue
-                self.assertEqual(by_bytes.setdefault(exact.canonical(read), read), read)
-                seen["accepted"] += 1
-                seen["with fitted rows"] += bool(fitted_rows_of(data, read.n))
-                seen["with a drift"] += any(read.drift)
-                seen["with a drift of zeros"] += states_drift(data) and not any(read.drift)
-                seen["without input"] += read.input == zero_box(read.n)
-                seen["with corners of zeros"] += states_input(data) and read.input == zero_box(read.n)
-                seen["with default steps"] += data[2:4] == b"\0\0"
+                rng = random.Random(f"{seed}/model {number}")
+                model = models.random_model(rng)
+                if rng.random() < 0.06:
+                    model = replace(model, steps=DEFAULT_STEPS)
+                data = saved(rng, model)
+                read = self.checked(spawned, data, f"model {number}")
+                self.assertEqual(read, model, f"model {number} of seed {seed}")
+                written = exact.canonical(model)
+                self.assertEqual(by_bytes.setdefault(written, model), model)
+                zero_input = model.input == zero_box(model.n)
+                seen_models["accepted"] += 1
+                seen_models["written otherwise than given"] += written != data
+                seen_models["with fitted rows"] += bool(fitted_rows_of(data, model.n))
+                seen_models["with a drift"] += any(model.drift)
+                seen_models["with a drift of zeros"] += states_drift(data) and not any(model.drift)
+                seen_models["without input"] += zero_input
+                seen_models["with corners of zeros"] += states_input(data) and zero_input
+                seen_models["with steps of 0"] += data[2:4] == b"\0\0"
+        seen_models["different"] = len(by_bytes)
+        self.assertEqual(seen_models["accepted"], count)
         if count >= 2_000:
-            self.assertGreater(min(seen.values()), count // 1_000, seen)
-            self.assertEqual(len(seen), 7 + len(exact.REASONS), seen)
+            self.assertGreater(min(seen_models.values()), count // 100, seen_models)
+            self.assertGreater(len(by_bytes), 0.99 * count)
+
+    def test_random_files_are_written_or_refused(self) -> None:
+        tried = 3 * count // 20
+        with Spawned() as spawned:
+            for number, data in enumerate(models.stream(seed, tried)):
+                read = self.checked(spawned, data, f"file {number}")
+                refused = isinstance(read, Refusal)
+                seen_files[str(read.number) if refused else "accepted"] += 1
+        if count >= 20_000:
+            numbers = {str(number) for number in exact.REASONS}
+            self.assertEqual(set(seen_files), {"accepted", *numbers}, seen_files)
 
 
 class Input(Canonical):
@@ -394,20 +441,21 @@ class Output(Canonical):
 
 
 def tearDownModule() -> None:
-    if not seen:
-        return
-    refused = sum(number for what, number in seen.items() if what.startswith("refused "))
-    told = [f"{number:,} {what}" for what, number in seen.items() if not what.startswith("refused ")]
-    print(f"{seen['accepted'] + refused:,} random files: {', '.join(told)}, {refused:,} refused",
-          file=sys.stderr)
+    if seen_models:
+        told = ", ".join(f"{number:,} {what}" for what, number in seen_models.items())
+        print(f"\nrandom models: {told}", file=sys.stderr)
+    if seen_files:
+        accepted = seen_files["accepted"]
+        refused = seen_files.total() - accepted
+        print(f"\nrandom files: {accepted:,} accepted, {refused:,} refused", file=sys.stderr)
 
 
 def main() -> None:
     global program, seed, count
     parser = argparse.ArgumentParser(description="Test the program `canonical` from outside.")
     parser.add_argument("--program", default=program, help="target/bin/canonical without it")
-    parser.add_argument("--seed", type=int, default=seed, metavar="N", help="of the random files")
-    parser.add_argument("--count", type=int, default=count, metavar="N", help="how many random files")
+    parser.add_argument("--seed", type=int, default=seed, metavar="N", help="of the random models and files")
+    parser.add_argument("--count", type=int, default=count, metavar="N", help="how many random models")
     options, rest = parser.parse_known_args()
     seed, count = options.seed, options.count
     found = shutil.which(os.path.abspath(options.program))

@@ -27,7 +27,7 @@ SAMPLE_TEXT = (ROOT / "crates" / "envelope" / "stdout").read_bytes()
 TIME_LIMIT = 20  # seconds; a command that has not ended by then hangs
 # What the commands call, beside the programs.
 COMMANDS = (
-    "awk bash find flock head mkdir mkfifo mktemp od python3 readlink rm sed tac touch wc".split()
+    "awk bash find flock head mkdir mkfifo mktemp od python3 readlink rm sed touch wc".split()
 )
 OTHER_FILES = ("reader/specs/Some.antt", "reader/proofs/some/Proof.antt", "reader/must-fail/some.edit")
 # An `rt`. Like the real one it leaves a program alone where its stamp is there.

@@ -63,7 +63,7 @@ def setUpModule() -> None:
 
 
 def written(data: bytes) -> bytes:
-    """The one file of a model, packed or as a text, as the exact program has it."""
+    """The canonical file of a model, packed or as a text, as the exact program has it."""
     packed = data if data[:1] == b"\x01" else pack.parse(data.decode()).data
     model = exact.read_model(packed)
     assert isinstance(model, Model), model
@@ -173,10 +173,19 @@ class Words(Command):
 
     def test_help_of_a_command_is_told(self) -> None:
         for sub, start in (("list", b"usage: ./run "), ("report", b"Answer models "),
-                           ("canonical", b"Write the one file of a model")):
+                           ("canonical", b"Write the canonical file of a model")):
             done = self.run_in(sub, "--help")
             self.assertEqual((done.returncode, done.stderr), (0, b""))
             self.assertTrue(done.stdout.startswith(start), done.stdout)
+
+    def test_help_has_one_term_and_says_what_is_left_out(self) -> None:
+        for words in (["--help"], ["canonical", "--help"]):
+            told = self.run_in(*words).stdout
+            self.assertIn(b"canonical file", told)
+            self.assertNotRegex(told, rb"one file|but for|is told|are taken")
+        for part in (rb"hidden\s+files\s+and\s+folders", rb"sha256sum\s+-c\s+fails", rb"byte\s+01",
+                     rb"rows\s+of\s+the\s+others\s+are\s+still\s+written"):
+            self.assertRegex(told, part)
 
     def test_it_works_through_links_and_from_any_directory(self) -> None:
         self.put("m.model", TEXT)
@@ -204,7 +213,7 @@ class Words(Command):
     def test_without_python3_a_packed_file_is_listed_and_the_rest_is_told(self) -> None:
         path = self.path(without="python3")
         self.assert_done(self.run_in("list", "-", data=SAMPLE, path=path), 0, SAMPLE_TEXT, b"")
-        self.assert_told(self.run_in("canonical", "-", data=SAMPLE, path=path), 2, "python3.* is not there$")
+        self.assert_told(self.run_in("canonical", "-", data=SAMPLE, path=path), 2, "python3.* not found$")
         self.assert_told(self.run_in("report", "-", data=SAMPLE, path=path), 2, "python3.* is not there$")
 
     def test_a_command_that_is_not_there_has_status_2(self) -> None:
@@ -223,7 +232,7 @@ class Words(Command):
 
 
 class OneFile(Command):
-    """Without options: the one file of one model."""
+    """Without options: the canonical file of one model."""
 
     def test_a_text_and_its_packed_file_are_written(self) -> None:
         self.put("m.model", TEXT)
@@ -295,12 +304,12 @@ class OneFile(Command):
             os.close(slave)
             os.close(master)
 
-    def test_of_several_models_or_a_folder_only_digests_are_told(self) -> None:
+    def test_several_models_or_a_folder_need_digest(self) -> None:
         self.put("a.model", TEXT)
         self.put("sub/b.model", TEXT)
         for words, message in (
-            (["a.model", "a.model"], "^canonical: of several models .*--digest"),
-            (["a.model", "a.model", "-o", "out"], "^canonical: of several models .*--digest"),
+            (["a.model", "a.model"], "^canonical: several models need --digest"),
+            (["a.model", "a.model", "-o", "out"], "^canonical: several models need --digest"),
             (["sub"], "^canonical: sub is a folder.*--digest"),
             (["sub", "-o", "out"], "^canonical: sub is a folder.*--digest"),
         ):
@@ -426,7 +435,8 @@ class Bad(Command):
 class Into(Command):
     """What is written under a name stands there whole, or not at all."""
 
-    OLD = b"what was there before"
+    OLD = b"\x01 and the rest of what was there before"  # of a packed model
+    OLD_ROWS = b"0  what was there before\n"
 
     def setUp(self) -> None:
         super().setUp()
@@ -434,12 +444,12 @@ class Into(Command):
         self.out = self.models / "out" / "file"
         self.out.parent.mkdir()
 
-    def put_old(self) -> None:
-        self.out.write_bytes(self.OLD)
+    def put_old(self, digest: bool = False) -> None:
+        self.out.write_bytes(self.OLD_ROWS if digest else self.OLD)
 
-    def assert_old(self) -> None:
+    def assert_old(self, digest: bool = False) -> None:
         """The file is as it was, and nothing is beside it."""
-        self.assertEqual((self.names(self.out.parent), self.out.read_bytes()), (["file"], self.OLD))
+        self.assert_new(self.OLD_ROWS if digest else self.OLD)
 
     def assert_new(self, data: bytes = TEXT_FILE) -> None:
         self.assertEqual((self.names(self.out.parent), self.out.read_bytes()), (["file"], data))
@@ -450,6 +460,9 @@ class Into(Command):
         self.put_old()
         self.assert_done(self.run_in("-o", "out/file", "m.model"), 0, b"", b"")
         self.assert_new()
+        self.out.write_bytes(b"")
+        self.assert_done(self.run_in("m.model", "-o", self.out), 0, b"", b"")
+        self.assert_new()
 
     def test_the_mode_is_the_usual_one_or_that_of_the_old_file(self) -> None:
         self.assert_done(self.run_shell("umask 027; $c m.model -o out/file"), 0, b"", b"")
@@ -458,7 +471,7 @@ class Into(Command):
         self.assert_done(self.run_in("m.model", "-o", self.out), 0, b"", b"")
         self.assertEqual(stat.S_IMODE(self.out.stat().st_mode), 0o604)
 
-    def test_a_model_may_be_replaced_by_its_one_file(self) -> None:
+    def test_a_model_may_be_replaced_by_its_canonical_file(self) -> None:
         for way in list(models.saved_ways(SAVED))[::7]:
             self.out.write_bytes(way)
             self.assert_done(self.run_in(self.out, "-o", self.out), 0, b"", b"")
@@ -469,7 +482,7 @@ class Into(Command):
     def test_a_text_is_not_replaced_by_its_packed_file_and_no_model_by_rows(self) -> None:
         self.put("m.bin", SAMPLE)
         (self.models / "link").symlink_to("m.model")
-        line = "^canonical: {} would be replaced by {}.*: name another FILE$"
+        line = "^canonical: {} would be replaced by {}.*: choose another FILE$"
         for words, message in (
             ("m.model -o m.model", line.format("m.model", "a packed file")),
             ("m.model -o link", line.format("m.model", "a packed file")),
@@ -483,6 +496,90 @@ class Into(Command):
         self.assertEqual((self.models / "m.model").read_text(), TEXT)
         self.assertEqual((self.models / "m.bin").read_bytes(), SAMPLE)
         self.assertEqual(self.names(), ["link", "m.bin", "m.model", "out"])
+
+    def test_no_given_file_is_replaced_by_rows_whatever_was_read_of_it(self) -> None:
+        # Names without an ending: only that they are given keeps these files.
+        kept = {"wrong": WRONG.encode(), "mistakes.model": WRONG.encode() * 9, "cut": CUT, "cut.bin": CUT,
+                "utf16": TEXT.encode("utf-16"), "empty": b"", "empty.model": b"", "long": b"#" * 1_048_576,
+                "m.bin": SAMPLE, "locked.model": WRONG.encode()}
+        for name, content in kept.items():
+            self.put(name, content)
+        (self.models / "locked.model").chmod(0)
+        (self.models / "link").symlink_to("wrong")
+        line = "^canonical: {} would be replaced by rows of digests: choose another FILE$"
+        for name in kept:
+            for words in (f"--digest {name} m.bin -o {name}", f"--same m.bin {name} m.model -o ./{name}",
+                          f"--digest m.bin ./{name} -o out/../{name}"):
+                with self.subTest(words):
+                    self.assert_told(self.run_shell(f"$c {words}"), 2, line.format(rf"(\./)?{name}"))
+            if name.endswith((".model", ".bin")):
+                self.assert_told(self.run_shell(f"$c --digest . -o {name}"), 2, line.format(f"./{name}"))
+        self.assert_told(self.run_shell("$c --digest m.bin link -o wrong"), 2, line.format("link"))
+        self.assert_told(self.run_shell("$c --digest m.bin wrong -o link"), 2, line.format("wrong"))
+        self.assert_told(self.run_shell("$c --digest m.bin - -o wrong < wrong"), 2, line.format("standard input"))
+        for words in ("wrong -o wrong", "link -o wrong", "utf16 -o utf16", "long -o long", "- -o wrong < wrong"):
+            with self.subTest(words):
+                told = "^canonical: .* would be replaced by a packed file, .*: choose another FILE$"
+                self.assert_told(self.run_shell(f"$c {words}"), 2, told)
+        self.assertEqual({name: (self.models / name).read_bytes() for name in kept}, kept)
+        self.assertEqual(self.names(), sorted([*kept, "link", "m.model", "out"]))
+
+    def test_what_is_no_packed_model_is_not_replaced_by_one(self) -> None:
+        self.put("a.bin", SAMPLE)
+        kept = {"other.model": TEXT, "wrong.model": WRONG, "notes": "notes\n", "rows.bin": "0  a.bin\n", "x": "\0"}
+        for name, content in kept.items():
+            self.put(name, content)
+        (self.models / "link").symlink_to("other.model")
+        line = ("^canonical: {0} is not a packed model and would be replaced by one:"
+                " choose another FILE, or delete {0} first$")
+        for name in (*kept, "link", "out/../other.model"):
+            for words in (f"a.bin -o {name}", f"m.model -o {name}", f"cat m.model | $c - -o {name}"):
+                with self.subTest(words):
+                    words = words if "$c" in words else f"$c {words}"
+                    self.assert_told(self.run_shell(words), 2, line.format(name))
+        self.assert_told(self.run_shell("cat m.model | $c - -o m.model"), 2, line.format("m.model"))
+        self.assert_told(self.run_shell("$c <(cat m.model) -o m.model"), 2, line.format("m.model"))
+        for name, content in {**kept, "m.model": TEXT}.items():
+            self.assertEqual((self.models / name).read_text(), content)
+        self.assertEqual(self.names(), sorted([*kept, "a.bin", "link", "m.model", "out"]))
+        (self.models / "other.model").unlink()  # as the message says
+        self.assert_done(self.run_in("a.bin", "-o", "other.model"), 0, b"", b"")
+        self.assertEqual((self.models / "other.model").read_bytes(), SAMPLE)
+
+    def test_rows_replace_rows_and_no_model(self) -> None:
+        kept = {"other.model": TEXT.encode(), "wrong.model": b"#", "b.bin": SAMPLE, "packed": SAMPLE,
+                "cut": CUT, "one": b"\x01", "text.bin": TEXT.encode(), ".hidden.model": TEXT.encode()}
+        for name, content in kept.items():
+            self.put(name, content)
+        (self.models / "link").symlink_to("other.model")
+        (self.models / "link.model").symlink_to("out/file")
+        self.put_old(digest=True)
+        line = ("^canonical: {0} looks like a model and would be replaced by rows of digests:"
+                " choose another FILE, or delete {0} first$")
+        for name in (*kept, "link", "link.model"):
+            for words in (["--digest", "m.model"], ["--same", "m.model", "m.model"]):
+                with self.subTest(f"{words} {name}"):
+                    self.assert_told(self.run_in(*words, "-o", name), 2, line.format(name))
+        self.assert_old(digest=True)
+        self.assertEqual({name: (self.models / name).read_bytes() for name in kept}, kept)
+        row = digest(TEXT_FILE) + b"  m.model\n"
+        for words, expected in ((["m.model"], row), (["m.model", "m.model"], row * 2), (["m.model"], row)):
+            self.assert_done(self.run_in("--digest", *words, "-o", self.out), 0, b"", b"")
+            self.assert_new(expected)
+        self.put("empty.model", b"")
+        self.assert_done(self.run_in("--digest", "m.model", "-o", "empty.model"), 0, b"", b"")
+        self.assertEqual((self.models / "empty.model").read_bytes(), row)
+
+    def test_a_file_that_cannot_be_checked_is_not_replaced(self) -> None:
+        self.put_old()
+        self.out.chmod(0o200)
+        if os.access(self.out, os.R_OK):
+            self.skipTest("this user may read everything")
+        for options in ([], ["--digest"]):
+            done = self.run_in(*options, "m.model", "-o", self.out)
+            self.assert_told(done, 2, "^canonical: .*: cannot be read: Permission denied$")
+        self.out.chmod(0o600)
+        self.assert_old()
 
     def test_a_link_is_followed(self) -> None:
         (self.models / "link").symlink_to("out/file")
@@ -513,22 +610,20 @@ class Into(Command):
         for options in ([], ["--same"]):
             for word, status in (("cut.bin", 1), ("wrong.model", 1), ("missing", 2)):
                 with self.subTest(f"{options} {word}"):
-                    self.put_old()
+                    self.put_old(bool(options))
                     self.assertEqual(self.run_in(*options, word, "-o", self.out).returncode, status)
-                    self.assert_old()
+                    self.assert_old(bool(options))
                     self.out.unlink()
                     self.assertEqual(self.run_in(*options, word, "-o", self.out).returncode, status)
                     self.assertEqual(self.names(self.out.parent), [])
 
     def test_a_write_that_fails_leaves_the_old_file(self) -> None:
-        # A limit of no bytes for a file takes the place of a full disk. What looks whether the program is
-        # built needs a `tac` that makes no file.
-        script(self.bin / "tac", "#!/bin/sh\nawk '{ row[NR] = $0 } END { for (i = NR; i; i--) print row[i] }'\n")
+        # A limit of no bytes for a file takes the place of a full disk.
         for options in ("", "--digest"):
-            self.put_old()
+            self.put_old(bool(options))
             done = self.run_shell(f"ulimit -f 0; $c {options} m.model -o out/file")
             self.assert_told(done, 2, f"^canonical: out/file: cannot be written: {os.strerror(errno.EFBIG)}$")
-            self.assert_old()
+            self.assert_old(bool(options))
             self.out.unlink()
             done = self.run_shell(f"ulimit -f 0; $c {options} m.model -o out/file")
             self.assert_told(done, 2, "^canonical: out/file: cannot be written: ")
@@ -574,9 +669,15 @@ class Into(Command):
                 self.put_old()
                 self.assert_told(self.run_in(name, "-o", self.out), 2, f"^canonical: {name}: ")
                 self.assert_old()
+        self.put_old(digest=True)
         for options in ([], ["--digest"], ["--same", "-o", self.out]):
             self.assert_told(self.run_in(*options, name), 2, f"^canonical: {name}: ")
-        self.assert_old()
+        self.assert_old(digest=True)
+        for row, why in (("exit 3", "status 3"), ("kill -SEGV $$", "signal 11"),
+                         ("echo 'a\tb' >&2; echo c >&2", r"on standard error: a\\tb")):
+            script(self.program, f"#!/bin/sh\n{row}\n")
+            told = rf"^canonical: m.bin: the program canonical failed \({why}\)$"
+            self.assert_told(self.run_in("m.bin"), 2, told)
         script(self.program, "#!/bin/sh\ncat\n")
         self.assert_done(self.run_in("m.bin"), 0, SAMPLE, b"")
         script(self.program, f"#!/bin/sh\n{refused}\n")
@@ -629,6 +730,14 @@ class Digests(Command):
         self.assert_done(self.run_in("--digest", "--", *names, cwd=made), 0, expected, b"")
         checked = self.run_in("--strict", "-c", "-", command="sha256sum", cwd=made, data=expected)
         self.assertEqual(checked.returncode, 0, checked.stderr)
+
+    def test_sha256sum_checks_the_rows_of_canonical_files_alone(self) -> None:
+        self.put("canonical.bin", SAMPLE)
+        self.put("saved.bin", encode(SAVED, 0))
+        for name, status in (("canonical.bin", 0), ("saved.bin", 1)):
+            row = self.run_in("--digest", name).stdout
+            checked = self.run_in("--strict", "-c", "-", command="sha256sum", data=row)
+            self.assertEqual(checked.returncode, status, name)
 
     def test_sort_and_uniq_find_the_same_models(self) -> None:
         for number, way in enumerate(models.saved_ways(SAVED)):
@@ -828,6 +937,18 @@ class Build(Command):
             self.make_newer(self.clone / "crates" / crate / "src" / "lib.rt")
         self.assert_done(self.run_in("m.bin"), 0, SAMPLE, b"")
 
+    def test_a_temporary_folder_is_made_only_for_a_build(self) -> None:
+        for command in ("$c m.bin", f"'{self.clone}/tools/building.sh' some canonical"):
+            done = self.run_shell(f"TMPDIR={self.folder}/missing {command}")
+            self.assert_done(done, 0, SAMPLE if "m.bin" in command else b"", b"")
+        self.assertEqual(self.calls(), 0)
+        self.program.unlink()
+        done = self.run_shell(f"TMPDIR={self.folder}/missing $c m.bin", stderr=subprocess.PIPE)
+        self.assert_done(done, 2, b"")
+        self.assertIn(b"canonical: no temporary folder can be made in %s/missing\n" % bytes(self.folder), done.stderr)
+        self.assertEqual(self.calls(), 0)
+        self.assert_done(self.run_in("m.bin"), 0, SAMPLE)
+
     def test_rt_is_not_called_for_what_cannot_be_read(self) -> None:
         self.program.unlink()
         self.put("wrong.model", WRONG)
@@ -926,14 +1047,14 @@ class Interrupts(Command):
         self.assertEqual(list(self.temporary.iterdir()), [])
 
     def test_while_it_reads(self) -> None:
-        (self.models / "out").write_bytes(b"old")
+        (self.models / "out").write_bytes(b"\x01old")
         for signal_, group in itertools.product(self.SIGNALS, (False, True)):
             for words in (["-", "-o", "out"], ["--digest", "-"]):
                 with self.subTest(f"{signal_} {group} {words}"):
                     started = self.start(*words, cwd=self.models, stdin=subprocess.PIPE, start_new_session=True)
                     until(lambda: self.heeds(started))
                     self.interrupt(started, signal_, group)
-        self.assertEqual((self.names(), (self.models / "out").read_bytes()), (["out"], b"old"))
+        self.assertEqual((self.names(), (self.models / "out").read_bytes()), (["out"], b"\x01old"))
 
     def heeds(self, started: subprocess.Popen[bytes]) -> bool:
         """Whether it is loaded, and catches signals."""
@@ -943,7 +1064,7 @@ class Interrupts(Command):
 
     def test_while_the_program_runs(self) -> None:
         self.put("m.bin", SAMPLE)
-        (self.models / "out").write_bytes(b"old")
+        (self.models / "out").write_bytes(b"\x01old")
         script(self.program, f"#!/bin/sh\ntouch '{self.notes}/runs'\nexec sleep 60\n")
         for signal_, group in itertools.product(self.SIGNALS, (False, True)):
             for words in (["m.bin", "-o", "out"], ["--same", "m.bin", "m.bin"]):
@@ -952,7 +1073,7 @@ class Interrupts(Command):
                     until((self.notes / "runs").exists)
                     self.interrupt(started, signal_, group)
                     (self.notes / "runs").unlink()
-        self.assertEqual((self.names(), (self.models / "out").read_bytes()), (["m.bin", "out"], b"old"))
+        self.assertEqual((self.names(), (self.models / "out").read_bytes()), (["m.bin", "out"], b"\x01old"))
 
     def test_while_it_waits_for_a_reader(self) -> None:
         # It has come to writing, into a pipe that nobody opens.
@@ -971,14 +1092,14 @@ class Interrupts(Command):
         out.parent.mkdir()
         ended = []
         for number in range(24):
-            out.write_bytes(b"old")
+            out.write_bytes(b"\x01old")
             started = self.start("m.bin", "-o", out, cwd=self.models)
             time.sleep(0.01 * number + 0.05)
             started.send_signal(signal.SIGTERM)
             _, err = started.communicate(timeout=TIME_LIMIT)
             self.assertEqual((self.names(out.parent), err), (["file"], b""))
             self.assertIn(started.returncode, (0, -signal.SIGTERM, 128 + signal.SIGTERM))
-            self.assertIn(out.read_bytes(), (b"old", SAMPLE) if started.returncode else (SAMPLE,))
+            self.assertIn(out.read_bytes(), (b"\x01old", SAMPLE) if started.returncode else (SAMPLE,))
             ended.append(started.returncode == 0)
         self.assertIn(False, ended)
 

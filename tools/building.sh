@@ -6,14 +6,14 @@
 # The messages begin with CALLER. The status is 0 where target/bin/PROGRAM is ready, and otherwise 2.
 #
 # A command of the shell sources it. Before that it sets `caller`, and `root`, the folder of the repository; then it calls `begin` and
-# `ready PROGRAM`.
+# `ready PROGRAM`. Where the command itself needs no temporary folder, `heed_signals` takes the place of `begin`.
 #
 # `rt` has no lock of its own; here a second run waits for the first, whichever programs the two build, and then finds its own built,
 # or builds it.
 program=
 began=  # there from the start of a build to its good end; where a build failed or was ended it stays, and the program isn't trusted
 built=  # the name of the program that is ready
-work=   # the temporary folder
+work=   # the temporary folder, from the moment that it is needed
 child=  # what a signal has to end as well: a process, or with a minus its whole group
 
 say() {
@@ -31,20 +31,41 @@ clean() {
     [ ! -d "$work" ] || rm -rf "$work"
 }
 
-# begin: makes the temporary folder. It is removed, and the child ended, when the command ends, by a signal too.
-begin() {
+# heed_signals: lets the temporary folder be removed, and the child ended, when the command ends, by a signal too.
+heed_signals() {
     trap clean EXIT
     trap 'exit 129' HUP
     trap 'exit 130' INT
     trap 'exit 141' PIPE
     trap 'exit 143' TERM
+}
+
+# make_folder: makes the temporary folder, once.
+make_folder() {
+    [ -z "$work" ] || return 0
     { work=$(mktemp -d) && [ -d "$work" ]; } || fail "no temporary folder can be made in ${TMPDIR:-/tmp}"
+}
+
+# begin: heeds signals, and makes the temporary folder.
+begin() {
+    heed_signals
+    make_folder
 }
 
 # crates PROGRAM: prints a program and the crates of crates.txt below it. A crate stands there below those that it names.
 crates() {
-    sed 's/#.*//; s/:/ /' "$root/crates.txt" | tac |
-        awk -v program="$1" 'BEGIN { wanted[program] } $1 in wanted { print $1; for (i = 2; i <= NF; i++) wanted[$i] }'
+    # Not `tac`: it makes a temporary file, and where that fails the program would be built.
+    sed 's/#.*//; s/:/ /' "$root/crates.txt" | awk -v program="$1" '
+        { row[NR] = $0 }
+        END {
+            wanted[program]
+            for (r = NR; r; r--) {
+                count = split(row[r], name)
+                if (!(name[1] in wanted)) continue
+                print name[1]
+                for (i = 2; i <= count; i++) wanted[name[i]]
+            }
+        }'
 }
 
 # fresh PROGRAM: the program is there, and nothing that it is made of is newer. A folder is newer where a file was taken out of it.
@@ -96,6 +117,7 @@ progress() {
 # build PROGRAM: proves and builds the program. It then is as old as the start of the build, since `rt` leaves a program alone that
 # would not change, and since a source that was changed meanwhile must count as newer.
 build() {
+    make_folder
     say 'proving and building the program; this takes two to three minutes the first time'
     # `rt` compares sources with what it noted of them, and doesn't see that the program is missing.
     [ -x "$program" ] || rm -f "$root/target/stamp/$1"
@@ -139,6 +161,6 @@ if [ "${BASH_SOURCE[0]}" = "$0" ]; then
         exit 2
     fi
     caller=$1
-    begin
+    heed_signals
     ready "$2"
 fi

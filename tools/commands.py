@@ -38,11 +38,11 @@ class Parser(argparse.ArgumentParser):
     def parsed(self, arguments: Sequence[str]) -> argparse.Namespace:
         """The options, which may stand anywhere, and the models; behind -- every word is a model.
 
-        Where help or the version is asked for, it is told, and nothing else is done.
+        If help or the version is asked for, it is printed, and nothing else is done.
         """
         self.add_argument("models", metavar="MODEL", nargs="*", help=argparse.SUPPRESS)
-        self.add_argument("--help", action="store_true", help="tell this")
-        self.add_argument("--version", action="store_true", help="tell the version")
+        self.add_argument("--help", action="store_true", help="print this help")
+        self.add_argument("--version", action="store_true", help="print the version")
         end = arguments.index("--") if "--" in arguments else len(arguments)
         options = self.parse_intermixed_args(arguments[:end])
         options.models += arguments[end + 1 :]
@@ -56,11 +56,11 @@ class Parser(argparse.ArgumentParser):
 
 
 def fault(error: Exception) -> str:
-    return f"a fault of the tool, please tell us: {type(error).__name__}: {error}"
+    return f"a fault of the tool, please report it: {type(error).__name__}: {error}"
 
 
 def attempted(caller: str, given: Input, make: Callable[[Input], Answer]) -> Answer | Failed:
-    """What is made of a model; whatever goes wrong with it is told and stops no other."""
+    """What is made of a model; whatever goes wrong with it stops no other."""
     try:
         return make(given)
     except files.Failure as failure:
@@ -70,7 +70,7 @@ def attempted(caller: str, given: Input, make: Callable[[Input], Answer]) -> Ans
 
 
 def run(caller: str, main: Callable[[Sequence[str]], int]) -> NoReturn:
-    """Run a command on its words and end with its status; what stops it is told first."""
+    """Run a command on its words and end with its status; print first what stops it."""
     status = NOT_RUN
     try:
         status = main(sys.argv[1:])

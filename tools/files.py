@@ -1,8 +1,9 @@
 """Reading and writing files for the tools, with one message for each thing that can go wrong.
 
-All tools end with 0 where they are done, 1 where their input is wrong (a text, a refused file, a
-comparison that differs), 2 where the command line is wrong, and 3 where something could not be
-read or written.
+A tool that ends through `run` has status 0 if it is done, 1 if its input is wrong (a text, a
+refused file, a comparison that differs), 2 if the command line is wrong, and 3 if something could
+not be read or written. `canonical.py` and `report.py` end through `commands.run`, and have status 2
+for the last too.
 """
 
 from __future__ import annotations
@@ -38,6 +39,11 @@ class AccessFailure(Failure):
     """Something could not be read, written, made or run."""
 
     status = 3
+
+
+def printable(text: str) -> str:
+    """A text in one row, without control characters or bytes that are no text."""
+    return "".join(c if c.isprintable() else ascii(c)[1:-1] for c in text)
 
 
 def shown(path: str) -> str:
@@ -130,7 +136,7 @@ def write_bytes(path: str | None, data: bytes) -> None:
         raise AccessFailure(f"{path}: cannot be written: {reason}") from None
 
 
-def _open_file(path: str) -> int | None:
+def open_file(path: str) -> int | None:
     """The number of the open file that a path such as /dev/stdout stands for."""
     for _ in range(MOST_LINKS):
         folder, name = os.path.split(path)
@@ -144,9 +150,19 @@ def _open_file(path: str) -> int | None:
     return None
 
 
-def _replace(path: str, data: bytes, old: os.stat_result | None) -> None:
-    """Put a new file in the place of an old one, or of none; the mode of an old one is kept.
+def _keep_owner(number: int, old: os.stat_result) -> None:
+    """Give an open file the owner and the group of an old one, as far as this user may."""
+    try:
+        os.fchown(number, old.st_uid, old.st_gid)
+    except OSError:
+        with contextlib.suppress(OSError):
+            os.fchown(number, -1, old.st_gid)
 
+
+def _replace(path: str, data: bytes, old: os.stat_result | None) -> None:
+    """Put a new file in the place of an old one, or of none.
+
+    The mode of an old file is kept, and its owner and group as far as this user may set them.
     Signals wait until this is done.
     """
     if old is not None and not os.access(path, os.W_OK):
@@ -163,8 +179,7 @@ def _replace(path: str, data: bytes, old: os.stat_result | None) -> None:
                     os.umask(mask)
                     os.fchmod(number, 0o666 & ~mask)
                 else:
-                    with contextlib.suppress(PermissionError):
-                        os.fchown(number, old.st_uid, old.st_gid)
+                    _keep_owner(number, old)
                     os.fchmod(number, stat.S_IMODE(old.st_mode))
                 os.fsync(number)
             os.replace(new, path)
@@ -183,7 +198,7 @@ def write_whole(path: str, data: bytes) -> None:
     try:
         if not os.path.basename(path):
             raise IsADirectoryError(errno.EISDIR, os.strerror(errno.EISDIR))
-        number, old = _open_file(path), None
+        number, old = open_file(path), None
         with contextlib.suppress(FileNotFoundError):
             old = os.stat(path)
         if number is None and (old is None or stat.S_ISREG(old.st_mode)):

@@ -1,7 +1,7 @@
 """Models from files, folders, pipes and standard input, with what `./run` says of wrong ones.
 
 In order: a model that was read, and one without an answer; reading those that words name. `caller`
-is the command that tells it.
+is the command whose messages they are.
 """
 
 from __future__ import annotations
@@ -24,9 +24,8 @@ REFUSED, NOT_RUN = 1, 2  # the statuses that a model without an answer makes
 
 
 def shown(word: str) -> str:
-    """A file's name as it is told: without a line end, or bytes that are no text."""
-    name = files.shown(word)
-    return "".join(c if c.isprintable() else ascii(c)[1:-1] for c in name)
+    """A file's name as messages show it: without a line end, or bytes that are no text."""
+    return files.printable(files.shown(word))
 
 
 @dataclass(frozen=True)
@@ -48,17 +47,22 @@ class Input:
 
 @dataclass(frozen=True)
 class Failed:
-    """A model without an answer: what is told of it, and the status that it makes."""
+    """A model without an answer: what is said of it, and the status that it makes.
+
+    `word` names the file or folder that was given or found, if any.
+    """
 
     name: str
     said: str  # a few words
     message: str
     status: int
     data: bytes | None = None
+    word: str | None = None
 
 
-def unread(caller: str, name: str, said: str) -> Failed:
-    return Failed(name, said, f"{caller}: {name} {said}", NOT_RUN)
+def unread(caller: str, word: str, said: str) -> Failed:
+    name = shown(word)
+    return Failed(name, said, f"{caller}: {name} {said}", NOT_RUN, word=word)
 
 
 def not_run(caller: str, name: str, reason: str) -> Failed:
@@ -70,22 +74,22 @@ def refused(caller: str, given: Input, told: Refusal) -> Failed:
     said = f"refused {told.number} at {told.offset}"
     message = refusal.message(given.name, given.packed)
     message = message if given.data else f"{caller}: {given.name} is empty"
-    return Failed(given.name, said, message, REFUSED, given.data)
+    return Failed(given.name, said, message, REFUSED, given.data, given.word)
 
 
 # Reading
 
 
 def in_folder(caller: str, folder: str) -> tuple[list[str], list[Failed]]:
-    """The models in a folder and those below it, but for hidden ones and what is no file.
+    """The models in a folder and in those below it, and the folders that can't be read.
 
-    Beside them the folders that can't be read. Links to folders are not followed.
+    Hidden files and folders, and what is no file, are left out. Links to folders are not followed.
     """
     found: list[str] = []
     failed: list[Failed] = []
 
     def unreadable(error: OSError) -> None:
-        failed.append(unread(caller, shown(error.filename), "is a folder that can't be read"))
+        failed.append(unread(caller, error.filename, "is a folder that can't be read"))
 
     for place, folders, names in os.walk(folder, onerror=unreadable):
         folders[:] = sorted(name for name in folders if not name.startswith("."))
@@ -103,29 +107,29 @@ def model_of(caller: str, word: str) -> Input | Failed:
     try:
         if word == "-":
             if sys.stdin is None:
-                return unread(caller, name, "is closed")
+                return unread(caller, word, "is closed")
             data = sys.stdin.buffer.read(MOST)
         else:
             with open(word, "rb") as file:
                 data = file.read(MOST)
     except FileNotFoundError:
-        return unread(caller, name, "is not there")
+        return unread(caller, word, "is not there")
     except (OSError, ValueError):
-        return unread(caller, name, "can't be read")
+        return unread(caller, word, "can't be read")
     if not data or data[0] == HEAD:
         return Input(word, data)
     if len(data) == MOST:
-        return unread(caller, name, f"is too long: of a text less than {MOST} bytes are read")
+        return unread(caller, word, f"is too long: of a text less than {MOST} bytes are read")
     try:
         return Input(word, data, pack.read_text(data, name))
     except files.Failure as failure:
         count = str(failure).count("\n") + 1
         said = "the text has 1 mistake" if count == 1 else f"the text has {count} mistakes"
-        return Failed(name, said, str(failure), REFUSED, data)
+        return Failed(name, said, str(failure), REFUSED, data, word)
 
 
 def without_copies(given: Sequence[Input | Failed]) -> Iterator[Input | Failed]:
-    """A folder's models but for packed files that are what the text of the same name packs to."""
+    """A folder's models, except packed files that the text of the same name packs to."""
     texts = {
         (os.path.splitext(one.word)[0], one.packed)
         for one in given
@@ -150,7 +154,7 @@ def models_of(caller: str, words: Sequence[str], copies: bool = False) -> list[I
             given += [*(read if copies else without_copies(read)), *failed]
             if not found and not failed:
                 told = " or ".join("*" + ending for ending in ENDINGS)
-                given.append(unread(caller, shown(word), f"is a folder without a model ({told})"))
+                given.append(unread(caller, word, f"is a folder without a model ({told})"))
         else:
             given.append(model_of(caller, word))
     return given

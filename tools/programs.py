@@ -10,7 +10,6 @@ import files
 ROOT = Path(__file__).resolve().parent.parent
 BUILDING = ROOT / "tools" / "building.sh"
 TIME_LIMIT = 60  # seconds for one model; the largest takes some milliseconds
-FAILED = "the program did not end well on it"
 
 
 def version() -> str:
@@ -20,8 +19,7 @@ def version() -> str:
 def ready(name: str, caller: str) -> None:
     """See to it that a program is there and not older than its sources.
 
-    How far a build is, and what is wrong with it, is told on standard error under the name of the
-    caller.
+    Messages on a build go to standard error, under the name of the caller.
     """
     unused = {"stdin": subprocess.DEVNULL, "stdout": subprocess.DEVNULL}
     try:
@@ -37,6 +35,16 @@ def ready(name: str, caller: str) -> None:
         raise files.AccessFailure("the program is not ready, so nothing could be run")
 
 
+def failed(name: str, why: str) -> files.AccessFailure:
+    return files.AccessFailure(f"the program {name} failed ({why})")
+
+
+def unexpected(name: str, err: bytes) -> files.AccessFailure:
+    """The failure of a program that has written on standard error, with the first row of that."""
+    row = err.decode("utf-8", "surrogateescape").partition("\n")[0]
+    return failed(name, f"on standard error: {files.printable(row)}")
+
+
 def output_of(name: str, data: bytes) -> tuple[bytes, bytes]:
     """What a program writes for a packed model, on standard output and on standard error."""
     program = ROOT / "target" / "bin" / name
@@ -45,7 +53,8 @@ def output_of(name: str, data: bytes) -> tuple[bytes, bytes]:
     except OSError as error:
         raise files.AccessFailure(f"{program} can't be run: {error.strerror}") from None
     except subprocess.TimeoutExpired:
-        raise files.AccessFailure(FAILED) from None
+        raise failed(name, f"no answer in {TIME_LIMIT} s") from None
     if done.returncode:
-        raise files.AccessFailure(FAILED)
+        signal_ = -done.returncode
+        raise failed(name, f"signal {signal_}" if signal_ > 0 else f"status {done.returncode}")
     return done.stdout, done.stderr

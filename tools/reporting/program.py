@@ -13,7 +13,7 @@ NAME = "envelope"
 
 
 def ready() -> None:
-    """See to it that the program is there and not older than its sources, as `./run` tells it."""
+    """See to it that the program is there and not older than its sources; `run` is its caller."""
     programs.ready(NAME, "run")
 
 
@@ -21,7 +21,7 @@ def reply(data: bytes, name: str) -> Listing | Refusal:
     """What the program says of a packed model."""
     out, err = programs.output_of(NAME, data)
     if err:
-        raise files.AccessFailure(programs.FAILED)
+        raise programs.unexpected(NAME, err)
     try:
         return listings.parse(out.decode("ascii"), name)
     except (files.Failure, UnicodeDecodeError):

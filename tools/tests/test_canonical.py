@@ -5,11 +5,13 @@ import signal
 import unittest
 from unittest import mock
 
-from helpers import single
+from helpers import FolderTest, single
 
 import canonical
 import exact
 import files
+import inputs
+import pack
 import programs
 from inputs import REFUSED, Failed, Input
 from layout import encode
@@ -18,6 +20,7 @@ signal.signal(signal.SIGINT, signal.default_int_handler)  # as it was before `ca
 # SHA-256 of "abc" and of nothing, as FIPS 180-4 has them.
 ABC = b"ba7816bf8f01cfea414140de5dae2223b00361a396177a9cb410ff61f20015ad"
 NOTHING = b"e3b0c44298fc1c149afbf4c8996fb92427ae41e4649b934ca495991b7852b855"
+TEXT = "coordinates 1\nsteps 3\nrow 0.5\ninitial box\nlower 0\nupper 1\ndirection d 1\n"
 
 
 class Rows(unittest.TestCase):
@@ -50,6 +53,53 @@ class Rows(unittest.TestCase):
 
     def test_of_no_model_there_is_no_row(self):
         self.assertEqual([canonical.digests([], same) for same in (False, True)], [b"", b""])
+
+
+class Loss(FolderTest):
+    """Which files are not replaced."""
+
+    def setUp(self):
+        super().setUp()
+        self.file = str(self.write("file", ""))
+
+    def is_refused(self, to, digest, given=()):
+        try:
+            canonical.refuse_loss(given, to, digest)
+        except files.AccessFailure:
+            return True
+        return False
+
+    def test_what_no_packed_model_and_what_no_row_replaces(self):
+        for name, data, by_model, by_rows in (
+            ("a", b"", False, False), ("a.model", b"", False, False), ("a.bin", b"", False, False),
+            ("a", b"\1", False, True), ("a.model", b"\1", False, True), ("a.bin", b"\1", False, True),
+            ("a", b"0", True, False), ("a.model", b"0", True, True), ("a.bin", b"0", True, True),
+            ("model", b"0", True, False), ("a.bin.txt", b"0", True, False), ("a", b"\0\1", True, False),
+        ):
+            path = self.write(name, "")
+            path.write_bytes(data)
+            with self.subTest(f"{name} {data}"):
+                self.assertEqual(self.is_refused(str(path), False), by_model)
+                self.assertEqual(self.is_refused(str(path), True), by_rows)
+
+    def test_what_is_no_plain_file_and_what_is_open_is_written_to(self):
+        missing = str(self.folder / "missing.model")
+        self.write("open.model", "x")
+        with open(self.folder / "open.model", "ab") as opened:
+            for path in (missing, str(self.folder), "/dev/null", f"/dev/fd/{opened.fileno()}"):
+                for digest in (False, True):
+                    self.assertFalse(self.is_refused(path, digest), path)
+
+    def test_every_given_file_counts(self):
+        word = str(self.folder / "." / "file")
+        text = Input(word, b"", pack.parse(TEXT))
+        for one, by_model in ((Input(word, b""), False), (text, True),
+                              (inputs.unread("some", word, "can't be read"), True)):
+            self.assertEqual(self.is_refused(self.file, False, [one]), by_model)
+            self.assertTrue(self.is_refused(self.file, True, [one]))
+        none = Failed("", "is no model", "", REFUSED)
+        other = inputs.unread("some", str(self.folder), "can't be read")
+        self.assertFalse(self.is_refused(self.file, True, [none, other]))
 
 
 class Answers(unittest.TestCase):

@@ -55,6 +55,24 @@ class Whole(FolderTest):
             self.assertEqual(stat.S_IMODE(self.file.stat().st_mode), mode)
         self.assertEqual(self.names(), ["file"])
 
+    def test_the_mode_is_kept_also_where_the_owner_cannot_be(self):
+        for number in (errno.EPERM, errno.EINVAL, errno.EOPNOTSUPP):
+            error = OSError(number, os.strerror(number))
+            for only_owner in (True, False):
+                def fchown(_, owner, group, only_owner=only_owner, error=error):
+                    if owner != -1 or not only_owner:
+                        raise error
+                    self.groups.append(group)
+
+                self.groups = []
+                self.put_old(0o604)
+                with mock.patch.object(os, "fchown", fchown):
+                    files.write_whole(str(self.file), NEW)
+                self.assertEqual(self.file.read_bytes(), NEW)
+                self.assertEqual(stat.S_IMODE(self.file.stat().st_mode), 0o604)
+                self.assertEqual(self.groups, [self.file.stat().st_gid] * only_owner)
+        self.assertEqual(self.names(), ["file"])
+
     def test_who_has_the_old_file_open_reads_the_old_bytes(self):
         self.put_old()
         with open(self.file, "rb") as opened:

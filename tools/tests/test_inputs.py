@@ -75,6 +75,18 @@ class Inputs(FolderTest):
                 start = "some: " if status == NOT_RUN else f"{word}:1: "
                 self.assertTrue(one.message.startswith(start), one.message)
 
+    def test_each_file_keeps_its_word_whatever_is_read_of_it(self):
+        names = ("cut.bin", "empty.model", "gone.model", "long.model", "right.model", "wrong.model")
+        paths = [str(self.folder / name) for name in names]
+        for name, text in zip(names, ("\1", "", None, "#" * inputs.MOST, TEXT, "steps 3\n")):
+            if text is None:
+                (self.folder / name).symlink_to("nothing")
+            else:
+                self.write(name, text)
+        for words in (paths, [self.folder]):
+            self.assertEqual([one.word for one in self.models(*words)], paths)
+        self.assertEqual(self.models("")[0].word, None)
+
     def test_names_are_told_in_one_row(self):
         self.assertEqual(inputs.shown("a\nb\udcffä"), "a\\nb\\udcffä")
         self.assertEqual(inputs.shown("-"), "standard input")

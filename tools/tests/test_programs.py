@@ -45,15 +45,21 @@ class Output(Scripts):
         self.script("target/bin/some", "echo told")
         self.assertEqual(programs.output_of("some", bytes(1_000_000)), (b"told\n", b""))
 
-    def test_a_program_that_does_not_end_well_is_a_failure(self):
-        for row in ("exit 3", "kill -SEGV $$", "kill -KILL $$"):
+    def test_a_program_that_fails_is_a_failure(self):
+        for row, why in (("exit 3", "status 3"), ("kill -SEGV $$", "signal 11"),
+                         ("kill -KILL $$", "signal 9")):
             self.script("target/bin/some", "echo all; " + row)
-            self.assert_told(self.output, programs.FAILED)
+            self.assert_told(self.output, f"the program some failed ({why})")
+
+    def test_unexpected_messages_are_shown_in_one_row(self):
+        for err, told in ((b"full\n", "full"), (b"a\tb\xff\nmore\n", r"a\tb\udcff"), (b"\n", "")):
+            message = f"the program some failed (on standard error: {told})"
+            self.assertEqual(str(programs.unexpected("some", err)), message)
 
     def test_a_program_that_does_not_end_is_a_failure(self):
         self.script("target/bin/some", "exec sleep 60")
         with mock.patch.object(programs, "TIME_LIMIT", 0.1):
-            self.assert_told(self.output, programs.FAILED)
+            self.assert_told(self.output, "the program some failed (no answer in 0.1 s)")
 
     def test_a_program_that_can_t_be_run_is_named(self):
         path = self.folder / "target" / "bin" / "some"

@@ -57,7 +57,9 @@ fn main() {
             }
         }
         Rewritten::Refused(number, offset) => tell(number, offset),
-        // Every file that is written has room.
-        Rewritten::Short => {}
+        // This never comes: every file that is written has room (`rewrite-fits`).
+        Rewritten::Short => {
+            io::write_all(STDERR_FILENO, b"canonical: too little room\n");
+        }
     }
 }

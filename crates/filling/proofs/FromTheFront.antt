@@ -1,12 +1,17 @@
 -- A list that is filled from the front, element by element or row by row, with one value in the places to come: what it starts as, one
 -- element or one row more, and that in the end it is the list it was filled from. Assumes nothing.
 use mathlib.Core.Path.{_≡_, refl, sym, ap, ap₂, _∙_}
+use mathlib.Core.Bool.{Bool, true, _&&_}
 use mathlib.Core.List.{List, [], _∷_}
-use Prim.Native.Nat.{ℕ, zero, suc, _+_, _*_, _≤_, _<_}
+use Prim.Native.Nat.{ℕ, zero, suc, _+_, _*_, _/_, _%_, _≤_, _<_}
 use native.Mathlib.Omega.{arith}
+use borrow.Author.Tests.{le-ltb}
+use lib.Dec.{ltb}
 use lib.ListN.{length, getD, set, replicate}
 use lib.IntN.{ℤ, pos}
 use Rattle.integers.specs.Sums.{vector, matrix}
+use Rattle.arrays.specs.Tests.{zeroOutside}
+use Rattle.arrays.proofs.Tests.{zeroOutside-at}
 use Rattle.filling.specs.Models.{putFirst, putRow}
 
 -- The first k elements of a list, and z in the place of each other one.
@@ -57,6 +62,11 @@ module _ {A : Type 0} (z : A) where
 -- The first so many rows of six.
 abbrev pub keptRows : ℕ → List ℤ → List ℤ
 keptRows rows xs = kept (pos 0) (6 * rows) xs
+
+-- All rows that are not zero.
+pub rows-all : (rows columns : ℕ) (xs : List ℤ) → zeroOutside rows columns xs ≡ true → keptRows rows xs ≡ xs
+rows-all rows columns xs z =
+    kept-all (pos 0) (6 * rows) xs (λ j h. zeroOutside-at rows columns xs z j (ap (λ (b : Bool). b && ltb (j % 6) columns) (le-ltb (j / 6) rows (omega arith))))
 
 module _ (row : ℕ) (xs six : List ℤ) (is : (i : ℕ) → i < 6 → vector six i ≡ matrix xs row i) where
   put-kept : (k : ℕ) → k ≤ 6 → putFirst k (keptRows row xs) row six ≡ kept (pos 0) (6 * row + k) xs

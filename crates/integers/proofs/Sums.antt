@@ -115,6 +115,17 @@ le-sumℕ (suc n) f i h = elim (decLt i n) [ yes l ↦ omega (arith, le-sumℕ n
     last : i ≡ n → f i ≤ sumℕ n f + f n
     last e = subst (λ (k : ℕ). f k ≤ sumℕ n f + f n) (sym e) (omega arith)
 
+-- fewer and smaller terms
+pub sumℕ-le : (k m : ℕ) (f g : ℕ → ℕ) → k ≤ m → ((j : ℕ) → f j ≤ g j) → sumℕ k f ≤ sumℕ m g
+unfolding sumℕ
+sumℕ-le zero m f g h le = omega arith
+sumℕ-le (suc k) zero f g h le = absurd (omega arith)
+sumℕ-le (suc k) (suc m) f g h le =
+    elim (decLt k m) [ yes l ↦ omega (arith, sumℕ-le (suc k) m f g (omega arith) le) | no n ↦ omega (arith, sumℕ-le k m f g (omega arith) le, le k, same (omega (arith, n))) ]
+  where
+    same : k ≡ m → g k ≡ g m
+    same e = ap g e
+
 pub sumℕ-first : (n : ℕ) (f : ℕ → ℕ) → sumℕ (suc n) f ≡ f 0 + sumℕ n (λ i. f (suc i))
 unfolding sumℕ
 sumℕ-first zero f = omega arith

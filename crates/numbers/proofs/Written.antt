@@ -1,8 +1,10 @@
--- Numbers that were written are read again. In order: how many bytes there are; a number of k bytes, wherever it stands; a signed one.
+-- Numbers as bytes, and read again. In order: how many bytes there are; one byte more, at the end; what stands above them; a number of k
+-- bytes read wherever it stands; a signed one.
 -- Assumes nothing.
 use mathlib.Core.Path.{_≡_, refl, sym, ap, ap₂, _∙_}
 use mathlib.Core.List.{List, [], _∷_, _++_}
 use Prim.Native.Nat.{ℕ, zero, suc, _+_, _*_, _-_, _/_, _%_, _^_, _<_}
+use native.Mathlib.Nat.{mul-assoc}
 use native.Mathlib.Omega.{arith}
 use lib.IntN.{ℤ, pos, negsuc}
 use lib.ListN.{length, length-append}
@@ -23,6 +25,54 @@ length-bytesOf (suc k) n = ap suc (length-bytesOf k (n / 256))
 pub length-signedBytes : (k : ℕ) (z : ℤ) → length (signedBytes k z) ≡ k
 length-signedBytes k (pos n) = length-bytesOf k n
 length-signedBytes k (negsuc n) = length-bytesOf k (2 ^ (8 * k) - suc n)
+
+-- ---- one byte more
+
+-- a number without its k lowest bytes
+pub shifted : ℕ → ℕ → ℕ
+shifted zero n = n
+shifted (suc k) n = shifted k (n / 256)
+
+pub shifted-none : (n : ℕ) → shifted 0 n ≡ n
+unfolding shifted
+shifted-none n = refl
+
+pub shifted-suc : (k n : ℕ) → shifted (suc k) n ≡ shifted k n / 256
+unfolding shifted
+shifted-suc zero n = refl
+shifted-suc (suc k) n = shifted-suc k (n / 256)
+
+pub bytesOf-none : (n : ℕ) → bytesOf 0 n ≡ []
+unfolding bytesOf
+bytesOf-none n = refl
+
+-- one byte more, behind the others
+pub bytesOf-last : (k n : ℕ) → bytesOf k n ++ (shifted k n % 256 ∷ []) ≡ bytesOf (suc k) n
+unfolding bytesOf shifted
+bytesOf-last zero n = refl
+bytesOf-last (suc k) n = ap (λ (t : List ℕ). n % 256 ∷ t) (bytesOf-last k (n / 256))
+
+-- ---- what stands above the k lowest bytes
+
+pub bytesOf-above : (k n y : ℕ) → bytesOf k (n + 2 ^ (8 * k) * y) ≡ bytesOf k n
+unfolding bytesOf
+bytesOf-above zero n y = refl
+bytesOf-above (suc k) n y =
+    ap (λ (p : ℕ). bytesOf (suc k) (n + p)) wide
+    ∙ ap₂ (λ (b r : ℕ). b ∷ bytesOf k r) (lowest n (2 ^ (8 * k) * y)) (others n (2 ^ (8 * k) * y))
+    ∙ ap (λ (t : List ℕ). n % 256 ∷ t) (bytesOf-above k (n / 256) y)
+  where
+    more : 8 * suc k ≡ 8 + 8 * k
+    more = omega arith
+
+    wide : 2 ^ (8 * suc k) * y ≡ 256 * (2 ^ (8 * k) * y)
+    wide = ap (λ (i : ℕ). 2 ^ i * y) more ∙ ap (λ (p : ℕ). p * y) (pow-add 2 8 (8 * k)) ∙ mul-assoc 256 (2 ^ (8 * k)) y
+
+    lowest : (n q : ℕ) → (n + 256 * q) % 256 ≡ n % 256
+    lowest n q = omega arith
+
+    others : (n q : ℕ) → (n + 256 * q) / 256 ≡ n / 256 + q
+    others n q = omega arith
 
 -- ---- a number of k bytes
 

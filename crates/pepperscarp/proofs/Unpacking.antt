@@ -120,3 +120,22 @@ pub judge-never-11 : (file : List ℕ) (g lb ls : ℕ) → readModel file .statu
 judge-never-11 file g lb ls e z =
     let m = readModel file .model in
     other (accepted m) (ltb g (m .questions .guards)) (lengthsOk m lb ls) (leb (growthStep m (getD (m .questions .watched) g 0)) (m .steps)) (readModel-accepted file e) z
+
+-- nor is a file that is rewritten
+pub rewrite-never-11 : (file : List ℕ) (room : ℕ) → rewrittenNumber (rewriteAnswer file room) ≡ 11 → ⊥
+rewrite-never-11 file room = by (readModel file .status) refl
+  where
+    size : ℕ
+    size = length (fileOf (readModel file .model))
+
+    either : (t : Bool) → rewrittenNumber (cond t (W.Length size) W.Short) ≡ 11 → ⊥
+    either true z = omega arith
+    either false z = omega arith
+
+    known : {number : ℕ} → FileNumber number → number ≡ 11 → ⊥
+    known (inl h) z = omega (arith, h)
+    known (inr h) z = omega (arith, h .0)
+
+    by : (s : Status) → readModel file .status ≡ s → rewrittenNumber (rewrittenAs s size room) ≡ 11 → ⊥
+    by Read e z = either (leb size room) z
+    by (Refused number offset) e z = known (readModel-told file number offset e .known) z

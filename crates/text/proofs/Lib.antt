@@ -1,2 +1,3 @@
 pub mod Putting
 pub mod Decimals
+pub mod Each

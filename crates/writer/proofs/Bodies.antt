@@ -1,12 +1,12 @@
 -- What a body that was written holds when it is read: each of its six entries, all of them, and that nothing stands beyond n. A row has
 -- its number before its entries, all else has them alone. Assumes nothing.
 use mathlib.Core.Path.{_≡_, sym, ap, ap₂, _∙_}
-use mathlib.Core.Bool.{Bool, true, cond, _||_}
-use mathlib.Core.List.{List, [], _++_, append-assoc, append-nil}
-use Prim.Native.Nat.{ℕ, zero, suc, _+_, _*_, _≤_, _<_}
+use mathlib.Core.Bool.{Bool, true, _||_}
+use mathlib.Core.List.{List, _++_, append-assoc}
+use Prim.Native.Nat.{ℕ, _+_, _*_, _≤_, _<_}
 use native.Mathlib.Decide.{decLt}
 use native.Mathlib.Omega.{arith}
-use borrow.Author.Tests.{lt-ltb, eq-eqb, ne-eqb}
+use borrow.Author.Tests.{lt-ltb, eq-eqb}
 use lib.Dec.{eqb, ltb}
 use lib.IntN.{ℤ, pos, natAbs}
 use lib.ListN.{length, length-append}
@@ -20,35 +20,10 @@ use Rattle.numbers.specs.Numbers.{signedAt, signedBytes}
 use Rattle.numbers.proofs.Written.{length-signedBytes, signedAt-signedBytes}
 use Rattle.records.specs.declared.kinds.Layout.{Layout}
 use Rattle.text.specs.Text.{each}
+use Rattle.text.proofs.Each.{length-each, behind, each-at}
 use Rattle.columns.specs.Columns.{entryAt, sixAt, columnZero, unusedZero}
 use Rattle.columns.proofs.ColumnLaws.{passes, columnZero-whole}
 use Rattle.writer.specs.Writing.{sixBytes}
-use Rattle.writer.proofs.Bits.{length-each}
-
--- ---- texts one behind the other
-
--- what stands behind text i
-behind : ℕ → (ℕ → List ℕ) → ℕ → List ℕ
-behind zero f i = []
-behind (suc n) f i = cond (eqb i n) [] (behind n f i ++ f n)
-
-each-at : (n : ℕ) (f : ℕ → List ℕ) (i : ℕ) → i < n → each n f ≡ each i f ++ (f i ++ behind n f i)
-unfolding behind
-each-at zero f i h = absurd (omega arith)
-each-at (suc n) f i h = elim (decLt i n) [ yes l ↦ earlier l (each-at n f i l) | no g ↦ last (omega (arith, g)) ]
-  where
-    earlier : i < n → each n f ≡ each i f ++ (f i ++ behind n f i) → each n f ++ f n ≡ each i f ++ (f i ++ behind (suc n) f i)
-    earlier l before =
-        ap (λ (t : List ℕ). t ++ f n) before
-        ∙ append-assoc (each i f) (f i ++ behind n f i) (f n)
-        ∙ ap (λ (t : List ℕ). each i f ++ t) (append-assoc (f i) (behind n f i) (f n))
-        ∙ ap (λ (b : Bool). each i f ++ (f i ++ cond b [] (behind n f i ++ f n))) (sym (ne-eqb i n (λ e. omega arith)))
-
-    last : i ≡ n → each n f ++ f n ≡ each i f ++ (f i ++ behind (suc n) f i)
-    last e =
-        ap (λ (k : ℕ). each k f ++ f k) (sym e)
-        ∙ ap (λ (t : List ℕ). each i f ++ t) (sym (append-nil (f i)))
-        ∙ ap (λ (b : Bool). each i f ++ (f i ++ cond b [] (behind n f i ++ f n))) (sym (eq-eqb i n e))
 
 -- ---- six entries
 

@@ -1,5 +1,5 @@
--- Writing 4 to 6, from `ReadBack`: equal files are of equal models; what was read from a file is written, read and written again
--- alike; the longest file. Assumes nothing.
+-- Writing 4 and 5, from `ReadBack`: equal files are of equal models; what was read from a file is written, read and written again
+-- alike. Assumes nothing.
 use mathlib.Core.Path.{_≡_, sym, ap, _∙_}
 use mathlib.Core.Bool.{true}
 use mathlib.Core.List.{List}

@@ -32,7 +32,7 @@ use Rattle.records.specs.Kinds.{layoutOf}
 use Rattle.records.specs.Places.{rowsPlace, matrixPlace, driftPlace, directionPlace, guardPlace}
 use Rattle.records.specs.Order.{mayFollow}
 use Rattle.filling.specs.Models.{zeros, blankSet, blankModel, setSet, inputAt}
-use Rattle.filling.proofs.FromTheFront.{kept, kept-none, kept-all}
+use Rattle.filling.proofs.FromTheFront.{kept, kept-none, kept-all, rows-all}
 use Rattle.reader.specs.declared.state.State.{State}
 use Rattle.reader.specs.Models.{start, setHead, setMatrix, setDrift, setDirections, setGuards, stateOf}
 use Rattle.reader.specs.Reading.{readAs, readModel}
@@ -40,7 +40,6 @@ use Rattle.writer.specs.Writing.{isZeroBox, firstKind, otherKind, vector
 use Rattle.writer.specs.OneForm.{Stored}
 use Rattle.writer.proofs.Leading.{Leads, leads-none, leads-then, leads-from, leads-to, leads-end}
 use Rattle.writer.proofs.Bodies.{Fits32}
-use Rattle.writer.proofs.SetSoFar.{rows-all}
 use Rattle.writer.proofs.ReadFrame.{head-leads, rows-lead, drift-leads}
 use Rattle.writer.proofs.ReadPoints.{points-lead, soFar-none}
 use Rattle.writer.proofs.ReadQuestions.{directions-lead, guards-lead, guards-end}

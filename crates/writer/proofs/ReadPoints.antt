@@ -29,7 +29,7 @@ use Rattle.records.specs.Kinds.{Bytes, bodyLength, layoutOf, partOf}
 use Rattle.records.specs.Order.{mayFollow}
 use Rattle.columns.specs.Columns.{sixAt}
 use Rattle.filling.specs.Models.{zeros, blankSet, setOf, setSet, putRow, shapeOf}
-use Rattle.filling.proofs.FromTheFront.{kept-none, keptRows, putRow-kept}
+use Rattle.filling.proofs.FromTheFront.{kept-none, keptRows, putRow-kept, rows-all}
 use Rattle.reader.specs.declared.state.State.{State}
 use Rattle.reader.specs.Models.{stateOf, withPoint, withSetPoint}
 use Rattle.reader.specs.Values.{isUpper, unless, pointNumberOf, pointNumber, valueNumber}
@@ -39,7 +39,7 @@ use Rattle.writer.specs.Writing.{sixBytes, vectorRecords, firstKind, oth
 use Rattle.writer.proofs.Bits.{length-sixBytes}
 use Rattle.writer.proofs.Leading.{Leads, leads-record, leads-each, leads-to, Taken}
 use Rattle.writer.proofs.Bodies.{Fits32, six-written, unused-written}
-use Rattle.writer.proofs.SetSoFar.{soFar, rows-all, point-passes, entering-passes}
+use Rattle.writer.proofs.SetSoFar.{soFar, point-passes, entering-passes}
 
 no-boolean : true ≡ false → ⊥
 no-boolean e = let z : _≡_ {A = ℕ} 1 0 = ap (λ (b : Bool). cond b 1 0) e in omega arith

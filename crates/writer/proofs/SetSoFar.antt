@@ -3,18 +3,17 @@
 use mathlib.Core.Path.{_≡_, refl, sym, ap, ap₂, subst, _∙_}
 use mathlib.Core.Bool.{Bool, true, false, not, _&&_, _||_}
 use mathlib.Core.List.{List}
-use Prim.Native.Nat.{ℕ, zero, suc, _+_, _*_, _-_, _/_, _%_, _≤_, _<_}
+use Prim.Native.Nat.{ℕ, zero, suc, _+_, _*_, _-_, _≤_, _<_}
 use native.Mathlib.Nat.{le-trans}
 use native.Mathlib.Decide.{decLt}
 use native.Mathlib.Omega.{arith}
-use borrow.Author.Tests.{le-ltb, le-leb, leb-true}
-use lib.Dec.{leb, ltb}
+use borrow.Author.Tests.{le-leb, leb-true}
+use lib.Dec.{leb}
 use lib.IntN.{ℤ, pos, natAbs}
-use Rattle.integers.specs.Sums.{sumℕ, maxℕ}
+use Rattle.integers.specs.Sums.{maxℕ}
 use Rattle.integers.proofs.Booleans.{and-true}
-use Rattle.integers.proofs.Sums.{allBelow-intro, allBelow-at, le-maxℕ, maxℕ-le}
+use Rattle.integers.proofs.Sums.{sumℕ-le, allBelow-intro, allBelow-at, le-maxℕ, maxℕ-le}
 use Rattle.arrays.specs.Tests.{zeroOutside}
-use Rattle.arrays.proofs.Tests.{zeroOutside-at}
 use Rattle.limits.specs.Limits.{cornersOrdered}
 use Rattle.reachability.specs.declared.sets.Shape.{Shape}
 use Rattle.reachability.specs.declared.sets.Shape.the-variants.{Box, Zonotope, Vertices}
@@ -23,7 +22,7 @@ use Rattle.reachability.specs.Sets.{points, reachOf, reachLimit, reachOk, reach
 use Rattle.reachability.specs.Entering.{enteringReach, enteringOk}
 use Rattle.reachability.proofs.sets.Facts.{counted-of}
 use Rattle.records.specs.declared.kinds.Point.{Point}
-use Rattle.filling.proofs.FromTheFront.{kept-all, kept-below, kept-beyond, keptRows}
+use Rattle.filling.proofs.FromTheFront.{kept-below, kept-beyond, keptRows, rows-all}
 use Rattle.reader.specs.Values.{isUpper, pointOk, enteringPointOk}
 
 -- Before the first point the shape is that of the blank set.
@@ -32,11 +31,6 @@ soFar shape zero xs = record { shape = Box; count = 0; points = keptRows 0 xs }
 soFar shape (suc k) xs = record { shape = shape; count = suc k; points = keptRows (suc k) xs }
 
 -- ---- the block
-
--- with all rows that are not zero
-pub rows-all : (rows columns : ℕ) (xs : List ℤ) → zeroOutside rows columns xs ≡ true → keptRows rows xs ≡ xs
-rows-all rows columns xs z =
-    kept-all (pos 0) (6 * rows) xs (λ j h. zeroOutside-at rows columns xs z j (ap (λ (b : Bool). b && ltb (j % 6) columns) (le-ltb (j / 6) rows (omega arith))))
 
 size-kept : (rows : ℕ) (xs : List ℤ) (p i : ℕ) → i < 6 → natAbs (points (keptRows rows xs) p i) ≤ natAbs (points xs p i)
 size-kept rows xs p i h =
@@ -47,22 +41,11 @@ size-kept rows xs p i h =
 
 -- ---- its reach
 
--- fewer and smaller terms
-sum-le : (k m : ℕ) (f g : ℕ → ℕ) → k ≤ m → ((j : ℕ) → f j ≤ g j) → sumℕ k f ≤ sumℕ m g
-unfolding sumℕ
-sum-le zero m f g h le = omega arith
-sum-le (suc k) zero f g h le = absurd (omega arith)
-sum-le (suc k) (suc m) f g h le =
-    elim (decLt k m) [ yes l ↦ omega (arith, sum-le (suc k) m f g (omega arith) le) | no n ↦ omega (arith, sum-le k m f g (omega arith) le, le k, same (omega (arith, n))) ]
-  where
-    same : k ≡ m → g k ≡ g m
-    same e = ap g e
-
 module _ (count : ℕ) (xs : List ℤ) (k i : ℕ) (h : i < 6) (within : suc k ≤ count) where
   pub reach-kept : (shape : Shape) → reachOf shape (suc k) (points (keptRows (suc k) xs)) i ≤ reachOf shape count (points xs) i
   reach-kept Box = omega (arith, size-kept (suc k) xs 0 i h, size-kept (suc k) xs 1 i h)
   reach-kept Zonotope =
-      let rest = sum-le (suc k - 1) (count - 1) (λ j. natAbs (points (keptRows (suc k) xs) (suc j) i)) (λ j. natAbs (points xs (suc j) i)) (omega arith) (λ j. size-kept (suc k) xs (suc j) i h) in
+      let rest = sumℕ-le (suc k - 1) (count - 1) (λ j. natAbs (points (keptRows (suc k) xs) (suc j) i)) (λ j. natAbs (points xs (suc j) i)) (omega arith) (λ j. size-kept (suc k) xs (suc j) i h) in
       omega (arith, size-kept (suc k) xs 0 i h, rest)
   reach-kept Vertices =
       maxℕ-le (suc k) (maxℕ count (λ j. natAbs (points xs j i))) {f = λ j. natAbs (points (keptRows (suc k) xs) j i)}

@@ -1,4 +1,4 @@
--- Writing 3 to 6: of which models the laws of written files speak. Definitions only; the laws are in `proofs.ReadBack` and
+-- Writing 3 to 5: of which models the laws of written files speak. Definitions only; the laws are in `proofs.ReadBack` and
 -- `proofs.OneForm`, and the writer's contract has the first of them for the model that it is given. Assumes nothing.
 use Prim.Native.Nat.{ℕ}
 use mir.Syntax.{w64}

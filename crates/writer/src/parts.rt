@@ -7,7 +7,7 @@ use reachability::motion::rows_of;
 use reachability::sets::Set;
 use reachability::sets::Shape;
 ghost use mathlib.Core.Path.{_≡_};
-ghost use mathlib.Core.Bool.{true};
+ghost use mathlib.Core.Bool.{true, cond};
 ghost use Prim.Native.Nat.{_+_, _*_, _≤_};
 ghost use lib.ListN.{length};
 ghost use Rattle.text.specs.Put.{Put};
@@ -105,32 +105,35 @@ fn is_zero_box(set: Set) -> bool
     ensures { λ b. ⌜ b ≡ isZeroBox set ⌝ }
 {
     let points = set.points;
+    let zero = arrays::zero_outside(0, 0, &points);
     let shape = set.shape;
     match shape {
-        Shape::Box => set.count == 2 && arrays::zero_outside(0, 0, &points),
+        Shape::Box => set.count == 2 && zero,
         Shape::Zonotope => false,
         Shape::Vertices => false,
     }
 }
 
-// Writing 2. How many points of the input set are written.
+// Writing 2. How many records are written of so many, none where they are left out.
+fn unless_left_out(absent: bool, count: usize) -> usize
+    ensures { λ k. ⌜ k ≡ cond absent 0 count ⌝ }
+{
+    if absent {
+        return 0;
+    }
+    count
+}
+
 fn input_count(set: Set) -> usize
     ensures { λ k. ⌜ k ≡ inputCount set ⌝ }
 {
-    if is_zero_box(set) {
-        return 0;
-    }
-    set.count
+    unless_left_out(is_zero_box(set), set.count)
 }
 
-// Writing 2. How many drift records are written.
 fn drift_count(drift: &[i32; 6]) -> usize
     ensures { λ k. ⌜ k ≡ driftCount (now (drift .entry)) ⌝ }
 {
-    if arrays::zero_outside(0, 0, drift) {
-        return 0;
-    }
-    1
+    unless_left_out(arrays::zero_outside(0, 0, drift), 1)
 }
 
 // The length of the file of a model.

@@ -13,7 +13,8 @@ use Rattle.numbers.proofs.Written.{length-bytesOf, length-signedBytes}
 use Rattle.reachability.specs.Motion.{rowsOf}
 use Rattle.reachability.specs.declared.model.Model.{Model}
 use Rattle.writer.specs.Writing.{sixBytes, vectorRecords, headRecord, rowRecords, driftCount, driftRecords, firstKind, otherKind, initialRecords, inputCount, inputRecords, directionRecords, guardRecords, endRecord, fileOf}
-use Rattle.writer.proofs.Bits.{length-each, length-sixBytes}
+use Rattle.text.proofs.Each.{length-each}
+use Rattle.writer.proofs.Bits.{length-sixBytes}
 
 pub length-rowRecords : (n : ℕ) (rows : List ℤ) → length (rowRecords n rows) ≡ 26 * n
 length-rowRecords n rows = length-each n 26 (λ p. 0x02 ∷ p ∷ sixBytes rows p) (λ p. ap (λ (k : ℕ). suc (suc k)) (length-sixBytes rows p))

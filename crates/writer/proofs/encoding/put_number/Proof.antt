@@ -7,7 +7,8 @@ use native.Mathlib.Nat.{add-zero}
 use Rattle.numbers.specs.Numbers.{bytesOf}
 use Rattle.text.specs.Put.{Put}
 use Rattle.text.proofs.Putting.{put-then, put-is, put-none, put-length}
-use Rattle.writer.proofs.Bits.{shifted, shifted-none, shifted-suc, bytesOf-none, bytesOf-last, put-byte}
+use Rattle.numbers.proofs.Written.{shifted, shifted-none, shifted-suc, bytesOf-none, bytesOf-last}
+use Rattle.text.proofs.Each.{put-byte}
 use Rattle.writer.proofs.encoding.put_number.Statement.{statement}
 use Rattle.writer.proofs.encoding.put_number.Tie as tie
 

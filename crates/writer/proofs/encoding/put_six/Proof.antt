@@ -11,7 +11,8 @@ use Rattle.text.specs.Put.{Put}
 use Rattle.text.proofs.Putting.{put-is, put-none, put-length, put-near}
 use Rattle.writer.specs.Writing.{sixBytes}
 use Rattle.writer.specs.Inner.{bitsOf}
-use Rattle.writer.proofs.Bits.{bytesOf-bits, put-each}
+use Rattle.text.proofs.Each.{put-each}
+use Rattle.writer.proofs.Bits.{bytesOf-bits}
 use Rattle.writer.proofs.encoding.put_six.Statement.{statement}
 use Rattle.writer.proofs.encoding.put_six.Tie as tie
 

@@ -12,19 +12,11 @@ zeros-is : (xs : List ℤ) → length xs ≡ 6 → zeroOutside 0 0 xs ≡ allZer
 unfolding allBelow
 zeros-is xs e = subst (λ (k : ℕ). allBelow k (λ i. zeroUnless 0 0 i (vector xs i)) ≡ allZero xs 0) (sym e) refl
 
--- whether the drift is zero, from what the test told
-module _ (c : tie.After-zero-outside) where
-  told : c .zero-outside .result ≡ allZero (c .before .before .args .drift .now) 0
-  told =
-      let drift = c .before .before .args .drift .now in
-      let outside : c .zero-outside .result ≡ zeroOutside 0 0 drift = c .zero-outside .ensures in
-      outside ∙ zeros-is drift (c .before .zero-outside-arg .given .0)
-
 returns : tie.Need-returns
-returns c = ap (λ (b : Bool). cond b 0 1) (sym (c .if1 .taken) ∙ told (c .before))
-
-returns-2 : tie.Need-returns-2
-returns-2 c = ap (λ (b : Bool). cond b 0 1) (sym (c .if1 .left) ∙ told (c .before))
+returns c =
+    let drift = c .before .before .before .args .drift .now in
+    let outside : c .before .zero-outside .result ≡ zeroOutside 0 0 drift = c .before .zero-outside .ensures in
+    c .unless-left-out .ensures ∙ ap (λ (b : Bool). cond b 0 1) (outside ∙ zeros-is drift (c .before .before .zero-outside-arg .given .0))
 
 pub drift-count-spec : {M : Type 1} → statement M
-drift-count-spec = tie.close (tie.spec (λ c κs. search needs) returns returns-2)
+drift-count-spec = tie.close (tie.spec (λ c κs. search needs) (λ c κs. search needs) returns)

@@ -19,29 +19,29 @@ of-shape s shape e = ap (λ (x : Shape). isBox x && (eqb (s .count) 2 && zeroOut
 returns : tie.Need-returns
 returns c =
     let set = c .before .before .before .before .before .before .before .args .set in
-    let two = eq-eqb (set .count) 2 (omega (arith, c .before .before .if1 .taken)) in
-    let outside : c .zero-outside .result ≡ zeroOutside 0 0 (set .points) = c .zero-outside .ensures in
-    outside ∙ sym (and-skip (zeroOutside 0 0 (set .points)) two) ∙ of-shape set _ (c .before .before .before .before .enum-told .given .1)
+    let two = eq-eqb (set .count) 2 (omega (arith, c .if1 .taken)) in
+    let outside : c .before .before .before .before .zero-outside .result ≡ zeroOutside 0 0 (set .points) = c .before .before .before .before .zero-outside .ensures in
+    outside ∙ sym (and-skip (zeroOutside 0 0 (set .points)) two) ∙ of-shape set _ (c .before .before .enum-told .given .1)
 
 returns-2 : tie.Need-returns-2
 returns-2 c =
-    let set = c .before .before .before .before .before .args .set in
+    let set = c .before .before .before .before .before .before .before .args .set in
     let other = ne-eqb (set .count) 2 (omega (arith, c .if1 .left)) in
     other ∙ sym (and-stop (zeroOutside 0 0 (set .points)) other) ∙ of-shape set _ (c .before .before .enum-told .given .1)
 
 returns-3 : tie.Need-returns-3
-returns-3 c = of-shape (c .before .before .before .args .set) _ (c .enum-told2 .given .1)
+returns-3 c = of-shape (c .before .before .before .before .before .args .set) _ (c .enum-told2 .given .1)
 
 returns-4 : tie.Need-returns-4
-returns-4 c = of-shape (c .before .before .before .args .set) _ (c .enum-told3 .given .1)
+returns-4 c = of-shape (c .before .before .before .before .before .args .set) _ (c .enum-told3 .given .1)
 
 pub is-zero-box-spec : {M : Type 1} → statement M
 is-zero-box-spec =
     tie.close
     (tie.spec
     (λ c. search needs)
-    (λ c. search needs)
     (λ c κs. search needs)
+    (λ c. search needs)
     (λ c. search needs)
     (λ c. search needs)
     returns

@@ -11,7 +11,8 @@ use Rattle.text.specs.Put.{Put}
 use Rattle.text.proofs.Putting.{put-then, put-is, put-none, put-length, put-near}
 use Rattle.writer.specs.Writing.{guardRecords}
 use Rattle.writer.specs.Inner.{bitsOf}
-use Rattle.writer.proofs.Bits.{bytesOf-bits, put-pair, put-each}
+use Rattle.text.proofs.Each.{put-pair, put-each}
+use Rattle.writer.proofs.Bits.{bytesOf-bits}
 use Rattle.writer.proofs.parts.put_guards.Statement.{statement}
 use Rattle.writer.proofs.parts.put_guards.Tie as tie
 

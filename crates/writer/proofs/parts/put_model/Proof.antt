@@ -10,7 +10,7 @@ use Rattle.reachability.specs.Motion.{rowsOf}
 use Rattle.reachability.specs.declared.model.Model.{Model}
 use Rattle.reachability.proofs.model.Lengths.{lengths}
 use Rattle.writer.specs.Writing.{headRecord, rowRecords, vectorRecords, driftCount, driftRecords, initialRecords, inputCount, inputRecords, pointRecords, directionRecords, guardRecords, endRecord, fileOf}
-use Rattle.writer.proofs.Bits.{put-byte, put-pair}
+use Rattle.text.proofs.Each.{put-byte, put-pair}
 use Rattle.writer.proofs.parts.Counts.{Counts, counts}
 use Rattle.writer.proofs.parts.Lengths.{length-fileOf}
 use Rattle.writer.proofs.parts.put_model.Statement.{statement}

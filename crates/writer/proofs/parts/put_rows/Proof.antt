@@ -6,7 +6,7 @@ use lib.ListN.{length-set}
 use Rattle.text.specs.Put.{Put}
 use Rattle.text.proofs.Putting.{put-then, put-none, put-length, put-near}
 use Rattle.writer.specs.Writing.{sixBytes, rowRecords}
-use Rattle.writer.proofs.Bits.{put-pair, put-each}
+use Rattle.text.proofs.Each.{put-pair, put-each}
 use Rattle.writer.proofs.parts.put_rows.Statement.{statement}
 use Rattle.writer.proofs.parts.put_rows.Tie as tie
 

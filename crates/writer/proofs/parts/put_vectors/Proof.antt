@@ -10,7 +10,7 @@ use lib.ListN.{length-set}
 use Rattle.text.specs.Put.{Put}
 use Rattle.text.proofs.Putting.{put-then, put-is, put-none, put-length, put-near}
 use Rattle.writer.specs.Writing.{sixBytes, vectorRecords}
-use Rattle.writer.proofs.Bits.{put-byte, put-each}
+use Rattle.text.proofs.Each.{put-byte, put-each}
 use Rattle.writer.proofs.parts.put_vectors.Statement.{statement}
 use Rattle.writer.proofs.parts.put_vectors.Tie as tie
 
