@@ -521,6 +521,7 @@ class Into(Command):
             with self.subTest(words):
                 told = "^canonical: .* would be replaced by a packed file, .*: choose another FILE$"
                 self.assert_told(self.run_shell(f"$c {words}"), 2, told)
+        (self.models / "locked.model").chmod(0o600)
         self.assertEqual({name: (self.models / name).read_bytes() for name in kept}, kept)
         self.assertEqual(self.names(), sorted([*kept, "link", "m.model", "out"]))
 
