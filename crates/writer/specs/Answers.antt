@@ -1,5 +1,5 @@
--- Routines 23 and 24, Refusals 11 and 22: what the writer answers and leaves, of a model and of a file, for every input. Definitions only. b are the bytes as lent, c as
--- left. Assumes nothing.
+-- Routines 23 and 24, Refusals 11 and 22: what the writer answers and leaves, of a model and of a file, for every input. Definitions
+-- only. b are the bytes as lent, c as left. Assumes nothing.
 use mathlib.Core.Path.{_≡_}
 use mathlib.Core.Bool.{cond}
 use mathlib.Core.List.{List, _++_}

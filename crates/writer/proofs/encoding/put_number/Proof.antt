@@ -51,7 +51,7 @@ loop-holds c =
 loop-again : tie.Need-loop-again Inv-loop μ-loop
 loop-again c =
     let l = c .before .loop in
-    passed-more (l .inv) (c .loop-test .taken) (c .before .before .pre)
+    passed-more (l .inv) (omega (arith, c .loop-test .taken)) (c .before .before .pre)
 
 returns : tie.Need-returns Inv-loop μ-loop
 returns c =
