@@ -347,8 +347,8 @@ def sweep(model: Model, direction: Vector) -> Sweep | Growth:
 
 
 def reaches(value: Fraction | int, level: int) -> bool:
-    """Whether a value reaches a level (Verdicts 1)."""
-    return value >= level
+    """Whether a value reaches a level: only above it (Verdicts 1)."""
+    return value > level
 
 
 def verdict(swept: Sweep | Growth, level: int) -> Verdict:

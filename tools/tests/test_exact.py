@@ -43,8 +43,8 @@ dir 0 spare 10
 1 1 0
 2 2 1
 3 2 1
-guard 0 HIT 1
-guard 1 UNKNOWN 2
+guard 0 UNKNOWN 2
+guard 1 CLEAR
 guard 2 CLEAR
 """
 
@@ -66,7 +66,7 @@ def last(model):
 
 
 class Figures(unittest.TestCase):
-    """Figures 1 to 14 and 21 to 27, the sample, and further figures worked by hand."""
+    """Figures 1 to 14, 21 to 28 and 30 to 32, the sample, and further figures worked by hand."""
 
     def test_case_1(self):
         told = swept(single(65_536, (2, 5), (-1, 1), 3, 2))
@@ -74,7 +74,7 @@ class Figures(unittest.TestCase):
 
     def test_cases_2_and_3(self):
         model = single(65_536, (2, 5), (-1, 1), 3, 2, guards=(21, 22))
-        self.assertEqual(exact.listing_of(model).guards, (Verdict("HIT", 2), Verdict("CLEAR")))
+        self.assertEqual(exact.listing_of(model).guards, (Verdict("CLEAR"), Verdict("CLEAR")))
 
     def test_case_4(self):
         told = swept(single(32_768, (0, 100), (0, 0), 1, 3))
@@ -201,6 +201,23 @@ class Figures(unittest.TestCase):
         self.assertEqual([said(0, 1, 0), said(1, 1, 0)], [Refusal(16, 4)] * 2)
         self.assertEqual(said(1, 0, 0), Refusal(5, 4))
         self.assertEqual(said(0, minus, 1), Refusal(16, 54))
+
+    def test_case_30(self):
+        """Bounds 15, 18, 21 without slack: the first above 20 is that of step 2."""
+        model = single(65_536, (2, 5), (-1, 1), 3, 2, guards=(20,))
+        self.assertEqual(exact.listing_of(model).guards, (Verdict("HIT", 2),))
+
+    def test_case_31(self):
+        """Bound - slack is 0, 1, 1, 1, never above 1; the bounds 0, 1, 2, 2 never above 2."""
+        model = single(32_768, (0, 0), (0, 1), 1, 3, guards=(1, 2))
+        told = exact.listing_of(model)
+        self.assertEqual(told.directions[0], Sweep(10, (0, 1, 2, 2), (0, 0, 1, 1)))
+        self.assertEqual(told.guards, (Verdict("UNKNOWN", 2), Verdict("CLEAR")))
+
+    def test_case_32(self):
+        """All signed numbers of 64 bits but one are above the lowest, and none above the highest."""
+        model = single(65_536, (2, 5), (-1, 1), 3, 2, guards=(-2**63, 2**63 - 1))
+        self.assertEqual(exact.listing_of(model).guards, (Verdict("HIT", 0), Verdict("CLEAR")))
 
     def test_sample(self):
         self.assertEqual(len(SAMPLE), 186)
@@ -1336,7 +1353,7 @@ class Accuracy(unittest.TestCase):
         with self.assertRaises(AssertionError):
             self.check(*arguments)
 
-    right = (Verdict("HIT", 1), Verdict("UNKNOWN", 2), Verdict("CLEAR"))
+    right = (Verdict("UNKNOWN", 2), Verdict("CLEAR"), Verdict("CLEAR"))
 
     def test_right(self):
         self.check((0, 1, 2, 2), (0, 0, 1, 1), *self.right)
@@ -1350,8 +1367,9 @@ class Accuracy(unittest.TestCase):
 
     def test_verdicts(self):
         good = (0, 1, 2, 2), (0, 0, 1, 1)
-        self.fails(*good, Verdict("HIT", 0), *self.right[1:])
+        self.fails(*good, Verdict("HIT", 1), *self.right[1:])  # at the level, not above it
         self.fails(*good, Verdict("CLEAR"), *self.right[1:])
+        self.fails(*good, Verdict("UNKNOWN", 0), *self.right[1:])
         self.fails(*good, self.right[0], Verdict("UNKNOWN", 0), self.right[2])
         self.fails(*good, self.right[0], Verdict("HIT", 3), self.right[2])
         self.fails(*good, *self.right[:2], Verdict("UNKNOWN", 3))
