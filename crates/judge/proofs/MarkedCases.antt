@@ -1,4 +1,4 @@
--- Figures 1 to 12, 16 to 22 and 24 to 27, the marked cases (`specs.Cases`), hold, each by computation. Assumes nothing.
+-- Figures 1 to 12, 16 to 22, 24 to 27 and 30 to 32, the marked cases (`specs.Cases`), hold, each by computation. Assumes nothing.
 use mathlib.Core.Path.{_≡_, refl, sym, ap, _∙_}
 use mathlib.Core.Bool.{Bool, true, cond, _&&_}
 use mathlib.Core.List.{List}
@@ -60,4 +60,7 @@ marked =
     and (refl and refl and refl and none)
     and (refl and refl and refl and none)
     and (refl and refl and refl and refl and refl and refl and none)
+    and (refl and none)
+    and (refl and refl and refl and refl and refl and refl and none)
+    and (refl and refl and none)
     and none

@@ -1,4 +1,4 @@
--- Figures 1 to 12, 16 to 22 and 24 to 27, the marked cases, as one list, and what it means that they hold. Definitions only. A case is
+-- Figures 1 to 12, 16 to 22, 24 to 27 and 30 to 32, the marked cases, as one list, and what it means that they hold. Definitions only. A case is
 -- the list of what the specification says in it; a saying sets a figure beside what the contracts of `support`, `reach`, `sweep` and
 -- `judge` say is answered or left, or beside the r, e, T or raw slack by which they say it. Sweeps are of direction 0 and judges of
 -- guard 0, with K + 1 elements in both lists. Where the specification names no K, it is the last step that has a figure.
@@ -21,7 +21,7 @@ use Rattle.reachability.specs.declared.model.Model.{Model}
 use Rattle.reachability.specs.declared.sweep.Swept.{Swept}
 use Rattle.reachability.specs.declared.sweep.Swept.the-variants.{Spare, Growth}
 use Rattle.reachability.specs.declared.verdicts.Judged.{Judged}
-use Rattle.reachability.specs.declared.verdicts.Judged.the-variants.{Hit, Clear}
+use Rattle.reachability.specs.declared.verdicts.Judged.the-variants.{Hit, Unknown, Clear}
 use Rattle.judge.specs.Answers.{judgeAnswer}
 
 -- ---- stored values
@@ -135,7 +135,7 @@ AllHold = All (All Holds)
 abbrev pub zeroBox : Set
 zeroBox = setOf Box ([] ∷ [] ∷ [])
 
--- Figures 1, 2 and 3: entry 65,536, with guards at these levels.
+-- Figures 1, 2, 3, 30 and 32: entry 65,536, with guards at these levels.
 abbrev pub kept : List ℤ → Model
 kept = single 2 (pos 65536) (interval (pos 2) (pos 5)) (interval (negℤ (pos 1)) (pos 1)) (pos 3)
 
@@ -204,6 +204,10 @@ atLimit drift high = drifting 1 (pos 65536) drift zeroBox (interval (pos 0) high
 abbrev pub shifted : ℤ → ℤ → ℤ → Model
 shifted low high drift = drifting 5 (pos 1) drift zeroBox (interval low high) (pos 1)
 
+-- Figures 31: entry 32,768, with guards at these levels.
+abbrev pub fed : List ℤ → Model
+fed = single 3 (pos 32768) zeroBox (interval (pos 0) (pos 1)) (pos 1)
+
 -- ---- the cases
 
 -- Figures 1.
@@ -216,7 +220,7 @@ case1 =
 
 -- Figures 2.
 abbrev pub case2 : Case
-case2 = judges (kept (pos 21 ∷ [])) (Hit 2) ∷ []
+case2 = judges (kept (pos 21 ∷ [])) Clear ∷ []
 
 -- Figures 3.
 abbrev pub case3 : Case
@@ -378,7 +382,26 @@ case27 =
     ∷ slacks (shifted (pos 0) (pos 524288) (pos 0)) (pos 0 ∷ pos 0 ∷ pos 0 ∷ pos 2 ∷ pos 2 ∷ pos 3 ∷ [])
     ∷ []
 
--- Figures 1 to 12, 16 to 22 and 24 to 27, in one list.
+-- Figures 30.
+abbrev pub case30 : Case
+case30 = judges (kept (pos 20 ∷ [])) (Hit 2) ∷ []
+
+-- Figures 31.
+abbrev pub case31 : Case
+case31 =
+    numbered (fed []) 0
+    ∷ bounds (fed []) (pos 0 ∷ pos 1 ∷ pos 2 ∷ pos 2 ∷ [])
+    ∷ slacks (fed []) (pos 0 ∷ pos 0 ∷ pos 1 ∷ pos 1 ∷ [])
+    ∷ judges (fed (pos 0 ∷ [])) (Hit 1)
+    ∷ judges (fed (pos 1 ∷ [])) (Unknown 2)
+    ∷ judges (fed (pos 2 ∷ [])) Clear
+    ∷ []
+
+-- Figures 32.
+abbrev pub case32 : Case
+case32 = judges (kept (negℤ (pos 9223372036854775808) ∷ [])) (Hit 0) ∷ judges (kept (pos 9223372036854775807 ∷ [])) Clear ∷ []
+
+-- Figures 1 to 12, 16 to 22, 24 to 27 and 30 to 32, in one list.
 abbrev pub cases : List Case
 cases =
     case1
@@ -404,4 +427,7 @@ cases =
     ∷ case25
     ∷ case26
     ∷ case27
+    ∷ case30
+    ∷ case31
+    ∷ case32
     ∷ []

@@ -9,11 +9,11 @@ ghost use Rattle.reachability.specs.Recurrence.{firstPlace};
 ghost use Rattle.reachability.specs.Verdicts.{reaches, hitAt, unknownAt};
 ghost use Rattle.judge.specs.Answers.{listAnswer};
 
-// Verdicts 1. A value reaches the level. No other function compares with a level.
-fn at_level(level: i64, value: i64) -> bool
+// Verdicts 1. A value is above the level. No other function compares with a level.
+fn reaches_level(level: i64, value: i64) -> bool
     ensures { λ b. ⌜ b ≡ reaches level value ⌝ }
 {
-    level <= value
+    level < value
 }
 
 // bound - slack reaches the level, for any three numbers: a difference below all i64 reaches none, and one above all reaches each.
@@ -24,12 +24,12 @@ fn hits(level: i64, bound: i64, slack: i64) -> bool
         if bound < -9223372036854775808 + slack {
             return false;
         }
-        return at_level(level, bound - slack);
+        return reaches_level(level, bound - slack);
     }
     if 9223372036854775807 + slack < bound {
         return true;
     }
-    at_level(level, bound - slack)
+    reaches_level(level, bound - slack)
 }
 
 // The first step whose bound less its slack reaches the level, the length where there is none.
@@ -53,7 +53,7 @@ fn first_unknown(level: i64, bounds: &[i64]) -> usize
 {
     let mut k: usize = 0;
     while k < bounds.len() {
-        if at_level(level, bounds[k]) {
+        if reaches_level(level, bounds[k]) {
             return k;
         }
         k += 1;

@@ -99,7 +99,7 @@ module _ (m : Model) (entries levels : List ℤ) (d factor : ℕ) (least : 1 ≤
         record {
           q = w .q;
           run = back (w .run);
-          there = reaches-unscale factor (pos (denominator (w .q) k) *ℤ level) (own (back (w .run)) k) least (subst (λ (z : ℤ). reaches z (pos factor *ℤ own (back (w .run)) k) ≡ true) (mulℤ-left-comm (pos (denominator (w .q) k)) (pos factor) level) (subst (λ (z : ℤ). reaches (pos (denominator (w .q) k) *ℤ (pos factor *ℤ level)) z ≡ true) (back-value (w .run) k) (w .there)));
+          there = reaches-unscale factor (pos (denominator (w .q) k) *ℤ level) (own (back (w .run)) k) (subst (λ (z : ℤ). reaches z (pos factor *ℤ own (back (w .run)) k) ≡ true) (mulℤ-left-comm (pos (denominator (w .q) k)) (pos factor) level) (subst (λ (z : ℤ). reaches (pos (denominator (w .q) k) *ℤ (pos factor *ℤ level)) z ≡ true) (back-value (w .run) k) (w .there)));
         }
 
     reached-forth : (k : ℕ) → ReachedBy m d level k → ReachedBy m′ d (pos factor *ℤ level) k

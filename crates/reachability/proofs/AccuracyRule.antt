@@ -190,7 +190,7 @@ module _ (m : Model) (facts : ModelFacts m) where
 
       clear-holds : (k : ℕ) → k ≤ m .steps → unknown k ≡ false → ReachedBy m d level k → ⊥
       clear-holds k h f w =
-          never (reaches-unscale (denominator (w .q) k) level (bound m d k) (positive k (w .run)) (reaches-mono (pos (denominator (w .q) k) *ℤ level) _ _ (w .there) (no-run-passes k h (w .q) (w .run))))
+          never (reaches-unscale (denominator (w .q) k) level (bound m d k) (reaches-mono (pos (denominator (w .q) k) *ℤ level) _ _ (w .there) (no-run-passes k h (w .q) (w .run))))
         where
           never : unknown k ≡ true → ⊥
           never t = let z : _≡_ {A = ℕ} 0 1 = cc in omega arith

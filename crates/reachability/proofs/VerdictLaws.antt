@@ -2,14 +2,15 @@
 -- against a level; the verdict from the two first steps; the same of equal bounds and slacks. Assumes nothing.
 use mathlib.Core.Path.{_≡_, refl, ap, ap₂, _∙_}
 use mathlib.Core.Bool.{Bool, true, false, cond}
-use Prim.Native.Nat.{ℕ, zero, suc, _≤_, _<_}
+use Prim.Native.Nat.{ℕ, _≤_, _<_}
 use native.Mathlib.Omega.{arith}
 use borrow.Author.Tests.{lt-ltb, le-ltb}
 use lib.Dec.{ltb}
 use lib.IntN.{ℤ, pos, _-ℤ_, _+ℤ_, _*ℤ_}
+use lib.Signed.{leZ}
 use Rattle.integers.specs.Whole.{_⩽_}
-use Rattle.integers.proofs.SignedParts.{v, #, _⊕_, le!, le?}
-use Rattle.integers.proofs.Order.{⩽-trans, ⩽-scale, ⩽-unscale, ⩽-of-leZ, leZ-of-⩽, lt-of-leZ-false}
+use Rattle.integers.proofs.SignedParts.{v, #, _⊕_, _⊖_, _⊗_, le!, le?}
+use Rattle.integers.proofs.Order.{⩽-trans, ⩽-scale, le-of-ltZ-false, lt-of-ltZ, ⩽-of-leZ, lt-of-leZ-false}
 use Rattle.reachability.specs.Recurrence.{firstPlace}
 use Rattle.reachability.specs.Verdicts.{reaches, hitAt, unknownAt, verdictBelow}
 use Rattle.reachability.specs.declared.verdicts.Judged.the-variants.{Hit, Unknown, Clear}
@@ -17,38 +18,55 @@ use Rattle.reachability.proofs.FirstPlace.{firstPlace-cong}
 
 -- ---- values against a level
 
+pub reaches-above : (level x : ℤ) → level +ℤ pos 1 ⩽ x → reaches level x ≡ true
+reaches-above level x h = told (reaches level x) refl
+  where
+    told : (t : Bool) → reaches level x ≡ t → t ≡ true
+    told true t = refl
+    told false f = absurd (omega (arith, le? (v level ⊕ # 1) (v x) h, le? (v x) (v level) (le-of-ltZ-false level x f)))
+
+pub reaches-not : (level x : ℤ) → x ⩽ level → reaches level x ≡ false
+reaches-not level x h = told (reaches level x) refl
+  where
+    told : (t : Bool) → reaches level x ≡ t → t ≡ false
+    told true t = absurd (omega (arith, le? (v x) (v level) h, le? (v level ⊕ # 1) (v x) (lt-of-ltZ level x t)))
+    told false f = refl
+
+pub reaches-lt : (level x : ℤ) → reaches level x ≡ true → level +ℤ pos 1 ⩽ x
+reaches-lt level x t = lt-of-ltZ level x t
+
 pub reaches-le : (level x : ℤ) → reaches level x ≡ true → level ⩽ x
-reaches-le level x t = ⩽-of-leZ level x t
+reaches-le level x t = le! (v level) (v x) (omega (arith, le? (v level ⊕ # 1) (v x) (reaches-lt level x t)))
 
 pub reaches-false-le : (level x : ℤ) → reaches level x ≡ false → x ⩽ level
-reaches-false-le level x f = le! (v x) (v level) (omega (arith, le? (v x ⊕ # 1) (v level) (lt-of-leZ-false level x f)))
+reaches-false-le level x f = le-of-ltZ-false level x f
 
 -- a value at or above one that reaches the level
 pub reaches-mono : (level x y : ℤ) → reaches level x ≡ true → x ⩽ y → reaches level y ≡ true
-reaches-mono level x y t h = leZ-of-⩽ (⩽-trans (reaches-le level x t) h)
+reaches-mono level x y t h = reaches-above level y (⩽-trans (reaches-lt level x t) h)
 
 -- a level at or below one that is reached
 pub reaches-lower : (lower higher x : ℤ) → lower ⩽ higher → reaches higher x ≡ true → reaches lower x ≡ true
-reaches-lower lower higher x h t = leZ-of-⩽ (⩽-trans h (reaches-le higher x t))
+reaches-lower lower higher x h t = reaches-above lower x (le! (v lower ⊕ # 1) (v x) (omega (arith, le? (v lower) (v higher) h, le? (v higher ⊕ # 1) (v x) (reaches-lt higher x t))))
 
 -- level and value over a common denominator
 pub reaches-scale : (p : ℕ) (level x : ℤ) → 1 ≤ p → reaches level x ≡ true → reaches (pos p *ℤ level) (pos p *ℤ x) ≡ true
-reaches-scale p level x l t = leZ-of-⩽ (⩽-scale p (reaches-le level x t))
+reaches-scale p level x l t = reaches-above (pos p *ℤ level) (pos p *ℤ x) (le! (# p ⊗ v level ⊕ # 1) (# p ⊗ v x) (omega (arith, l, le? (# p ⊗ (v level ⊕ # 1)) (# p ⊗ v x) (⩽-scale p (reaches-lt level x t)))))
 
-pub reaches-unscale : (p : ℕ) (level x : ℤ) → 1 ≤ p → reaches (pos p *ℤ level) (pos p *ℤ x) ≡ true → reaches level x ≡ true
-reaches-unscale zero level x l t = absurd (omega arith)
-reaches-unscale (suc p) level x l t = leZ-of-⩽ {a = level} {b = x} (⩽-unscale p (reaches-le (pos (suc p) *ℤ level) (pos (suc p) *ℤ x) t))
-
--- a value above another that is at or above the level, and one below another that is at or below it
-pub reaches-above : (level x y : ℤ) → level ⩽ x → x +ℤ pos 1 ⩽ y → reaches level y ≡ true
-reaches-above level x y h k = leZ-of-⩽ (le! (v level) (v y) (omega (arith, le? (v level) (v x) h, le? (v x ⊕ # 1) (v y) k)))
-
-pub reaches-below : (level x y : ℤ) → x ⩽ level → y +ℤ pos 1 ⩽ x → reaches level y ≡ false
-reaches-below level x y h k = told (reaches level y) refl
+pub reaches-unscale : (p : ℕ) (level x : ℤ) → reaches (pos p *ℤ level) (pos p *ℤ x) ≡ true → reaches level x ≡ true
+reaches-unscale p level x t = told (reaches level x) refl
   where
-    told : (t : Bool) → reaches level y ≡ t → t ≡ false
-    told true t = absurd (omega (arith, le? (v x) (v level) h, le? (v y ⊕ # 1) (v x) k, le? (v level) (v y) (reaches-le level y t)))
-    told false t = refl
+    told : (s : Bool) → reaches level x ≡ s → s ≡ true
+    told true s = refl
+    told false f = absurd (omega (arith, le? (# p ⊗ v x) (# p ⊗ v level) (⩽-scale p (reaches-false-le level x f)), le? (# p ⊗ v level ⊕ # 1) (# p ⊗ v x) (reaches-lt (pos p *ℤ level) (pos p *ℤ x) t)))
+
+-- Verdicts 5: of whole numbers, those above a level that is one count lower are those at the level or above
+pub reaches-one-lower : (level x : ℤ) → reaches (level -ℤ pos 1) x ≡ leZ level x
+reaches-one-lower level x = told (leZ level x) refl
+  where
+    told : (t : Bool) → leZ level x ≡ t → reaches (level -ℤ pos 1) x ≡ t
+    told true t = reaches-above (level -ℤ pos 1) x (le! (v level ⊖ # 1 ⊕ # 1) (v x) (omega (arith, le? (v level) (v x) (⩽-of-leZ level x t))))
+    told false f = reaches-not (level -ℤ pos 1) x (le! (v x) (v level ⊖ # 1) (omega (arith, le? (v x ⊕ # 1) (v level) (lt-of-leZ-false level x f))))
 
 -- ---- the verdict from the two first steps
 

@@ -4,15 +4,15 @@ use mathlib.Core.Bool.{Bool, cond}
 use Prim.Native.Nat.{ℕ, suc}
 use lib.Dec.{ltb}
 use lib.IntN.{ℤ, pos, _-ℤ_}
-use lib.Signed.{leZ}
+use lib.Signed.{ltZ}
 use Rattle.reachability.specs.Recurrence.{bound, slack, firstPlace}
 use Rattle.reachability.specs.declared.model.Model.{Model}
 use Rattle.reachability.specs.declared.verdicts.Judged.{Judged}
 use Rattle.reachability.specs.declared.verdicts.Judged.the-variants.{Hit, Unknown, Clear}
 
--- Verdicts 1. No other definition compares with a level.
+-- Verdicts 1: v is above the level. No other definition compares with a level.
 abbrev pub reaches : ℤ → ℤ → Bool
-reaches level v = leZ level v
+reaches level v = ltZ level v
 
 -- Verdicts 2: a step that HIT may name.
 abbrev pub hitAt : ℤ → (ℕ → ℤ) → (ℕ → ℤ) → ℕ → Bool

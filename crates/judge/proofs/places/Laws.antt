@@ -17,7 +17,7 @@ use Rattle.integers.proofs.Order.{⩽-of-leZ, lt-of-leZ-false, lt-of-ltZ, le-of
 use Rattle.reachability.specs.Recurrence.{firstPlace}
 use Rattle.reachability.specs.Verdicts.{reaches}
 use Rattle.reachability.proofs.FirstPlace.{firstPlace-is, firstPlace-none}
-use Rattle.reachability.proofs.VerdictLaws.{reaches-above, reaches-below}
+use Rattle.reachability.proofs.VerdictLaws.{reaches-above, reaches-not}
 
 -- ---- the range of i64
 
@@ -64,7 +64,7 @@ module _ (slack : ℤ) (fs : SFits w64 slack) (t : leZ (pos 0) slack ≡ true) w
 
   -- the difference is below every level
   pub hit-below : (level bound : ℤ) → SFits w64 level → ltZ bound (least +ℤ slack) ≡ true → reaches level (bound -ℤ slack) ≡ false
-  hit-below level bound f b = reaches-below level least (bound -ℤ slack) (least-le level f) (le! (v bound ⊖ v slack ⊕ # 1) (v least) (omega (arith, le? (v bound ⊕ # 1) (v least ⊕ v slack) (lt-of-ltZ bound (least +ℤ slack) b))))
+  hit-below level bound f b = reaches-not level (bound -ℤ slack) (le! (v bound ⊖ v slack) (v level) (omega (arith, le? (v least) (v level) (least-le level f), le? (v bound ⊕ # 1) (v least ⊕ v slack) (lt-of-ltZ bound (least +ℤ slack) b))))
 
   pub whole-off : PartOff slack (negℤ (toZ w64 (ofZ w64 slack)))
   whole-off = subst (λ (z : ℤ). PartOff slack (negℤ z)) (sym (toZ-ofZ fs)) (let s = le? (# 0) (v slack) natural in let n = eq? (v (negℤ slack)) (neg (v slack)) refl in (omega arith, omega arith))
@@ -87,7 +87,7 @@ module _ (slack : ℤ) (fs : SFits w64 slack) (t : leZ (pos 0) slack ≡ false) 
 
   -- the difference is above every level
   pub hit-above : (level bound : ℤ) → SFits w64 level → ltZ (most +ℤ slack) bound ≡ true → reaches level (bound -ℤ slack) ≡ true
-  hit-above level bound f b = reaches-above level most (bound -ℤ slack) (le-most level f) (le! (v most ⊕ # 1) (v bound ⊖ v slack) (omega (arith, le? (v most ⊕ v slack ⊕ # 1) (v bound) (lt-of-ltZ (most +ℤ slack) bound b))))
+  hit-above level bound f b = reaches-above level (bound -ℤ slack) (le! (v level ⊕ # 1) (v bound ⊖ v slack) (omega (arith, le? (v level) (v most) (le-most level f), le? (v most ⊕ v slack ⊕ # 1) (v bound) (lt-of-ltZ (most +ℤ slack) bound b))))
 
   pub more-fits : (bound : ℤ) → SFits w64 bound → ltZ (most +ℤ slack) bound ≡ false → SFits w64 (bound -ℤ slack)
   more-fits bound f b =

@@ -28,10 +28,10 @@ module _ (at : tie.Start Inv-loop μ-loop) where
   level-is : firstPlace n p ≡ firstPlace n (unknownAt (at .args .level) (vector (at .args .bounds .now)))
   level-is = ap (λ (z : ℤ). firstPlace n (unknownAt z (vector (at .args .bounds .now)))) (toZ-ofZ (at .fits .level))
 
-told : (c : tie.After-at-level Inv-loop μ-loop) → c .at-level .result ≡ p (c .before .before .before .before) (c .before .before .before .loop .k)
+told : (c : tie.After-reaches-level Inv-loop μ-loop) → c .reaches-level .result ≡ p (c .before .before .before .before) (c .before .before .before .loop .k)
 told c =
     let at = c .before .before .before .before in
-    c .at-level .ensures ∙ ap (reaches (toZ w64 (ofZ w64 (at .args .level)))) (read-given w64 _ (c .before .at-level-arg .given))
+    c .reaches-level .ensures ∙ ap (reaches (toZ w64 (ofZ w64 (at .args .level)))) (read-given w64 _ (c .before .reaches-level-arg .given))
 
 returns : tie.Need-returns Inv-loop μ-loop
 returns c =

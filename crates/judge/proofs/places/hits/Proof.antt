@@ -29,13 +29,13 @@ less-fits c y p =
 whole : (c : tie.Else2) → laws.PartOff (c .before .before .args .slack) (negℤ (toZ w64 (ofZ w64 (c .before .before .args .slack))))
 whole c = laws.whole-off (c .before .before .args .slack) (c .before .before .fits .slack) (natural (c .before))
 
-sub-at-level : tie.Need-sub-at-level
-sub-at-level c = less-fits c _ (omega (arith, whole c .0), omega (arith, whole c .1))
+sub-reaches-level : tie.Need-sub-reaches-level
+sub-reaches-level c = less-fits c _ (omega (arith, whole c .0), omega (arith, whole c .1))
 
 returns-2 : tie.Need-returns-2
 returns-2 c =
     let a = c .before .before .before in
-    c .at-level .ensures ∙ laws.reaches-bits (a .args .level) (a .args .bound) (a .args .slack) (a .fits .level) (a .fits .bound) (a .fits .slack) (less-fits (c .before) _ (whole (c .before)))
+    c .reaches-level .ensures ∙ laws.reaches-bits (a .args .level) (a .args .bound) (a .args .slack) (a .fits .level) (a .fits .bound) (a .fits .slack) (less-fits (c .before) _ (whole (c .before)))
 
 negative : (c : tie.Else1) → leZ (pos 0) (c .before .args .slack) ≡ false
 negative c = simp (toZ-ofZ (c .before .fits .slack)) at (c .if1 .left)
@@ -55,13 +55,13 @@ more-fits c =
     let high = laws.most-add-fits _ (a .fits .slack) (negative (c .before)) in
     laws.more-fits (a .args .slack) (a .fits .slack) (negative (c .before)) (a .args .bound) (a .fits .bound) (simp (toZ-ofZ (a .fits .bound), toZ-ofZ (a .fits .slack), toZ-ofZ high) at (c .if3 .left))
 
-sub-at-level-2 : tie.Need-sub-at-level-2
-sub-at-level-2 c = let a = c .before .before in laws.less-fits-bits (a .args .bound) (a .args .slack) (a .fits .bound) (a .fits .slack) (more-fits c)
+sub-reaches-level-2 : tie.Need-sub-reaches-level-2
+sub-reaches-level-2 c = let a = c .before .before in laws.less-fits-bits (a .args .bound) (a .args .slack) (a .fits .bound) (a .fits .slack) (more-fits c)
 
 returns-4 : tie.Need-returns-4
 returns-4 c =
     let a = c .before .before .before in
-    c .at-level2 .ensures ∙ laws.reaches-bits (a .args .level) (a .args .bound) (a .args .slack) (a .fits .level) (a .fits .bound) (a .fits .slack) (sub-at-level-2 (c .before))
+    c .reaches-level2 .ensures ∙ laws.reaches-bits (a .args .level) (a .args .bound) (a .args .slack) (a .fits .level) (a .fits .bound) (a .fits .slack) (sub-reaches-level-2 (c .before))
 
 pub hits-spec : {M : Type 1} → statement M
 hits-spec =
@@ -69,11 +69,11 @@ hits-spec =
     (tie.spec
     add-if2
     returns
-    sub-at-level
+    sub-reaches-level
     (λ c κs. search needs)
     returns-2
     add-if3
     returns-3
-    sub-at-level-2
+    sub-reaches-level-2
     (λ c κs. search needs)
     returns-4)
