@@ -1,9 +1,10 @@
 /* The C interface in use. Makes the specification's sample file (Listing 8), sweeps its direction, judges its guards, sweeps the
- * same model with a fitted row, sweeps and judges the model of Figures 24, which has a drift, makes two steps of Figures 5 and two
- * of Figures 17, lists the sample in one call, writes the one file of models that were saved in several ways, and shows refusals:
- * six files, a direction with growth (Figures 8), calls that ask for what isn't there, and memory that is too small. What it writes
- * is compared with expected.txt. Returns 1 where a call is refused that should not be, or finishes that should not, or changes
- * memory that it should not, or where a number is taken for one that refuses the file and isn't, or the other way round. */
+ * same model with a fitted row, sweeps and judges the model of Figures 24, which has a drift, judges levels at and beside bounds
+ * and at both ends of 64 bits, makes two steps of Figures 5 and two of Figures 17, lists the sample in one call, writes the one
+ * file of models that were saved in several ways, and shows refusals: six files, a direction with growth (Figures 8), calls that
+ * ask for what isn't there, and memory that is too small. What it writes is compared with expected.txt. Returns 1 where a call is
+ * refused that should not be, or finishes that should not, or changes memory that it should not, or where a number is taken for
+ * one that refuses the file and isn't, or the other way round. */
 #include "pepperscarp.h"
 
 #include <inttypes.h>
@@ -96,6 +97,13 @@ static void put_guard(struct file *f, int64_t level)
     put(f, 0x40, 1);
     put(f, 0, 1);
     put(f, level, 8);
+}
+
+static void put_guards(struct file *f, const int64_t *levels, size_t count)
+{
+    size_t i;
+    for (i = 0; i < count; i++)
+        put_guard(f, levels[i]);
 }
 
 static void put_end(struct file *f)
@@ -262,14 +270,23 @@ int main(void)
 {
     static const int32_t none[2] = {0, 0};
     static const int32_t to_one[2] = {0, 1};
+    static const int32_t to_five[2] = {0, 5};
+    /* The sample's bounds are 0, 1, 2 and 2, its slacks 0, 0, 1 and 1. */
+    static const int64_t beside_sample[] = {INT64_MIN, -1, 0, 1, 2, 3, INT64_MAX};
+    /* With inputs up to 5 the bounds are 0, 5, 8 and 9, and the slacks the same: bound - slack is 0, 5, 7 and 8. */
+    static const int64_t beside_rising[] = {4, 5, 6, 7, 8, 9, 10};
+    enum { BESIDE_SAMPLE = sizeof beside_sample / sizeof beside_sample[0] };
+    enum { BESIDE_RISING = sizeof beside_rising / sizeof beside_rising[0] };
     static const int32_t fading[36] = {1};
     static const int32_t halving[36] = {32};
     int64_t r[6] = {1048576};
     int64_t e[6] = {0};
     struct file sample = model(3), fitted = model(3), beyond = model(3), growing = model(11);
     struct file drifting = model(2), too_far = model(3), together = model(3), unclean;
+    struct file borders = model(3), rising = model(3);
     struct file otherwise = model(3), unstated = model(0), outright = model(PEPPERSCARP_STEPS_DEFAULT);
     int64_t level;
+    size_t guard;
 
     put_scaled(&sample, 32768);
     put_sets(&sample, none, to_one);
@@ -282,8 +299,14 @@ int main(void)
     put_scaled(&drifting, 65536);
     put_drift(&drifting, 3);
     put_sets(&drifting, none, none);
+    put_guard(&drifting, 5);
     put_guard(&drifting, 6);
-    put_guard(&drifting, 7);
+    put_scaled(&borders, 32768);
+    put_sets(&borders, none, to_one);
+    put_guards(&borders, beside_sample, BESIDE_SAMPLE);
+    put_scaled(&rising, 32768);
+    put_sets(&rising, none, to_five);
+    put_guards(&rising, beside_rising, BESIDE_RISING);
     put_scaled(&too_far, 32768);
     put_drift(&too_far, -1048577);
     put_sets(&too_far, none, to_one);
@@ -306,6 +329,8 @@ int main(void)
     put_end(&beyond);
     put_end(&growing);
     put_end(&drifting);
+    put_end(&borders);
+    put_end(&rising);
     put_end(&too_far);
     put_end(&together);
     put_end(&otherwise);
@@ -327,6 +352,16 @@ int main(void)
     sweep(&drifting, drifting.length, 0, 3, PEPPERSCARP_FINISHED);
     judge(&drifting, 0, 3, PEPPERSCARP_FINISHED);
     judge(&drifting, 1, 3, PEPPERSCARP_FINISHED);
+
+    printf("borders %zu bytes\n", borders.length);
+    for (guard = 0; guard < BESIDE_SAMPLE; guard++)
+        judge(&borders, guard, 4, PEPPERSCARP_FINISHED);
+    list(&borders, sizeof text, 1);
+
+    printf("rising %zu bytes\n", rising.length);
+    sweep(&rising, rising.length, 0, 4, PEPPERSCARP_FINISHED);
+    for (guard = 0; guard < BESIDE_RISING; guard++)
+        judge(&rising, guard, 4, PEPPERSCARP_FINISHED);
 
     step(1, fading, r, e, PEPPERSCARP_FINISHED);
     step(1, fading, r, e, PEPPERSCARP_FINISHED);

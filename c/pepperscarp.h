@@ -62,10 +62,10 @@ static inline int pepperscarp_file_refused(uint64_t answer)
     return (1u <= number && number <= 10u) || (15u <= number && number <= 17u);
 }
 
-/* Verdicts of a judge that finished. */
-#define PEPPERSCARP_HIT 1u     /* some run reaches the level at the step that the figure names, the first that is certain */
-#define PEPPERSCARP_UNKNOWN 2u /* not settled; the figure is the first step whose bound reaches the level */
-#define PEPPERSCARP_CLEAR 3u   /* no run reaches the level at any step */
+/* Verdicts of a judge that finished. A level is reached only above it; a value equal to it does not reach it. */
+#define PEPPERSCARP_HIT 1u     /* some run is above the level at the step that the figure names, the first that is certain */
+#define PEPPERSCARP_UNKNOWN 2u /* not settled; the figure is the first step whose bound is above the level */
+#define PEPPERSCARP_CLEAR 3u   /* no run is above the level at any step */
 
 /* The most stack that a call takes, in bytes, its return address among them. All but the step have 2,000 bytes of it as room for
  * memcpy and memset; their binding by the dynamic linker at the first call fits too (measured with glibc). Frames are touched page
@@ -107,8 +107,12 @@ uint64_t pepperscarp_sweep(const uint8_t *file, size_t file_length, size_t direc
 
 /* The judge of one guard of a model file. Takes the guard's number from 0, the rest as for the sweep.
  * Number 0, with a verdict: HIT or UNKNOWN with its step as the figure, or CLEAR with figure 0. The lists have the sweep of the
- * guard's direction.
- * Numbers 1 to 10 and 13 to 17: as for the sweep. 12: the file has no such guard. */
+ * guard's direction. HIT needs a bound - slack above the level, UNKNOWN a bound above it; a bound equal to the level calls for
+ * neither. At the step of an UNKNOWN the exact largest value is no farther from the level than the slack. A guard at INT64_MIN is
+ * HIT at step 0, and one at INT64_MAX is CLEAR.
+ * Numbers 1 to 10 and 13 to 17: as for the sweep. 12: the file has no such guard.
+ * (Before version 0.8.0 a value equal to the level reached it too. A level one count lower in the file keeps the verdicts and steps
+ * of those versions; INT64_MIN keeps them as it is.) */
 uint64_t pepperscarp_judge(const uint8_t *file, size_t file_length, size_t guard, int64_t *bounds, size_t bounds_length,
                            int64_t *slacks, size_t slacks_length);
 
@@ -118,7 +122,7 @@ uint64_t pepperscarp_judge(const uint8_t *file, size_t file_length, size_t guard
 /* The whole text that the program `envelope` writes for a model file: its listing, or its refusal. Takes the file's bytes and room
  * for at least PEPPERSCARP_LISTING_ROOM bytes.
  * Returns how many bytes of text stand at the start of `out`; no zero follows them, and what lies behind them is as it was.
- * Returns 0, with `out` as it was, where it has less room. */
+ * Returns 0, with `out` as it was, where it has less room. (Verdicts are those of the judge, so they changed in version 0.8.0.) */
 size_t pepperscarp_listing(const uint8_t *file, size_t file_length, uint8_t *out, size_t out_length);
 
 /* Room for every file that is written, in bytes. */

@@ -49,9 +49,11 @@ fn describe(file: &[u8]) -> Result<(), Refusal> {
     let mut guard = 0;
     loop {
         match judge(file, guard, &mut bounds, &mut slacks) {
-            Ok(Verdict::Hit(step)) => println!("guard {guard}: HIT, some run reaches the level at step {step}"),
-            Ok(Verdict::Unknown(step)) => println!("guard {guard}: UNKNOWN, the bound of step {step} doesn't exclude the level"),
-            Ok(Verdict::Clear) => println!("guard {guard}: CLEAR, no run reaches the level"),
+            Ok(Verdict::Hit(step)) => println!("guard {guard}: HIT, some run is above the level at step {step}"),
+            Ok(Verdict::Unknown(step)) => {
+                println!("guard {guard}: UNKNOWN, not settled: the bound of step {step} is above the level")
+            }
+            Ok(Verdict::Clear) => println!("guard {guard}: CLEAR, no run is above the level"),
             Err(Refusal::Growth(step)) => println!("guard {guard}: no verdict, figures grow too large at step {step}"),
             Err(Refusal::NoSuchNumber) => return Ok(()),
             Err(refusal) => return Err(refusal),

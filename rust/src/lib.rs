@@ -10,7 +10,7 @@
 //! stack; `c/pepperscarp.h` tells what each function takes.
 //!
 //! ```
-//! // One coordinate, 2 steps, the matrix 1, initial [2,5], input [-1,1], direction 3, a guard on it at level 21.
+//! // One coordinate, 2 steps, the matrix 1, initial [2,5], input [-1,1], direction 3, guards on it at levels 20 and 21.
 //! let mut file = vec![0x01, 1, 2, 0, 0x02, 0];
 //! let six = |first: i32| [first, 0, 0, 0, 0, 0].map(i32::to_le_bytes).concat();
 //! file.extend(six(65_536));
@@ -18,6 +18,7 @@
 //!     file.push(kind);
 //!     file.extend(six(first));
 //! }
+//! file.extend([0x40, 0, 20, 0, 0, 0, 0, 0, 0, 0]);
 //! file.extend([0x40, 0, 21, 0, 0, 0, 0, 0, 0, 0, 0xFF]);
 //!
 //! let (mut bounds, mut slacks) = ([0; 3], [0; 3]);
@@ -25,6 +26,9 @@
 //! assert_eq!((spare, bounds, slacks), (8, [15, 18, 21], [0, 0, 0]));
 //! let verdict = pepperscarp::judge(&file, 0, &mut bounds, &mut slacks)?;
 //! assert_eq!(verdict, pepperscarp::Verdict::Hit(2));
+//! // The largest bound is equal to the second level and not above it.
+//! let verdict = pepperscarp::judge(&file, 1, &mut bounds, &mut slacks)?;
+//! assert_eq!(verdict, pepperscarp::Verdict::Clear);
 //!
 //! // With its row as the number 1.0 the same model is saved otherwise; what is written for it is the first file.
 //! let row = [vec![0x03, 0], [1.0f64, 0.0, 0.0, 0.0, 0.0, 0.0].map(f64::to_le_bytes).concat()].concat();
@@ -51,14 +55,17 @@ pub const LISTING_ROOM: usize = 270_000;
 /// The room that is enough for every file that is written, in bytes (Writing 6).
 pub const WRITE_ROOM: usize = 1_546;
 
-/// What is said of a guard (Verdicts 2 to 4). A value, direction · state, reaches its level by being at it or above (Verdicts 1).
+/// What is said of a guard (Verdicts 2 to 4). A value, direction · state, reaches its level only above it (Verdicts 1): a value
+/// equal to the level does not reach it. A guard at [`i64::MIN`] is hit at step 0, and one at [`i64::MAX`] is clear.
 #[derive(Clone, Copy, PartialEq, Eq, Hash, Debug)]
 pub enum Verdict {
-    /// Some run reaches the level at this step, the first for which that is certain. A run may reach it earlier.
+    /// Some run is above the level at this step, the first for which that is certain: bound - slack is above the level. A run may
+    /// be above it earlier.
     Hit(usize),
-    /// No step is a certain hit, but the bound of this step, the first such, doesn't exclude the level.
+    /// No step is a certain hit, but the bound of this step, the first such, is above the level. The exact largest value there is
+    /// no farther from the level than the slack.
     Unknown(usize),
-    /// No run reaches the level at any step.
+    /// No run is above the level at any step. The largest bound may be equal to it.
     Clear,
 }
 
@@ -220,7 +227,8 @@ pub fn sweep(file: &[u8], direction: usize, bounds: &mut [i64], slacks: &mut [i6
 /// The verdict on guard number `guard` of the file's model, with the sweep of its direction left in the lists.
 ///
 /// The lists and the refusals are those of [`sweep`]. Entries of fitted rows are rounded first here too, and the verdict is on the
-/// bounds and the runs of the rounded matrix.
+/// bounds and the runs of the rounded matrix. (Before version 0.8.0 a value equal to the level reached it too. A level one count
+/// lower in the file keeps the verdicts and steps of those versions; [`i64::MIN`] keeps them as it is.)
 pub fn judge(file: &[u8], guard: usize, bounds: &mut [i64], slacks: &mut [i64]) -> Result<Verdict, Refusal> {
     // SAFETY: as for the sweep.
     let answer = unsafe {
@@ -245,7 +253,8 @@ pub fn judge(file: &[u8], guard: usize, bounds: &mut [i64], slacks: &mut [i64]) 
 /// The whole text that the program `envelope` writes for the file: its listing, or `refused N at P` for a refused file. It stands
 /// at the start of `out`, whose other bytes are as they were.
 ///
-/// `None`, with `out` as it was, where `out` has less than [`LISTING_ROOM`] bytes.
+/// `None`, with `out` as it was, where `out` has less than [`LISTING_ROOM`] bytes. (Verdicts are those of [`judge`], so they
+/// changed in version 0.8.0.)
 pub fn listing<'a>(file: &[u8], out: &'a mut [u8]) -> Option<&'a [u8]> {
     // SAFETY: the routine reads the file's bytes, writes within `out` alone, and keeps no pointer.
     let length = unsafe { c::pepperscarp_listing(file.as_ptr(), file.len(), out.as_mut_ptr(), out.len()) };

@@ -209,10 +209,11 @@ class Figures(unittest.TestCase):
 
     def test_case_31(self):
         """Bound - slack is 0, 1, 1, 1, never above 1; the bounds 0, 1, 2, 2 never above 2."""
-        model = single(32_768, (0, 0), (0, 1), 1, 3, guards=(1, 2))
+        model = single(32_768, (0, 0), (0, 1), 1, 3, guards=(0, 1, 2))
         told = exact.listing_of(model)
         self.assertEqual(told.directions[0], Sweep(10, (0, 1, 2, 2), (0, 0, 1, 1)))
-        self.assertEqual(told.guards, (Verdict("UNKNOWN", 2), Verdict("CLEAR")))
+        self.assertEqual(
+            told.guards, (Verdict("HIT", 1), Verdict("UNKNOWN", 2), Verdict("CLEAR")))
 
     def test_case_32(self):
         """All signed numbers of 64 bits but one are above the lowest, and none above the highest."""

@@ -107,6 +107,9 @@ ceilDiv-near a m h =
 pub ceilDivℕ-le : (a m : ℕ) → 0 < m → a ≤ m * ceilDivℕ a m
 ceilDivℕ-le a m h = omega (arith, divides (a + (m - 1)) m, mod-lt (a + (m - 1)) h)
 
+pub ceilDivℕ-near : (a m : ℕ) → m * ceilDivℕ a m ≤ a + (m - 1)
+ceilDivℕ-near a m = omega (arith, divides (a + (m - 1)) m)
+
 -- ---- what a fraction adds
 
 pub fraction-le-one : (a : ℤ) (m : ℕ) → fraction a m ≤ 1

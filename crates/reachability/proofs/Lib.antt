@@ -1,4 +1,5 @@
 pub mod FirstPlace
+pub mod CalmTerms
 pub mod OneMatrix
 pub mod VerdictLaws
 pub mod Walks

@@ -197,9 +197,9 @@ pub fn sweep<T: Whole>(model: &Model, direction: &Six) -> Result<Envelope<T>, us
     Ok(envelope)
 }
 
-/// Whether a value reaches a level (Verdicts 1).
+/// Whether a value reaches a level: only above it (Verdicts 1).
 fn reaches<T: Whole>(value: T, level: T) -> bool {
-    value >= level
+    value > level
 }
 
 /// The verdict on a level, by the first-step rules (Verdicts 2 to 4).

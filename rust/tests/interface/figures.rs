@@ -1,7 +1,8 @@
-//! Figures 1 to 14 and 16 to 27 of the specification, as far as the interface shows them, its sample (Listing 8), and the listings
-//! in examples/.
+//! Figures 1 to 14, 16 to 27 and 30 to 32 of the specification, as far as the interface shows them, its sample (Listing 8), more
+//! levels at and beside bounds, worked out by hand, and the listings in examples/.
 
 use crate::sweeps::compare_sweep;
+use pepperscarp::Verdict::{Clear, Hit, Unknown};
 use pepperscarp::{judge, list_length, step, sweep, Refusal, Verdict, LISTING_ROOM};
 use std::path::Path;
 use support::records::{end, file, fitted, guard, head, numbers, row, Record};
@@ -40,18 +41,19 @@ fn swept(bytes: &[u8]) -> Result<(u32, Vec<i64>, Vec<i64>), Refusal> {
     Ok((spare, bounds, slacks))
 }
 
-fn judged(bytes: &[u8], number: usize) -> Result<Verdict, Refusal> {
+/// The verdicts on all guards, in order.
+fn verdicts(bytes: &[u8]) -> Vec<Verdict> {
     let length = list_length(bytes).expect("a head");
-    judge(bytes, number, &mut vec![0; length], &mut vec![0; length])
+    let judged = |number| judge(bytes, number, &mut vec![0; length], &mut vec![0; length]);
+    (0..).map_while(|number| judged(number).ok()).collect()
 }
 
 #[test]
-fn cases_1_to_3_a_sum_of_inputs_and_its_guards() {
-    let bytes = line(2, 65_536, [2, 5], [-1, 1], 3, &[21, 22]);
+fn cases_1_to_3_and_30_a_sum_of_inputs_and_its_guards() {
+    let bytes = line(2, 65_536, [2, 5], [-1, 1], 3, &[21, 22, 20]);
     let (_, bounds, slacks) = swept(&bytes).expect("calm");
     assert_eq!((bounds, slacks), (vec![15, 18, 21], vec![0, 0, 0]));
-    assert_eq!(judged(&bytes, 0), Ok(Verdict::Hit(2)));
-    assert_eq!(judged(&bytes, 1), Ok(Verdict::Clear));
+    assert_eq!(verdicts(&bytes), [Clear, Clear, Hit(2)]);
 }
 
 #[test]
@@ -131,10 +133,32 @@ fn the_sample_has_its_spare_figure_bounds_slacks_and_verdicts() {
     let bytes = line(3, 32_768, [0, 0], [0, 1], 1, &[1, 2, 3]);
     assert_eq!(bytes.len(), 186);
     assert_eq!(swept(&bytes), Ok((10, vec![0, 1, 2, 2], vec![0, 0, 1, 1])));
-    assert_eq!(
-        [0, 1, 2].map(|number| judged(&bytes, number)),
-        [Ok(Verdict::Hit(1)), Ok(Verdict::Unknown(2)), Ok(Verdict::Clear)]
-    );
+    assert_eq!(verdicts(&bytes), [Unknown(2), Clear, Clear]);
+}
+
+#[test]
+fn case_31_and_others_a_level_equal_to_a_bound_or_to_bound_less_slack_is_not_reached_by_it() {
+    // The sample's bound - slack is 0, 1, 1, 1. Versions before 0.8.0 gave the verdicts on 0, 1 and 2 to the levels 1, 2 and 3.
+    let sample = line(3, 32_768, [0, 0], [0, 1], 1, &[-1, 0, 1, 2, 3]);
+    assert_eq!(verdicts(&sample), [Hit(0), Hit(1), Unknown(2), Clear, Clear]);
+    // Inputs up to 5: bound - slack is 0, 5, 7, 8.
+    let rising = line(3, 32_768, [0, 0], [0, 5], 1, &[-1, 0, 4, 5, 6, 7, 8, 9, 10]);
+    assert_eq!(swept(&rising), Ok((10, vec![0, 5, 8, 9], vec![0, 0, 1, 1])));
+    assert_eq!(verdicts(&rising), [Hit(0), Hit(1), Hit(1), Hit(2), Hit(2), Hit(3), Unknown(3), Clear, Clear]);
+    // 100 is halved, in direction -1: bound - slack is -100, -50, -25, -13.
+    let lowest = line(3, 32_768, [100, 100], [0, 0], -1, &[-101, -100, -99, -51, -50, -26, -25, -14, -13, -12, -11]);
+    assert_eq!(swept(&lowest), Ok((10, vec![-100, -50, -25, -12], vec![0, 0, 0, 1])));
+    let by_hand = [Hit(0), Hit(1), Hit(1), Hit(1), Hit(2), Hit(2), Hit(3), Hit(3), Unknown(3), Clear, Clear];
+    assert_eq!(verdicts(&lowest), by_hand);
+}
+
+#[test]
+fn case_32_the_lowest_level_is_reached_by_all_and_the_highest_by_none() {
+    let ends = [i64::MIN, i64::MIN + 1, i64::MAX - 1, i64::MAX];
+    for (initial, direction) in [([2, 5], 3), ([-1_048_576, 1_048_576], 1_000), ([-1_048_576, -1_048_576], 1_000)] {
+        let bytes = line(2, 65_536, initial, [-1, 1], direction, &ends);
+        assert_eq!(verdicts(&bytes), [Hit(0), Hit(0), Clear, Clear]);
+    }
 }
 
 #[test]

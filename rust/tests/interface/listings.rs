@@ -1,6 +1,7 @@
 //! Listings: the text is the specification's, whole, and no byte beside it changes.
 
 use crate::makers::{damage_bytes, damage_records, model, Random};
+use crate::sweeps::guarded_model;
 use pepperscarp::{list_length, listing, LISTING_ROOM};
 use support::listing::{of_file, text};
 use support::records::{end, file, guard, head, numbers, row};
@@ -31,7 +32,7 @@ fn listings_of_random_models_are_those_of_the_specification() {
     let mut random = Random::new(41);
     let mut out = room(LISTING_ROOM);
     for _ in 0..1_500 {
-        compare(&file(&model(&mut random)), &mut out);
+        compare(&file(&guarded_model(&mut random)), &mut out);
     }
 }
 

@@ -5,7 +5,7 @@ use crate::lent::Lent;
 use crate::makers::{open_model, Random};
 use pepperscarp::{judge, list_length, sweep, Refusal, Verdict};
 use std::collections::BTreeMap;
-use support::records::{end, file, guard, of_model};
+use support::records::{end, file, guard, of_model, Record};
 use support::recurrence;
 use support::specification::{self, Form, Model};
 
@@ -50,25 +50,53 @@ fn compare_lists(model: &Model, direction: usize, answer: Result<(), Refusal>, b
     }
 }
 
-/// A level at or beside a figure of the envelope, or an extreme one.
+/// bound - slack of each step.
+fn certain(envelope: &Envelope) -> Vec<i64> {
+    envelope.bounds.iter().zip(&envelope.slacks).map(|(bound, slack)| (bound - slack) as i64).collect()
+}
+
+/// Bound and bound - slack of step k, and the largest of each.
+fn figures(envelope: &Envelope, k: usize) -> [i64; 4] {
+    let certain = certain(envelope);
+    let most = *envelope.bounds.iter().max().expect("step 0 at least") as i64;
+    let most_certain = *certain.iter().max().expect("step 0 at least");
+    [envelope.bounds[k] as i64, certain[k], most, most_certain]
+}
+
+/// A level at a figure of the envelope or one count beside it, or an extreme one.
 fn level(random: &mut Random, envelope: Option<&Envelope>) -> i64 {
-    let beside = random.between(-1, 1);
     match (random.below(10), envelope) {
         (0, _) | (_, None) => random.pick(&[i64::MIN, i64::MIN + 1, -1, 0, 1, i64::MAX - 1, i64::MAX]),
         (1, _) => random.bits() as i64,
-        (case, Some(envelope)) => {
-            let k = random.below(envelope.bounds.len());
-            let most = *envelope.bounds.iter().max().expect("step 0 at least");
-            let certain = envelope.bounds.iter().zip(&envelope.slacks).map(|(bound, slack)| bound - slack);
-            let figure = match case {
-                2 | 3 => envelope.bounds[k],
-                4 | 5 => envelope.bounds[k] - envelope.slacks[k],
-                6 | 7 => most,
-                8 => certain.max().expect("step 0 at least") + 1,
-                _ => most + 1,
-            };
-            figure as i64 + beside
+        (_, Some(envelope)) => {
+            let figures = figures(envelope, random.below(envelope.bounds.len()));
+            random.pick(&figures) + random.between(-1, 1)
         }
+    }
+}
+
+/// The records of a model with guards at and beside figures of their sweeps, or at extreme levels, and the end.
+pub fn guarded_model(random: &mut Random) -> Vec<Record> {
+    let mut records = open_model(random);
+    records.push(end());
+    let model = specification::read(&file(&records)).expect("the makers make models");
+    records.pop();
+    let envelopes: Vec<Option<Envelope>> =
+        model.directions.iter().map(|direction| recurrence::sweep(&model, direction).ok()).collect();
+    let guards = random.pick(&[0, 1, 3, 16]);
+    for _ in 0..guards {
+        let direction = random.below(model.directions.len());
+        records.push(guard(direction as u8, level(random, envelopes[direction].as_ref())));
+    }
+    records.push(end());
+    records
+}
+
+fn word(verdict: Verdict) -> &'static str {
+    match verdict {
+        Verdict::Hit(_) => "HIT",
+        Verdict::Unknown(_) => "UNKNOWN",
+        Verdict::Clear => "CLEAR",
     }
 }
 
@@ -81,10 +109,9 @@ fn every_sweep_and_every_verdict_of_random_models_is_that_of_the_specification()
     let mut forms = [0; 3];
     let (mut without_input, mut fitted, mut mixed, mut drifting, mut zero) = (0, 0, 0, 0, 0);
     for _ in 0..6_000 {
-        let mut records = open_model(&mut random);
-        records.push(end());
-        let model = specification::read(&file(&records)).expect("the makers make models");
-        records.pop();
+        let records = guarded_model(&mut random);
+        let bytes = file(&records);
+        let model = specification::read(&bytes).expect("with guards too");
         sizes[model.n] += 1;
         forms[model.initial.form as usize] += 1;
         if records.iter().any(|record| (0x20..0x30).contains(&record.kind)) {
@@ -97,17 +124,6 @@ fn every_sweep_and_every_verdict_of_random_models_is_that_of_the_specification()
         mixed += usize::from(has(0x02) && has(0x03));
         drifting += usize::from(model.drift != [0; 6]);
         zero += usize::from(has(0x05) && model.drift == [0; 6]);
-        let envelopes: Vec<Option<Envelope>> =
-            model.directions.iter().map(|direction| recurrence::sweep(&model, direction).ok()).collect();
-        let guards = random.pick(&[0, 1, 3, 16]);
-        for _ in 0..guards {
-            let direction = random.below(model.directions.len());
-            records.push(guard(direction as u8, level(&mut random, envelopes[direction].as_ref())));
-        }
-        records.push(end());
-
-        let bytes = file(&records);
-        let model = specification::read(&bytes).expect("with guards too");
         assert_eq!(list_length(&bytes), Some(model.steps + 1));
         for direction in 0..model.directions.len() {
             match compare_sweep(&bytes, &model, direction) {
@@ -131,6 +147,62 @@ fn every_sweep_and_every_verdict_of_random_models_is_that_of_the_specification()
     assert!(sizes[1..].iter().all(|count| *count > 800) && forms.iter().all(|count| *count > 3_000) && without_input > 800);
     assert!(fitted > 2_000 && mixed > 600, "fitted rows come often, alone and mixed");
     assert!(drifting > 2_000 && zero > 100, "drifts come often, and some are zero");
+}
+
+#[test]
+fn levels_at_the_figures_of_a_sweep_and_one_count_to_both_sides_of_each() {
+    // Beside the comparison with the specification in Rust: what a verdict has to be follows from where its guard stands.
+    let mut random = Random::new(202_609);
+    let mut seen = BTreeMap::new();
+    let (mut with_slack, mut between) = (0, 0);
+    for _ in 0..4_000 {
+        let mut records = open_model(&mut random);
+        records.push(end());
+        let model = specification::read(&file(&records)).expect("a model");
+        records.pop();
+        let direction = random.below(model.directions.len());
+        let Ok(envelope) = recurrence::sweep(&model, &model.directions[direction]) else {
+            continue;
+        };
+        let k = random.below(model.steps + 1);
+        let four = figures(&envelope, k);
+        let beside = four.into_iter().flat_map(|figure| [figure - 1, figure, figure + 1]);
+        let levels = beside.chain([i64::MIN, i64::MIN + 1, i64::MAX - 1, i64::MAX]);
+        records.extend(levels.map(|one| guard(direction as u8, one)));
+        records.push(end());
+
+        let bytes = file(&records);
+        let model = specification::read(&bytes).expect("with sixteen guards");
+        let verdict = |number| compare_judge(&bytes, &model, number).expect("no growth");
+        // Of each figure three: one count lower, at it, one count higher.
+        let [bound, sure, most, most_sure] = std::array::from_fn(|f| [0, 1, 2].map(|side| verdict(3 * f + side)));
+        let [bound_k, sure_k, largest, largest_sure] = four;
+        let ends = [12, 13, 14, 15].map(verdict);
+        assert_eq!(ends, [Verdict::Hit(0), Verdict::Hit(0), Verdict::Clear, Verdict::Clear]);
+
+        assert_ne!(bound[0], Verdict::Clear);
+        assert!(bound[1..].iter().all(|said| ![Verdict::Hit(k), Verdict::Unknown(k)].contains(said)), "{bound:?} at step {k}");
+        assert!(matches!(sure[0], Verdict::Hit(step) if step <= k), "{sure:?} at step {k}");
+        assert!(sure[1..].iter().all(|said| *said != Verdict::Hit(k)), "{sure:?} at step {k}");
+        assert_ne!(most[0], Verdict::Clear);
+        assert_eq!(most[1..], [Verdict::Clear; 2]);
+        let first = certain(&envelope).iter().position(|value| *value == largest_sure).expect("it is one of them");
+        assert_eq!(most_sure[0], Verdict::Hit(first));
+        assert!(most_sure[1..].iter().all(|said| word(*said) != "HIT"), "{most_sure:?}");
+        assert_eq!(most_sure[1] == Verdict::Clear, largest == largest_sure, "UNKNOWN just where a bound is larger");
+
+        with_slack += usize::from(bound_k > sure_k);
+        between += usize::from(largest > largest_sure + 1);
+        for (figure, three) in [bound, sure, most, most_sure].into_iter().enumerate() {
+            for (side, said) in three.into_iter().enumerate() {
+                *seen.entry((figure, side, word(said))).or_insert(0) += 1;
+            }
+        }
+    }
+    println!("slack at the step in {with_slack}, two counts and more between the largest figures in {between}: {seen:?}");
+    assert!(with_slack > 1_000 && between > 500, "both come often: {with_slack} and {between}");
+    // 2 + 3 + 3 verdicts at and beside a bound, 1 + 3 + 3, 2 + 1 + 1 and 1 + 2 + 2.
+    assert!(seen.len() == 24 && seen.values().all(|count| *count > 20), "each comes often: {seen:?}");
 }
 
 #[test]

@@ -30,7 +30,8 @@ use Rattle.reachability.specs.WalkInner.{errorsLimit, storedReaches, ter
 use Rattle.reachability.specs.SweepInner.{inputPoints}
 use Rattle.reachability.specs.declared.model.Model.{Model}
 use Rattle.reachability.proofs.model.Facts.{ModelFacts}
-use Rattle.reachability.proofs.walk.StoredDirection.{Stored, sum-stored, working-passes, stored-next, support-stored, errors-stored, support-small, errors-small, terms-ask}
+use Rattle.reachability.proofs.walk.StoredDirection.{Stored, sum-stored, working-passes, stored-next, support-stored, errors-stored, terms-ask}
+use Rattle.reachability.proofs.CalmTerms.{support-small, errors-small}
 
 -- ---- the walks of a model
 
@@ -135,8 +136,8 @@ module _ (m : Model) (facts : ModelFacts m) (W : ℕ → Working) where
       held-back =
           record {
             stored = subst (λ (i : ℕ). Stored (m .n) (W i) r′ e′) (sym (add-one j)) stored-after;
-            entered-run = running-more (held .entered-run) (suc-le-suc inside) (subst (λ (z : ℤ). natAbs z ≤ termLimit) (facts .entering-is (W j .r)) (support-small (facts .n-most) (held .stored) calm (facts .moved))) (b .entered-is ∙ ap (λ (z : ℤ). entered +ℤ z) (support-stored (facts .n-most) (held .stored) calm (facts .moved) ∙ facts .entering-is (W j .r)));
-            errors-run = running-more (held .errors-run) (suc-le-suc inside) (errors-small (facts .n-most) (held .stored) calm (facts .entering .small)) (ap pos (b .errors-are ∙ ap (λ (i : ℕ). errors + i) (errors-stored (facts .n-most) (held .stored) calm (facts .entering .small))));
+            entered-run = running-more (held .entered-run) (suc-le-suc inside) (subst (λ (z : ℤ). natAbs z ≤ termLimit) (facts .entering-is (W j .r)) (support-small (facts .n-most) (W j) calm (facts .moved))) (b .entered-is ∙ ap (λ (z : ℤ). entered +ℤ z) (support-stored (facts .n-most) (held .stored) calm (facts .moved) ∙ facts .entering-is (W j .r)));
+            errors-run = running-more (held .errors-run) (suc-le-suc inside) (errors-small (facts .n-most) (W j) calm (facts .entering .small)) (ap pos (b .errors-are ∙ ap (λ (i : ℕ). errors + i) (errors-stored (facts .n-most) (held .stored) calm (facts .entering .small))));
             largest-is = b .largest-is ∙ ap₂ max (held .largest-is) sum-after ∙ sym (ap (λ (i : ℕ). maxℕ (suc i) (λ i. placeSum (m .n) (W i))) (add-one j) ∙ maxℕ-suc (suc j) (λ i. placeSum (m .n) (W i)));
           }
 

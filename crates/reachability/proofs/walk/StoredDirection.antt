@@ -4,15 +4,14 @@ use mathlib.Core.Path.{_≡_, refl, sym, ap, ap₂, subst, _∙_}
 use mathlib.Core.Bool.{Bool, true, cond}
 use mathlib.Core.List.{List}
 use Prim.Native.Nat.{ℕ, _+_, _*_, _-_, _≤_, _<_}
-use native.Mathlib.Nat.{le-refl, le-trans, lt-of-lt-of-le, mul-le-mul}
+use native.Mathlib.Nat.{lt-of-lt-of-le}
 use native.Mathlib.Decide.{decLt}
 use native.Mathlib.Omega.{arith}
 use lib.Dec.{T}
-use lib.IntN.{ℤ, pos, natAbs, _*ℤ_}
+use lib.IntN.{ℤ, pos, natAbs}
 use lib.Signed.{nonNeg}
 use Rattle.integers.specs.Sums.{vector, magnitudes, matrix, dotℕ, tabulate}
-use Rattle.integers.proofs.Order.{natAbs-mul-le}
-use Rattle.integers.proofs.Sums.{sumℕ-cong, sumℕ-beyond, sumℕ-bound, natAbs-sum}
+use Rattle.integers.proofs.Sums.{sumℕ-cong, sumℕ-beyond}
 use Rattle.integers.proofs.Machine.{getD-tabulate, tabulate-cong}
 use Rattle.arrays.specs.Tests.{zeroOutside}
 use Rattle.stepping.specs.Limits.{growthLimit, errorLimit}
@@ -24,11 +23,12 @@ use Rattle.stepping.proofs.Working.{working-ok}
 use Rattle.stepping.proofs.Beyond.{nextR-beyond, nextE-beyond}
 use Rattle.reachability.specs.Sets.{points, supportOf, reachLimit}
 use Rattle.reachability.specs.Recurrence.{Working, next, errorAt}
-use Rattle.reachability.specs.SetsInner.{productLimit, termLimit}
-use Rattle.reachability.specs.WalkInner.{errorsLimit, termSupport, termErrors, TermsAsk, storedReaches}
+use Rattle.reachability.specs.SetsInner.{termLimit}
+use Rattle.reachability.specs.WalkInner.{termSupport, termErrors, TermsAsk, storedReaches}
 use Rattle.reachability.specs.declared.sets.Shape.{Shape}
 use Rattle.reachability.proofs.sets.Bounds.{supportOf-six, supportOf-same}
 use Rattle.reachability.proofs.sets.Facts.{SetFacts}
+use Rattle.reachability.proofs.CalmTerms.{support-small}
 
 pub record Stored (n : ℕ) (w : Working) (r e : List ℤ) : Type 0 where
   pub r-is : r ≡ tabulate 6 (w .r)
@@ -93,20 +93,6 @@ module _ {n : ℕ} (n≤6 : n ≤ 6) {w : Working} {r e : List ℤ} (stored : St
       pub support-stored : termSupport shape count xs r ≡ supportOf n shape count (points xs) (w .r)
       support-stored = supportOf-six n n≤6 count xs (facts .outside) shape (vector r) ∙ supportOf-same n shape count (points xs) (λ i h. r-at i (inside h))
 
-      -- a support is at most what the reaches allow: some point attains it
-      pub support-small : natAbs (supportOf n shape count (points xs) (w .r)) ≤ termLimit
-      support-small =
-          let a = facts .laws .attained (w .r) in
-          subst (λ (z : ℤ). natAbs z ≤ termLimit) (a .2)
-          (le-trans (natAbs-sum n (λ i. w .r i *ℤ a .0 i) (λ i. productLimit) (λ i h. natAbs-mul-le (w .r i) (a .0 i) (value-le-limit n (w .r) (w .e) calm i h) (point i h)))
-          (le-trans (sumℕ-bound n productLimit (λ i h. le-refl productLimit)) (mul-le-mul n≤6 (le-refl productLimit))))
-        where
-          point : (i : ℕ) → i < n → natAbs (facts .laws .attained (w .r) .0 i) ≤ reachLimit
-          point i h = within (facts .laws .within 1 (facts .laws .attained (w .r) .0) (facts .laws .attained (w .r) .1) i h) (facts .reach-small .small i (inside h))
-            where
-              within : {a b : ℕ} → a ≤ 1 * b → b ≤ reachLimit → a ≤ reachLimit
-              within p q = omega arith
-
     module _ {reach : ℕ → ℕ} (small : (i : ℕ) → i < 6 → reach i ≤ reachLimit) where
       abbrev reaches : List ℤ
       reaches = storedReaches reach
@@ -129,10 +115,6 @@ module _ {n : ℕ} (n≤6 : n ≤ 6) {w : Working} {r e : List ℤ} (stored : St
           zero-times : (k : ℕ) → 0 * k ≡ 0
           zero-times k = omega arith
 
-      pub errors-small : errorAt n reach w ≤ errorsLimit
-      errors-small =
-          le-trans (sumℕ-bound n (errorLimit * reachLimit) (λ i h. mul-le-mul (error-le-limit n (w .r) (w .e) calm i h) (small i (inside h)))) (mul-le-mul n≤6 (le-refl (errorLimit * reachLimit)))
-
       pub terms-ask : {shape : Shape} {count : ℕ} {xs : List ℤ} → SetFacts n shape count xs → TermsAsk shape count xs reaches r e
       terms-ask facts =
           record {
@@ -144,5 +126,5 @@ module _ {n : ℕ} (n≤6 : n ≤ 6) {w : Working} {r e : List ℤ} (stored : St
               reach-natural = λ i h. subst (λ (z : ℤ). T (nonNeg z)) (sym (reach-at i h)) tt;
               reach-small = λ i h. subst (λ (z : ℤ). natAbs z ≤ reachLimit) (sym (reach-at i h)) (small i h);
             };
-            support-small = subst (λ (z : ℤ). natAbs z ≤ termLimit) (sym (support-stored facts)) (support-small facts);
+            support-small = subst (λ (z : ℤ). natAbs z ≤ termLimit) (sym (support-stored facts)) (support-small n≤6 w calm facts);
           }
