@@ -29,7 +29,7 @@ from dataclasses import dataclass, replace
 from decimal import Decimal
 from fractions import Fraction
 from functools import cache, cached_property
-from operator import add, mul
+from operator import add, mul, sub
 from pathlib import Path
 from typing import Any, Callable, Iterable, Iterator, Sequence
 
@@ -45,7 +45,7 @@ from layout import (  # noqa: E402
     MATRIX_UNIT, MAX_DIRECTION_ENTRY, MAX_LEVEL, MIN_LEVEL, Model, encode, fitted_rows_of,
     float_of, zero_box,
 )
-from listings import CLEAR, GROWTH, HIT, UNKNOWN, Growth, Listing  # noqa: E402
+from listings import CLEAR, GROWTH, HIT, UNKNOWN, Growth, Listing, Verdict  # noqa: E402
 
 TIME_LIMIT = 60  # seconds; a command that has not ended by then hangs
 MOST_COST = 12_000  # of the exact values of a random model
@@ -53,11 +53,11 @@ PACKED_MODELS, TEXTS = 100, 110  # random ones
 AS_WRITTEN = "CLEAR as stored, REACHED as written"
 # The sign between a value and a level that it reaches (Verdicts 1), and between a value and its
 # bound; first of a direction as it is, then of one that is turned round.
-REACHED_SIGNS, BOUND_SIGNS = "≥≤", "≤≥"
+REACHED_SIGNS, BOUND_SIGNS = "><", "≤≥"
 COUNTED = collections.Counter()  # what was checked
 
 RAIL = EXAMPLES / "rail.model"
-# Nothing is rounded; all guards are CLEAR, or one is not.
+# Nothing is rounded, and the largest value is 8; all guards are CLEAR, or one is not.
 STILL = """coordinates value
 steps 3
 row 0.5
@@ -70,7 +70,7 @@ input box
 direction largest 1
 guard largest 9 above
 """
-REACHED = STILL + "guard largest 8 met\n"
+REACHED = STILL + "guard largest 7 passed\n"
 NO_GUARD = STILL.replace("guard largest 9 above\n", "")
 # Of the matrix as written, no run of the stored one: 0.9999 is 65,529.4464 of 1/65,536.
 FADING = """coordinates value
@@ -244,8 +244,8 @@ class Case:
 
 
 def reaches(value: Fraction, level: int) -> bool:
-    """Whether a value reaches a level (Verdicts 1)."""
-    return value >= level
+    """Whether a value reaches a level (Verdicts 1): it is above it, and not only at it."""
+    return value > level
 
 
 def first_at(values: Sequence[Any], condition: Callable[[Any], bool]) -> int | None:
@@ -469,6 +469,19 @@ class Answer:
             return None
         return first_at(self.case.written[number], lambda value: reaches(value, level))
 
+    def verdict(self, guard: int) -> Verdict:
+        """The verdict by Verdicts 2 to 4, of the proved figures and of the level times the factor."""
+        number, level = self.case.model.guards[guard]
+        swept = self.listing.directions[number]
+        if isinstance(swept, Growth):
+            return Verdict(GROWTH, swept.step)
+        lows = list(map(sub, swept.bounds, swept.slacks))
+        for word, values in ((HIT, lows), (UNKNOWN, swept.bounds)):
+            step = first_at(values, lambda value: reaches(value, self.factors[number] * level))
+            if step is not None:
+                return Verdict(word, step)
+        return Verdict(CLEAR)
+
     def word(self, guard: int) -> str:
         """The word of a guard by its urgency."""
         number, level = self.case.model.guards[guard]
@@ -544,6 +557,7 @@ def check_written_margin(answer: Answer, guard: int, told: Printed | None) -> No
     must((told is None) == (case.written is None), "as written")
     if told is not None:
         check_rounded_down(told, (level - max(case.written[number])) / case.unit(number)[1], told)
+        must((told < 0) == (answer.reached(number, level) is not None), "reached as written", told)
 
 
 # JSON
@@ -611,7 +625,11 @@ def check_json_direction(answer: Answer, told: dict[str, Any]) -> None:
 
 
 def check_margins(answer: Answer, guard: int, least: Printed, most: Printed) -> None:
+    """The two margins, which also tell the verdict: at 0 a level is not reached."""
     number, level = answer.case.model.guards[guard]
+    word = answer.verdict(guard).word
+    must((word == HIT) == (most < 0), "certainly passed", guard, most)
+    must((word == CLEAR) == (least >= 0), "certainly clear", guard, least)
     counts = answer.case.unit(number)[1]
     check_rounded_down(least, answer.margin(guard), "margin", guard)
     check_rounded_up(most, Fraction(level, counts) - max(answer.lows(number)), "margin", guard)
@@ -629,6 +647,7 @@ def check_json_guard(answer: Answer, told: dict[str, Any]) -> int:
     must(told.pop("level_counts") == level, "level")
     must(Fraction(told.pop("level")) == Fraction(level, case.unit(number)[1]), "level")
     must((told.pop("verdict"), told.pop("step")) == (said.word, said.step), "verdict", said)
+    must(said == answer.verdict(guard), "another rule", said)
     must(told.pop("time") == case.time(said.step), "time")
     must(told.pop("clear") == (answer.word(guard) == CLEAR), "clear")
     reached, step = told.pop("reached_as_written"), answer.reached(number, level)
@@ -811,15 +830,14 @@ def check_text_margin(answer: Answer, guard: int, told: str) -> None:
         figure, unit = matched(rf"clear by ({NUMBER}) (\S+)", told)
         check_unit(unit, name, figure)
         check_rounded_down(Printed(figure), answer.margin(guard), told)
-        must(Printed(figure) <= truth, told)
+        must(0 <= Printed(figure) <= truth, told)
     elif word == UNKNOWN:
         short, past, unit = matched(rf"between ({NUMBER}) short and ({NUMBER}) (\S+) past", told)
         check_unit(unit, name, past)
         check_rounded_up(Printed(short), low, told)
         check_rounded_up(Printed(past), -answer.margin(guard), told)
         must(-Printed(past) <= truth <= Printed(short), told)
-    elif told == "reached":
-        must(reaches(max(answer.case.values[number]), level) and low == 0, told)
+        must(Printed(short) >= 0 < Printed(past), told)
     else:
         figure, unit = matched(rf"passed by ({NUMBER}) (\S+)", told)
         check_unit(unit, name, figure)
@@ -845,19 +863,18 @@ def check_text_guard(answer: Answer, cells: dict[str, str]) -> int:
 
 
 def check_text_as_written(answer: Answer, guard: int, told: str) -> None:
-    """`clear by 5.03 °C`, `passed by 0.26 °C from step 255` or `reached at step 3`."""
+    """`clear by 5.03 °C` or `passed by 0.26 °C from step 255`."""
     case, (number, level) = answer.case, answer.case.model.guards[guard]
     name, counts = case.unit(number)
     margin = (level - max(case.written[number])) / counts
     step = answer.reached(number, level)
-    if margin == 0 and step is not None:
-        must(told == f"reached at step {step}", told)
-        return
     pattern = rf"clear by ({FIGURE}) (\S+)" if step is None else (
         rf"passed by ({FIGURE}) (\S+) from step {step}")
     figure, unit = matched(pattern, told)
     check_unit(unit, name, figure)
     check_figure(figure, margin if step is None else -margin, step is not None, told)
+    shown = Fraction(figure.replace(",", ""))
+    must(shown > 0 or step is None and shown == 0, told)
 
 
 def check_figure(figure: str, value: Fraction, up: bool, told: str) -> None:
@@ -1053,8 +1070,24 @@ def random_row(rng: random.Random, kind: str, entries: Sequence[int]) -> str:
     return "row " + " ".join(f"~{value:.{rng.choice((4, 6, 9))}f}" for value in values)
 
 
+def swept_levels(rng: random.Random, model: Model, number: int) -> list[int]:
+    """Levels at or beside bounds of a direction as it is and, where one is whole, multiplied.
+
+    A bound - slack counts as a bound here.
+    """
+    entries = model.directions[number]
+    levels = [models.level_near(rng, exact.sweep(model, entries))]
+    factor = MAX_DIRECTION_ENTRY // max(map(abs, entries))
+    swept = exact.sweep(model, tuple(factor * entry for entry in entries))
+    if not isinstance(swept, Growth):
+        values = (*swept.bounds, *map(sub, swept.bounds, swept.slacks))
+        whole = [value // factor for value in values if value % factor == 0]
+        levels += [rng.choice((max(whole), *whole)) + rng.choice((-1, 0, 0, 1))] if whole else []
+    return levels
+
+
 def random_guards(rng: random.Random, case: Case, names: list[str]) -> str:
-    """Guards about the largest values, of the stored matrix and of the one as written."""
+    """Guards at and about the bounds and the largest values, those as written too."""
     rows = []
     for number in range(rng.choice((0, 1, 3, 6, 16))):
         direction = rng.randrange(len(names))
@@ -1065,7 +1098,10 @@ def random_guards(rng: random.Random, case: Case, names: list[str]) -> str:
         far = (value.__ceil__() + rng.randint(-spread, spread), MIN_LEVEL, MAX_LEVEL, 0)
         if case.written is not None and rng.random() < 0.2:
             near = far = (math.floor(max(case.written[direction])),)  # maybe above all stored values
-        level = min(max(rng.choice((*near, *near, *far)), MIN_LEVEL), MAX_LEVEL)
+        levels = (*near, *near, *far)
+        if rng.random() < 0.4:
+            levels = swept_levels(rng, case.model, direction)
+        level = min(max(rng.choice(levels), MIN_LEVEL), MAX_LEVEL)
         rows.append(f"guard {names[direction]} {level}" + rng.choice(("", f" g{number}")))
     return "".join(row + "\n" for row in rows)
 

@@ -79,6 +79,7 @@ class Command(Clone):
 
     WORDS = ("pepperscarp", "canonical")
     NAME = "canonical"
+    SIGNALS = (signal.SIGINT, signal.SIGTERM, signal.SIGHUP)
 
     def setUp(self) -> None:
         super().setUp()
@@ -115,6 +116,19 @@ class Command(Clone):
     def names(self, folder: Path | None = None) -> list[str]:
         return sorted(os.listdir(folder or self.models))
 
+    def heeds(self, started: subprocess.Popen[bytes]) -> bool:
+        """Whether it is loaded, and catches signals."""
+        told = Path(f"/proc/{started.pid}/status").read_text()
+        (caught,) = re.findall(r"^SigCgt:\s*(\w+)$", told, re.MULTILINE)
+        return all(int(caught, 16) >> signal_ - 1 & 1 for signal_ in self.SIGNALS)
+
+    def interrupt(self, started: subprocess.Popen[bytes], signal_: int, group: bool = False) -> None:
+        """Send a signal to it alone, or to all of its processes, as a terminal does."""
+        (os.killpg if group else os.kill)(started.pid, signal_)
+        out, err = started.communicate(timeout=TIME_LIMIT)
+        self.assertEqual((started.returncode, out, err), (128 + signal_, b"", b""))
+        self.assertEqual(list(self.temporary.iterdir()), [])
+
 
 class Words(Command):
     """`pepperscarp` itself."""
@@ -122,9 +136,9 @@ class Words(Command):
     WORDS = ("pepperscarp",)
 
     def test_without_a_command_it_tells_which_there_are(self) -> None:
-        usage = r"^pepperscarp: usage: \./pepperscarp list \| report \| canonical "
+        usage = r"^pepperscarp: usage: \./pepperscarp list \| report \| canonical \| changed "
         for words, message in (
-            ([], "^pepperscarp: name a command: list, report or canonical$"),
+            ([], "^pepperscarp: name a command: list, report, canonical or changed$"),
             ([""], "^pepperscarp: name a command: "),
             (["lists"], "^pepperscarp: unknown command lists$"),
             (["--none"], "^pepperscarp: unknown command --none$"),
@@ -138,22 +152,22 @@ class Words(Command):
         done = self.run_in("--help")
         self.assertEqual((done.returncode, done.stderr), (0, b""))
         for part in (b"usage: ./pepperscarp COMMAND", b"\n  list ", b"./run", b"\n  report ", b"./report",
-                     b"\n  canonical ", b"--version"):
+                     b"\n  canonical ", b"\n  changed ", b"--version"):
             self.assertIn(part, done.stdout)
 
     def test_the_examples_of_help_work(self) -> None:
         (self.clone / "examples").symlink_to(EXAMPLES)
         examples = re.findall(r"\n  (\./pepperscarp .*)", self.run_in("--help").stdout.decode())
-        self.assertEqual([example.split()[1] for example in examples], ["list", "report", "canonical"])
+        self.assertEqual([example.split()[1] for example in examples], ["list", "report", "canonical", "changed"])
         for example in examples:
             done = self.run_in("-c", example, command="bash", cwd=self.clone)
-            self.assertEqual(done.returncode, 3 if "report" in example else 0, done.stderr)
+            self.assertEqual(done.returncode, 3 if "report" in example or "changed" in example else 0, done.stderr)
             self.assertTrue(done.stdout)
 
     def test_the_version_is_that_of_run(self) -> None:
         version = b"Pepperscarp " + (ROOT / "VERSION").read_bytes()
-        for words in (["--version"], ["list", "--version"], ["report", "--version"], ["canonical", "--version"]):
-            self.assert_done(self.run_in(*words), 0, version, b"")
+        for words in ([], ["list"], ["report"], ["canonical"], ["changed"]):
+            self.assert_done(self.run_in(*words, "--version"), 0, version, b"")
 
     def test_list_and_report_are_run_and_report(self) -> None:
         self.put("m.model", TEXT)
@@ -173,15 +187,16 @@ class Words(Command):
 
     def test_help_of_a_command_is_told(self) -> None:
         for sub, start in (("list", b"usage: ./run "), ("report", b"Answer models "),
-                           ("canonical", b"Write the canonical file of a model")):
+                           ("canonical", b"Write the canonical file of a model"),
+                           ("changed", b"Report which guards of models ")):
             done = self.run_in(sub, "--help")
             self.assertEqual((done.returncode, done.stderr), (0, b""))
             self.assertTrue(done.stdout.startswith(start), done.stdout)
 
     def test_help_has_one_term_and_says_what_is_left_out(self) -> None:
-        for words in (["--help"], ["canonical", "--help"]):
+        for words in (["--help"], ["changed", "--help"], ["canonical", "--help"]):
             told = self.run_in(*words).stdout
-            self.assertIn(b"canonical file", told)
+            self.assertIn(b"guard is reached" if "changed" in words else b"canonical file", told)
             self.assertNotRegex(told, rb"one file|but for|is told|are taken")
         for part in (rb"hidden\s+files\s+and\s+folders", rb"sha256sum\s+-c\s+fails", rb"byte\s+01",
                      rb"rows\s+of\s+the\s+others\s+are\s+still\s+written"):
@@ -213,22 +228,26 @@ class Words(Command):
     def test_without_python3_a_packed_file_is_listed_and_the_rest_is_told(self) -> None:
         path = self.path(without="python3")
         self.assert_done(self.run_in("list", "-", data=SAMPLE, path=path), 0, SAMPLE_TEXT, b"")
-        self.assert_told(self.run_in("canonical", "-", data=SAMPLE, path=path), 2, "python3.* not found$")
+        for sub in ("canonical", "changed"):
+            told = f"^pepperscarp: {sub} needs python3, which was not found$"
+            self.assert_told(self.run_in(sub, "-", data=SAMPLE, path=path), 2, told)
         self.assert_told(self.run_in("report", "-", data=SAMPLE, path=path), 2, "python3.* is not there$")
 
     def test_a_command_that_is_not_there_has_status_2(self) -> None:
-        for name, sub in (("run", "list"), ("report", "report"), ("tools/canonical.py", "canonical")):
+        for name, sub in (("run", "list"), ("report", "report"), ("tools/canonical.py", "canonical"),
+                          ("tools/changed.py", "changed")):
             (self.clone / name).unlink()
             done = self.run_in(sub, "-", data=SAMPLE)
             self.assert_done(done, 2, b"")
             self.assertIn(os.strerror(errno.ENOENT).encode(), done.stderr)
 
     def test_output_that_fails_has_status_2(self) -> None:
-        for words in (["--help"], ["--version"], ["canonical", "--help"], ["canonical", "--version"]):
+        for words in (["--help"], ["--version"], ["canonical", "--help"], ["canonical", "--version"],
+                      ["changed", "--help"]):
             for output in ("> /dev/full", ">&-"):
                 with self.subTest(f"{words} {output}"):
                     done = self.run_shell(f"$c {' '.join(words)} {output}")
-                    self.assert_told(done, 2, "^(pepperscarp|run|canonical): standard output.* written")
+                    self.assert_told(done, 2, "^(pepperscarp|run|canonical|changed): standard output.* written")
 
 
 class OneFile(Command):
@@ -1038,15 +1057,6 @@ class Build(Command):
 class Interrupts(Command):
     """Signals end it without a word, and with the status of the signal."""
 
-    SIGNALS = (signal.SIGINT, signal.SIGTERM, signal.SIGHUP)
-
-    def interrupt(self, started: subprocess.Popen[bytes], signal_: int, group: bool = False) -> None:
-        """Send a signal to it alone, or to all of its processes, as a terminal does."""
-        (os.killpg if group else os.kill)(started.pid, signal_)
-        out, err = started.communicate(timeout=TIME_LIMIT)
-        self.assertEqual((started.returncode, out, err), (128 + signal_, b"", b""))
-        self.assertEqual(list(self.temporary.iterdir()), [])
-
     def test_while_it_reads(self) -> None:
         (self.models / "out").write_bytes(b"\x01old")
         for signal_, group in itertools.product(self.SIGNALS, (False, True)):
@@ -1056,12 +1066,6 @@ class Interrupts(Command):
                     until(lambda: self.heeds(started))
                     self.interrupt(started, signal_, group)
         self.assertEqual((self.names(), (self.models / "out").read_bytes()), (["out"], b"\x01old"))
-
-    def heeds(self, started: subprocess.Popen[bytes]) -> bool:
-        """Whether it is loaded, and catches signals."""
-        told = Path(f"/proc/{started.pid}/status").read_text()
-        (caught,) = re.findall(r"^SigCgt:\s*(\w+)$", told, re.MULTILINE)
-        return all(int(caught, 16) >> signal_ - 1 & 1 for signal_ in self.SIGNALS)
 
     def test_while_the_program_runs(self) -> None:
         self.put("m.bin", SAMPLE)

@@ -303,10 +303,12 @@ class Charts(unittest.TestCase):
                     as_written = one["verdict"] == "CLEAR" and not one["clear"]
                     self.assertEqual(word, "REACHED as written" if as_written else one["verdict"])
                     certain = {"CLEAR": one["margin_least"], "HIT": -(one["margin_most"] or 0)}
-                    self.assertEqual(number(margin or "0"), certain.get(word, 0), name)
+                    self.assertEqual(margin and number(margin), certain.get(word), name)
                     self.assertEqual(step and Decimal(step), None if as_written else one["step"])
                     seen[word] += 1
+                    seen["CLEAR, by 0"] += word == "CLEAR" and certain[word] == 0
         self.assertLessEqual({"HIT", "CLEAR", "GROWTH", "REACHED as written"}, set(seen))
+        self.assertGreater(seen["CLEAR, by 0"], 0)
 
 
 class Printed(unittest.TestCase):

@@ -41,8 +41,9 @@ import listings  # noqa: E402
 import models  # noqa: E402
 import readerfiles  # noqa: E402
 from layout import (  # noqa: E402
-    BOX, LONGEST_FILE, MAX_DIRECTION_ENTRY, MAX_DIRECTIONS, MAX_GUARDS, MAX_N, MAX_POINTS,
-    MAX_REACH, MAX_STEPS, MIN_POINTS, VERTICES, ZONOTOPE, Model, Set, Vector, encode, zero_box,
+    BOX, LONGEST_FILE, MAX_DIRECTION_ENTRY, MAX_DIRECTIONS, MAX_GUARDS, MAX_LEVEL, MAX_N,
+    MAX_POINTS, MAX_REACH, MAX_STEPS, MIN_LEVEL, MIN_POINTS, VERTICES, ZONOTOPE, Model, Set,
+    Vector, encode, zero_box,
 )
 
 
@@ -164,6 +165,25 @@ class Text(unittest.TestCase):
             steps = rows.count("/") - 2
             text = f"model 1 {steps}/dir 0 {rows}".replace("/", "\n")
             self.assertEqual(reply(single(entry, initial, direction, steps)).decode(), text)
+
+    def test_a_level_is_reached_only_above_it(self) -> None:
+        # By hand: the sample's bounds 0, 1, 2, 2 and bounds - slacks 0, 1, 1, 1; 3, 2, 1 and 3, 1, 0;
+        # without a slack 5, -5, and 1, 2, 3.
+        halved, kept = 32_768, 65_536
+        for entry, initial, entering, direction, steps, said in (
+            (halved, (0, 0), 1, 1, 3, {-1: "HIT 0", 0: "HIT 1", 1: "UNKNOWN 2", 2: "CLEAR", 3: "CLEAR"}),
+            (halved, (3, 3), 0, 1, 2, {2: "HIT 0", 3: "CLEAR", 1: "HIT 0", 0: "HIT 0"}),
+            (kept, (5, 5), 0, 1, 2, {4: "HIT 0", 5: "CLEAR", 6: "CLEAR"}),
+            (kept, (5, 5), 0, -1, 2, {-6: "HIT 0", -5: "CLEAR", -4: "CLEAR"}),
+            (kept, (0, 1), 1, 1, 2, {0: "HIT 0", 1: "HIT 1", 2: "HIT 2", 3: "CLEAR"}),
+        ):
+            ends = {MIN_LEVEL: "HIT 0", MIN_LEVEL + 1: "HIT 0", MAX_LEVEL - 1: "CLEAR", MAX_LEVEL: "CLEAR"}
+            said = {**said, **ends}
+            sets = (Set(BOX, ((low,), (high,))) for low, high in (initial, (0, entering)))
+            guards = tuple((0, level) for level in said)
+            told = reply(encode(Model(1, steps, ((entry,),), *sets, ((direction,),), guards))).decode()
+            found = re.findall(r"^guard \d+ (.+)$", told, re.MULTILINE)
+            self.assertEqual(dict(zip(said, found, strict=True)), said)
 
     def test_t_is_halved_once(self) -> None:
         # T is 2 at the last step, of two terms that are 1: of two coordinates, of both sets, of two

@@ -32,6 +32,7 @@ from dataclasses import replace
 from fractions import Fraction
 from pathlib import Path
 from typing import Any, Callable, Iterator, Sequence
+from unittest import mock
 
 sys.path.insert(0, str(Path(__file__).resolve().parent.parent / "tools"))
 
@@ -49,7 +50,7 @@ from layout import (  # noqa: E402
     BOX, MATRIX_UNIT, MAX_DIRECTION_ENTRY, MAX_DIRECTIONS, MAX_LEVEL, MIN_LEVEL, Model, Set,
     encode, zero_box,
 )
-from listings import CLEAR, GROWTH, HIT, UNKNOWN, Growth  # noqa: E402
+from listings import CLEAR, GROWTH, HIT, UNKNOWN, Growth, Verdict  # noqa: E402
 
 
 def setUpModule() -> None:
@@ -104,7 +105,7 @@ class Figures(Folder):
         cases = list(random_cases(7, PACKED_MODELS, TEXTS))
         for case in cases:
             self.put(case.name, case.data)
-        words, seen = collections.Counter(), collections.Counter()
+        words, seen, borders = (collections.Counter() for _ in range(3))
         for plain in (False, True):
             answers = check_all(cases, self.folder, plain, part=5)
             for answer in answers:
@@ -114,12 +115,29 @@ class Figures(Folder):
                 for number, swept in enumerate(answer.listing.directions):
                     seen["growth"] += isinstance(swept, Growth)
                     seen["above"] += written is not None and bool(answer.above(number))
+                borders.update((plain, *place) for place in self.borders(answer))
             if not plain:
                 sharp = answers
         for word in (HIT, AS_WRITTEN, GROWTH, UNKNOWN, CLEAR):
             self.assertGreater(words[word], 5, words)
         self.assertGreater(min(seen.values()), 20, seen)
+        places = ("bound",), ("bound", "slack"), ("low",), ("low", "slack"), ("as written",)
+        for plain, place in itertools.product((False, True), places):
+            self.assertGreater(borders[plain, *place], 8, borders)
         self.compare(sharp, answers)
+
+    def borders(self, answer: Answer) -> Iterator[tuple[str, ...]]:
+        """Where guards stand at what their verdicts depend on; also where that has a slack."""
+        for number, level in answer.case.model.guards:
+            if answer.case.written is not None and level == max(answer.case.written[number]):
+                yield ("as written",)
+            swept = answer.listing.directions[number]
+            if not isinstance(swept, Growth):
+                lows = [bound - slack for bound, slack in zip(swept.bounds, swept.slacks)]
+                slack = ["slack"] if max(lows) < max(swept.bounds) else []
+                for name, values in (("bound", swept.bounds), ("low", lows)):
+                    if answer.factors[number] * level == max(values):
+                        yield name, *slack
 
     def compare(self, sharp: list[Answer], plain: list[Answer]) -> None:
         """Sharp says no less than plain."""
@@ -310,9 +328,73 @@ class Written(Folder):
         self.assertTrue(answer.above(2))
 
 
+class Border(Folder):
+    """A guard is reached only above its level: at it, it is clear by 0."""
+
+    def told(self, text: str, plain: bool) -> tuple[dict[str, dict[str, str]], int]:
+        """The row of each guard by its name, with every number checked, and the status."""
+        case = self.put_case("border.model", text)
+        check_all([case], self.folder, plain)
+        done = self.report(*["--plain"] * plain, case.name)
+        rows = sections(done.stdout)[0].tables[0]
+        return {row.pop("guard"): row for row in rows}, done.returncode
+
+    def test_a_largest_bound_equal_to_the_level(self) -> None:
+        # The largest values are 8, 4, 2, 1.
+        text = NO_GUARD.replace("upper 1\n", "upper 0\n")
+        for plain in (False, True):
+            rows, status = self.told(text + "guard largest 8 at\n", plain)
+            self.assertEqual((status, rows), (0, {"at": {
+                "reached where": "value > 8 counts", "verdict": CLEAR, "margin": "clear by 0 counts"}}))
+            rows, status = self.told(text + "guard largest 8 at\nguard largest 7 below\n", plain)
+            self.assertEqual((status, rows["at"]["verdict"]), (3, CLEAR))
+            self.assertEqual(rows["below"], {"reached where": "value > 7 counts", "verdict": "HIT at step 0",
+                                             "margin": "passed by 1 count"})
+
+    def test_a_lowest_value_is_reached_below_its_level(self) -> None:
+        text = NO_GUARD.replace("lower 0\n  upper 8", "lower 4\n  upper 8").replace("steps 3", "steps 1")
+        text = text.replace("direction largest 1", "direction lowest -1\nunit lowest mV")
+        for plain in (False, True):
+            rows, status = self.told(text + "guard lowest -2 at\nguard lowest -3 above\n", plain)
+            self.assertEqual((rows["at"]["reached where"], rows["at"]["verdict"], rows["at"]["margin"]),
+                             ("value < 2 mV", CLEAR, "clear by 0 mV"))
+            self.assertEqual((rows["above"]["reached where"], rows["above"]["verdict"], rows["above"]["margin"]),
+                             ("value < 3 mV", "HIT at step 1", "passed by 1 mV"))
+            self.assertEqual(status, 3)
+
+    def test_a_bound_minus_its_slack_equal_to_the_level(self) -> None:
+        # Without a factor the bounds are 0, 1, 2, 2 and the slacks 0, 0, 1, 1.
+        text = NO_GUARD.replace("upper 8", "upper 0") + "guard largest 1 low\nguard largest 2 high\n"
+        rows, status = self.told(text, plain=True)
+        self.assertEqual((rows["low"]["verdict"], rows["low"]["margin"]),
+                         ("UNKNOWN at step 2", "between 0 short and 1 count past"))
+        self.assertEqual((rows["high"]["verdict"], rows["high"]["margin"]), (CLEAR, "clear by 0 counts"))
+        self.assertEqual(status, 3)
+
+    def test_a_value_as_written_equal_to_the_level(self) -> None:
+        # 0.7 of 1,000,000 is 700,000; stored is 45,875/65,536, which makes 699,996.95.
+        text = """coordinates whole part
+steps 1
+row 1 0
+row ~0.7 0
+initial box
+  lower 1000000 0
+  upper 1000000 0
+direction part 0 1
+guard part 700000 at
+"""
+        rows, status = self.told(text, plain=False)
+        self.assertEqual((rows["at"]["verdict"], status), (CLEAR, 0))
+        self.assertRegex(rows["at"]["as written"], r"^clear by 0\.0+ counts$")
+        rows, status = self.told(text + "guard part 699999 below\n", plain=False)
+        self.assertEqual((rows["below"]["verdict"], rows["at"]["verdict"], status), (AS_WRITTEN, CLEAR, 3))
+        self.assertRegex(rows["below"]["as written"], r"^passed by 1\.0+ counts from step 1$")
+
+
 class Order(Folder):
     def test_the_most_urgent_guards_come_first(self) -> None:
-        # Each word in one model, in another order; `turns` has a slack, and is UNKNOWN at its bound.
+        # Each word in one model, in another order; `turns` has a slack, is UNKNOWN one count below its
+        # bound and CLEAR at it.
         text = """coordinates value other turning more
 steps 30
 row ~0.9999 0 0 0
@@ -333,17 +415,18 @@ direction turns 0 0 1 0
         turns = max(listed(alone.model).directions[2].bounds)
         most = math.floor(max(alone.written[0]))
         for name, level, guard in (
-            ("largest", most + 9_000, "far"), ("largest", most + 1, "near"), ("turns", turns, "unsure"),
-            ("grows", 7, "grown"), ("largest", most, "between"), ("largest", 5, "met"), ("largest", 1, "well"),
+            ("largest", most + 9_000, "far"), ("largest", most + 1, "near"), ("turns", turns, "touched"),
+            ("turns", turns - 1, "unsure"), ("grows", 7, "grown"), ("largest", most, "between"),
+            ("largest", 5, "passed"), ("largest", 1, "well"),
         ):
             text += f"guard {name} {level} {guard}\n"
         case = self.put_case("all.model", text)
         (answer,) = check_all([case], self.folder, plain=True)
-        words = [answer.word(guard) for guard in range(7)]
-        self.assertEqual(words, [CLEAR, CLEAR, UNKNOWN, GROWTH, AS_WRITTEN, HIT, HIT])
+        words = [answer.word(guard) for guard in range(8)]
+        self.assertEqual(words, [CLEAR, CLEAR, CLEAR, UNKNOWN, GROWTH, AS_WRITTEN, HIT, HIT])
         (model,) = in_json(self.report("--plain", "--json", case.name).stdout)["models"]
         names = [one["name"] for one in model["guards"]]
-        self.assertEqual(names, ["well", "met", "between", "grown", "unsure", "near", "far"])
+        self.assertEqual(names, ["well", "passed", "between", "grown", "unsure", "touched", "near", "far"])
 
     def test_models_of_several_stand_in_the_order_of_their_words(self) -> None:
         texts = {
@@ -430,11 +513,12 @@ class Statuses(Folder):
             self.assertEqual(self.report(*options, "hit.model", "--against", "cut.bin").returncode, 1)
             self.assertEqual(self.report(*options, "clear.model", "--against", "hit.model").returncode, 0)
 
-    def test_help_tells_the_options_and_the_statuses(self) -> None:
+    def test_help_tells_the_options_the_rule_and_the_statuses(self) -> None:
         done = self.report("--help")
         self.assertEqual((done.returncode, done.stderr), (0, b""))
         options = ("--json", "--csv", "--html", "--plain", "--full", "--against", "--jobs", "--version")
-        for part in (*options, "\n  0  ", "\n  1  ", "\n  2  ", "\n  3  ", "2, 1, 3, 0"):
+        rule = "A guard is reached only above its level:"
+        for part in (*options, "\n  0  ", "\n  1  ", "\n  2  ", "\n  3  ", "2, 1, 3, 0", rule):
             self.assertIn(part, done.stdout.decode())
 
     def test_the_version_is_told(self) -> None:
@@ -1084,7 +1168,7 @@ class Names(Folder):
         for part, keys in self.KEYS.items():
             self.assertEqual(list(found[part]), keys.split(), part)
         self.assertEqual(list(missing), list(refused))
-        self.assertEqual((told["format"], told["format_version"]), ("pepperscarp-report", 1))
+        self.assertEqual((told["format"], told["format_version"]), ("pepperscarp-report", 2))
         alone = in_json(self.report("--json", "m.model").stdout)
         self.assertEqual(list(alone), self.KEYS[""].split()[:-1])
 
@@ -1292,6 +1376,45 @@ class Checks(unittest.TestCase):
                 else:
                     with self.assertRaises((AssertionError, KeyError)):
                         check_claim(self.case, number, told, None, exactly=False)
+
+    def test_a_level_with_the_sign_of_a_bound_is_found(self) -> None:
+        for number, told, level, good in (
+            (0, "rail < 22,800 mV", -22_800, True), (0, "rail ≤ 22,800 mV", -22_800, False),
+            (0, "rail > 22,800 mV", -22_800, False), (0, "rail < 22,801 mV", -22_800, False),
+            (1, "rail > 24,600 mV", 24_600, True), (1, "rail ≥ 24,600 mV", 24_600, False),
+            (1, "rail < 24,600 mV", 24_600, False),
+        ):
+            with self.subTest(told):
+                if good:
+                    check_claim(self.case, number, told, Fraction(level), exactly=True)
+                else:
+                    with self.assertRaises(AssertionError):
+                        check_claim(self.case, number, told, Fraction(level), exactly=True)
+
+    def test_a_guard_at_its_level_that_is_told_as_reached_is_found(self) -> None:
+        case = Case("standard input", (NO_GUARD + "guard largest 8 at\n").encode())
+        done = finished("--json", "-", data=case.data)
+        self.assertEqual(done.returncode, 0)
+        answer = check_json_model(case, in_json(done.stdout)["models"][0])
+        check_text_margin(answer, 0, "clear by 0 counts")
+        for margin in ("reached", "passed by 0 counts", "between 0 short and 0 counts past"):
+            with self.subTest(margin), self.assertRaises(AssertionError):
+                check_text_margin(answer, 0, margin)
+        for changes in ({"verdict": HIT, "step": Printed("0")}, {"verdict": UNKNOWN, "step": Printed("0")},
+                        {"clear": False}):
+            (told,) = in_json(done.stdout)["models"]
+            told["guards"][0].update(changes)
+            with self.subTest(changes), self.assertRaises(AssertionError):
+                check_json_model(case, told)
+        # A program that had the other rule would be found too.
+        for said in (Verdict(HIT, 0), Verdict(UNKNOWN, 0)):
+            (told,) = in_json(done.stdout)["models"]
+            told["guards"][0].update(verdict=said.word, step=Printed("0"), clear=False)
+            told["status"] = Printed("3")
+            wrong = replace(answer.listing, guards=(said,))
+            with (self.subTest(said), mock.patch.object(Case, "multiplied", lambda *_: wrong),
+                  self.assertRaisesRegex(AssertionError, "another rule")):
+                check_json_model(case, told)
 
     def test_the_exact_values_as_written_are_those_of_two_ways(self) -> None:
         # Of a stored matrix they are those of the exact program.

@@ -24,17 +24,17 @@ from quantities import exactly, places_for, places_to, rounded_down, rounded_up
 from textform import Source, Unit
 
 # When a level is reached (Verdicts 1): in words, in numbers and as a sign, for reports and charts.
-REACHED_MEANS = "A level is reached where the value is at it or above."
+REACHED_MEANS = "A level is reached only where the value is above it."
 
 
 def reaches(value: int, level: int) -> bool:
-    """Whether a value reaches a level; both are numerators over one denominator."""
-    return value >= level
+    """Whether a value reaches a level: only above it. Both are numerators over one denominator."""
+    return value > level
 
 
 def reached_sign(turned: bool) -> str:
     """The sign between a value and a level that it reaches; `turned` if both are negated."""
-    return "≤" if turned else "≥"
+    return "<" if turned else ">"
 
 
 @dataclass(frozen=True)

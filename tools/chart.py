@@ -182,7 +182,7 @@ class Curve:
         """
         least, most = self.figures.margin(guard)
         margin = {CLEAR: least, HIT: -most}.get(self.figures.word(guard))
-        return f", by {self.amount(margin)}" if margin else ""
+        return "" if margin is None else f", by {self.amount(margin)}"
 
 
 @dataclass(frozen=True)
@@ -270,7 +270,7 @@ class Panel:
         return {Fraction(0): "0"} | ({max(curve.slacks): largest} if any(curve.slacks) else {})
 
     def label(self, curve: Curve, guard: Guard) -> Label:
-        """`resets: ≤ 21,000 mV CLEAR, by 489 mV`, with `(off scale)` behind a level that is."""
+        """`resets: < 21,000 mV CLEAR, by 489 mV`, with `(off scale)` behind a level that is."""
         level, margin = curve.level(guard), ""
         unit = "" if curve.direction.unit is None else f" {curve.direction.unit_name}"
         told = f"{reached_sign(curve.turned)} {quantities.exactly(level)}{unit}"
@@ -697,11 +697,15 @@ def check_same(listing: Listing, source: pack.Source) -> None:
     if shape != (listing.n, listing.steps, len(listing.directions), len(listing.guards)):
         raise files.Failure("the listing is not of this model: other coordinates, steps or counts")
     for number, ((direction, level), said) in enumerate(zip(model.guards, listing.guards)):
-        expected = exact.verdict(listing.directions[direction], level)
+        swept = listing.directions[direction]
+        expected = exact.verdict(swept, level)
         if said != expected:
+            # Before version 0.8.0: what is said now of the level one count lower (Verdicts 5).
+            older = said == exact.verdict(swept, level - 1)
+            wrong = "from before version 0.8.0; make it again" if older else "not of this model"
             raise files.Failure(
-                f"the listing is not of this model: it says {said} of guard {number},"
-                f" whose level {level} makes it {expected}"
+                f"the listing is {wrong}: it says {said} of guard {number}, whose level {level}"
+                f" makes it {expected}"
             )
 
 

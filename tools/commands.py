@@ -1,4 +1,4 @@
-"""What the commands `report` and `canonical` share: messages, options, and how they end."""
+"""What the commands `report`, `canonical` and `changed` share: messages, options, how they end."""
 
 from __future__ import annotations
 

@@ -16,6 +16,7 @@ import argparse
 import collections
 import os
 import subprocess
+from operator import sub
 
 import exact
 import files
@@ -26,6 +27,8 @@ from listings import CLEAR, GROWTH, HIT, UNKNOWN, Growth, Refusal
 
 TIME_LIMIT = 10  # seconds for one file
 COST_LIMIT = 200_000  # products for one check of the accuracy rule
+# Guards at whose level a verdict changes (Verdicts 2, Verdicts 3).
+AT_BOUND, AT_LOW = "at the largest bound", "at the largest bound - slack"
 
 
 def output_of(program: str, data: bytes) -> bytes:
@@ -73,8 +76,13 @@ class Counts:
         self.seen[f"K {told.steps}"] += 1
         for swept in told.directions:
             self.seen["growth" if isinstance(swept, Growth) else "swept"] += 1
-        for said in told.guards:
+        for (number, level), said in zip(exact.read_model(data).guards, told.guards):
             self.seen[said.word] += 1
+            swept = told.directions[number]
+            if not isinstance(swept, Growth):
+                lows = map(sub, swept.bounds, swept.slacks)
+                self.seen[AT_BOUND] += level == max(swept.bounds)
+                self.seen[AT_LOW] += level == max(lows)
 
     def summary(self) -> str:
         def counted(prefix: str, names: list) -> str:
@@ -86,7 +94,7 @@ class Counts:
             f" {counted('', ['with fitted rows', 'with a drift', 'without input'])}),"
             f" refused {counted('refused ', list(exact.REASONS))};"
             f" directions {counted('', ['swept', 'growth'])};"
-            f" guards {counted('', [HIT, UNKNOWN, CLEAR, GROWTH])};"
+            f" guards {counted('', [HIT, UNKNOWN, CLEAR, GROWTH, AT_BOUND, AT_LOW])};"
             f" accuracy rule checked on {self.seen['checked']} models"
         )
 

@@ -2,8 +2,8 @@
 
 A tool that ends through `run` has status 0 if it is done, 1 if its input is wrong (a text, a
 refused file, a comparison that differs), 2 if the command line is wrong, and 3 if something could
-not be read or written. `canonical.py` and `report.py` end through `commands.run`, and have status 2
-for the last too.
+not be read or written. `canonical.py`, `changed.py` and `report.py` end through `commands.run`, and
+have status 2 for the last too.
 """
 
 from __future__ import annotations

@@ -17,6 +17,7 @@ import math
 import random
 import struct
 from dataclasses import replace
+from operator import sub
 from typing import Iterator
 
 import exact
@@ -178,14 +179,18 @@ def _direction(rng: random.Random, n: int) -> Vector:
     return tuple(entries)
 
 
-def _level(rng: random.Random, swept: exact.Sweep | Growth) -> int:
-    """A level at, just below or just above a bound or a bound - slack; now and then any other."""
+def level_near(rng: random.Random, swept: exact.Sweep | Growth) -> int:
+    """A level at a bound or a bound - slack, or one count beside it; now and then any other.
+
+    It is that of any step, that of the peak, or the largest of all, at which verdicts change.
+    """
     if isinstance(swept, Growth) or rng.random() < 0.1:
         return rng.choice((MIN_LEVEL, MAX_LEVEL, 0, rng.randint(-(10**6), 10**6)))
-    top = swept.bounds.index(max(swept.bounds))
-    step = rng.choice((rng.randrange(len(swept.bounds)), top, top))
-    slack = rng.choice((0, swept.slacks[step]))
-    return swept.bounds[step] - slack + rng.choice((-1, 0, 0, 1))
+    lows = tuple(map(sub, swept.bounds, swept.slacks))
+    peak = swept.bounds.index(max(swept.bounds))
+    step = rng.choice((rng.randrange(len(lows)), peak, None))
+    values = rng.choice((swept.bounds, lows))
+    return (max(values) if step is None else values[step]) + rng.choice((-1, 0, 0, 1))
 
 
 def _largest(rng: random.Random) -> Model:
@@ -236,7 +241,7 @@ def _guards(rng: random.Random, model: Model) -> tuple[tuple[int, int], ...]:
     count = MAX_GUARDS if largest else rng.choice((0, 1, 2, 3, 4, 5, MAX_GUARDS))
     numbers = [rng.randrange(len(model.directions)) for _ in range(count)]
     sweeps = {number: exact.sweep(model, model.directions[number]) for number in set(numbers)}
-    return tuple((number, _level(rng, sweeps[number])) for number in numbers)
+    return tuple((number, level_near(rng, sweeps[number])) for number in numbers)
 
 
 # Files of accepted models

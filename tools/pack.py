@@ -23,7 +23,8 @@ A text has one statement in a row, and `#` starts a comment:
     unit NAME UNIT [COUNTS]       what a direction above it or a coordinate is in, as in
                                   `unit hottest °C 16`, and how many counts make one (1 without);
                                   may be left out
-    guard DIRECTION LEVEL [NAME]  0 to 16, each on a direction above it; the name may be left out
+    guard DIRECTION LEVEL [NAME]  0 to 16, each on a direction above it; reached only where the
+                                  direction's value is above LEVEL; the name may be left out
 
 An ENTRY of a `row` is a decimal from -2 to 2. It must be a multiple of 1/65,536, as 0.5 is;
 `~0.97` stands for the nearest multiple (of two equally near the even one), so that in a `row` all

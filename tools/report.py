@@ -6,8 +6,9 @@
 
 For each direction: the largest bound, its step, the slack there. For each guard: its level, the
 verdict with its step, and the margin, which is how far the largest bound stays below the level, or
-by how much the level is certainly passed. The most urgent come first. Figures are in the units that
-the text names, and in counts where it names none.
+by how much the level is certainly passed. A guard is reached only above its level: one whose level
+is equal to the largest bound is CLEAR, by 0. The most urgent come first. Figures are in the units
+that the text names, and in counts where it names none.
 
 A MODEL is a text (python3 tools/pack.py --help shows the form) or a packed file; it may be a pipe,
 and - is standard input. Of a folder all texts (*.model) and packed files (*.bin) in it and below it

@@ -97,7 +97,7 @@ class GuardChange:
 
     @property
     def margin(self) -> Change:
-        """How far the largest bound stays below the level; below 0 where it doesn't."""
+        """How far the largest bound stays below the level; below 0 where it is above it."""
         guards = {id(one.direction): guard for one, guard in filter(None, (self.old, self.new))}
         return self.direction.change(
             lambda one: one.margin(guards[id(one.direction)])[0],

@@ -24,7 +24,7 @@ from .changes import Change, Changes, DirectionChange, GuardChange
 from .reports import Report, Result
 
 FORMAT = "pepperscarp-report"
-FORMAT_VERSION = 1
+FORMAT_VERSION = 2
 ANSWERED, REFUSED, NOT_RUN = "answered", "refused", "not run"
 
 

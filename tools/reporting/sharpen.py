@@ -46,7 +46,7 @@ def multiplied(model: Model, factors: Sequence[int]) -> Model:
     """The model with each direction, and the levels of its guards, multiplied by its factor.
 
     A level that 64 bits don't hold any more becomes the last one that they hold. No bound and no
-    bound - slack comes near either end, so the verdict is that of the level itself.
+    bound - slack comes near either end, so the verdict is that of the level itself (Verdicts 6).
     """
 
     def level(number: int, value: int) -> int:

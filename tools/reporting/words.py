@@ -85,7 +85,7 @@ def claim(figures: Figures, report: Report) -> str:
 
 
 def condition(direction: Direction, guard: Guard, report: Report) -> str:
-    """Where a guard is reached: `rail ≤ 21,000 mV`."""
+    """Where a guard is reached: `rail < 21,000 mV`."""
     level = direction.level(guard)
     value = in_unit(exactly(-level if turned(direction) else level), direction)
     return f"{left_side(direction, report)} {reached_sign(turned(direction))} {value}"
@@ -99,20 +99,16 @@ def verdict(figures: Figures, guard: Guard, report: Report) -> str:
     return said.word if said.step is None else f"{said.word} at step {at_step(said.step, report)}"
 
 
-def past_level(past: Fraction, figure: str, step: int | None = None) -> str:
-    """By how much a level is passed, and from which step; `reached` if the value is the level."""
-    if past:
-        return f"passed by {figure}" if step is None else f"passed by {figure} from step {step}"
-    return "reached" if step is None else f"reached at step {step}"
-
-
 def margin(figures: Figures, guard: Guard) -> str:
-    """How far the largest bound stays below the level, or by how much it is certainly passed."""
+    """How far the largest bound stays below the level, or by how much it is certainly passed.
+
+    What is passed is above 0, also as told; `clear by 0` is said of a bound equal to the level.
+    """
     if guard.said.word == GROWTH:
         return "no bound"
     least, most = figures.margin(guard)
     if guard.said.word == HIT:
-        return past_level(-most, quantity(-most, figures))
+        return f"passed by {quantity(-most, figures)}"
     if guard.said.word == UNKNOWN:
         short = told(most, figures.places)
         return f"between {short} short and {quantity(-least, figures)} past"
@@ -168,8 +164,8 @@ def warning(report: Report) -> str | None:
 
 
 def as_written(figures: Figures, guard: Guard) -> str:
-    """The margin by the matrix as written, and where it reaches the level."""
+    """The margin by the matrix as written, and from which step on it passes the level."""
     step, margin = figures.reached_as_written(guard), figures.written_margin(guard)
     if step is None:
         return f"clear by {written_quantity(margin, figures, up=False)}"
-    return past_level(-margin, written_quantity(-margin, figures), step)
+    return f"passed by {written_quantity(-margin, figures)} from step {step}"

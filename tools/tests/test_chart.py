@@ -40,6 +40,8 @@ guard most 3
 guard most 9000000000000000000
 guard most -9000000000000000000
 guard least 1
+guard most 4
+guard least 0
 """
 GROWING = """\
 coordinates x
@@ -234,10 +236,11 @@ class Chart(unittest.TestCase):
         # The bounds of `most` are 0, 2, 3, 4 and those without slack 0, 2, 3, 3.
         for expected in (
             "title", "1 coordinate, steps 0 to 3", "most = 2 a", "least = -a",
-            "guard 0: ≥ 2 HIT 1, by 1", "guard 1: ≥ 3 HIT 2", "guard 4: ≥ 1 CLEAR, by 1",
+            "guard 0: > 2 HIT 2, by 1", "guard 1: > 3 UNKNOWN 3", "guard 4: > 1 CLEAR, by 1",
+            "guard 5: > 4 CLEAR, by 0", "guard 6: > 0 CLEAR, by 0",
             "spare 9", "counts", "step", "peak 4 at step 3", "peak 0 at step 0",
-            "guard 2: ≥ 9,000,000,000,000,000,000 (off scale) CLEAR, by 8,999,999,999,999,999,996",
-            "guard 3: ≥ -9,000,000,000,000,000,000 (off scale) HIT 0, by 9,000,000,000,000,000,003",
+            "guard 2: > 9,000,000,000,000,000,000 (off scale) CLEAR, by 8,999,999,999,999,999,996",
+            "guard 3: > -9,000,000,000,000,000,000 (off scale) HIT 0, by 9,000,000,000,000,000,003",
         ):
             self.assertIn(expected, words)
 
@@ -245,12 +248,12 @@ class Chart(unittest.TestCase):
         words = words_of(drawn(TEXT, with_model=False))
         self.assertLessEqual({"direction 0", "direction 1", "spare 9", "counts"}, set(words))
         self.assertEqual([word for word in words if "level" in word], [])
-        self.assertIn("guard 0 HIT 1; guard 1 HIT 2; guard 2 CLEAR; guard 3 HIT 0", words)
+        self.assertIn("guard 0 HIT 2; guard 1 UNKNOWN 3; guard 2 CLEAR; guard 3 HIT 0", words)
 
     def test_growth(self):
         words = words_of(drawn(GROWING))
         self.assertIn("refused for growth at step 11", words)
-        self.assertIn("guard 0: ≥ 7 GROWTH 11", words)
+        self.assertIn("guard 0: > 7 GROWTH 11", words)
 
     def test_names_are_escaped(self):
         source = pack.parse(TEXT)
@@ -261,8 +264,8 @@ class Chart(unittest.TestCase):
         picture = ElementTree.fromstring(drawn(TEXT))
         marks = [node for node in picture.iter(NS + "circle") if node.get("r") == "5"]
         places = {float(node.get("cx")) for node in marks if float(node.get("cy")) > 106}
-        # HIT 1 and HIT 2 of three steps; levels off the scale have no mark.
-        self.assertEqual(places, {chart.LEFT + 200.0, chart.LEFT + 400.0})
+        # HIT 2 and UNKNOWN 3 of three steps; levels off the scale have no mark.
+        self.assertEqual(places, {chart.LEFT + 400.0, chart.LEFT + 600.0})
 
     def test_all_is_inside(self):
         for text in (TEXT, GROWING, *HARD.values()):
@@ -422,8 +425,8 @@ class Layout(unittest.TestCase):
     def test_long_levels_are_told_whole(self):
         words = words_of(drawn(HARD["sixteen guards with long levels"]))
         for expected in (
-            "guard 0: ≥ -9,223,372,036,854,775,808 (off scale) HIT 0, by 9,223,372,036,854,775,809",
-            "guard 15: ≥ 9,223,372,036,854,775,807 (off scale) CLEAR, by 9,223,372,036,854,775,806",
+            "guard 0: > -9,223,372,036,854,775,808 (off scale) HIT 0, by 9,223,372,036,854,775,809",
+            "guard 15: > 9,223,372,036,854,775,807 (off scale) CLEAR, by 9,223,372,036,854,775,806",
         ):
             self.assertIn(expected, words)
 
@@ -438,7 +441,7 @@ class Layout(unittest.TestCase):
         name = "W" * 58 + "10"
         level = f"140,737,488,355,328 {WIDE}"
         long_names = drawn(HARD["a tube with sixteen long names and levels"])
-        told = f"{name}: ≥ -{level} (off scale) HIT 0, by 140,737,488,355,328.0000152 {WIDE}"
+        told = f"{name}: > -{level} (off scale) HIT 0, by 140,737,488,355,328.0000152 {WIDE}"
         self.assertIn(told, titles_of(long_names))
         self.assertFalse([words for words in words_of(long_names) if name in words])
 
@@ -485,15 +488,15 @@ class Units(unittest.TestCase):
 
     def test_unit_of_one_count(self):
         words = self.words("unit d mV", "guard d 0")
-        self.assertLessEqual({"mV", "1", "guard 0: ≥ 0 mV HIT 0, by 1 mV"}, set(words))
+        self.assertLessEqual({"mV", "1", "guard 0: > 0 mV HIT 0, by 1 mV"}, set(words))
         self.assertNotIn("counts", words)
 
     def test_unit_of_more_counts(self):
         words = self.words("unit d °C 16", "guard d -1", "guard d 2", "guard d 3200")
         for expected in (
-            "guard 0: ≥ -0.0625 °C (off scale) HIT 0, by 0.1250 °C",
-            "guard 1: ≥ 0.125 °C CLEAR, by 0.0625 °C",
-            "guard 2: ≥ 200 °C (off scale) CLEAR, by 199.9375 °C",
+            "guard 0: > -0.0625 °C (off scale) HIT 0, by 0.1250 °C",
+            "guard 1: > 0.125 °C CLEAR, by 0.0625 °C",
+            "guard 2: > 200 °C (off scale) CLEAR, by 199.9375 °C",
             "peak 0.0625 °C at step 0", "°C", "0.06", "0.08", "0.10", "0.12",
         ):
             self.assertIn(expected, words)
@@ -502,9 +505,9 @@ class Units(unittest.TestCase):
     def test_levels_are_told_exactly(self):
         words = self.words("unit d °C 65536", "guard d 65537", "direction e 1", "unit e V 3",
                            "guard e -1000")
-        told = "guard 0: ≥ 1.0000152587890625 °C (off scale) CLEAR, by 1.0000000 °C"
+        told = "guard 0: > 1.0000152587890625 °C (off scale) CLEAR, by 1.0000000 °C"
         self.assertIn(told, words)
-        self.assertIn("guard 1: ≥ -1,000/3 V (off scale) HIT 0, by 333.666 V", words)
+        self.assertIn("guard 1: > -1,000/3 V (off scale) HIT 0, by 333.666 V", words)
 
     def test_peak_and_slack_have_the_same_decimals(self):
         """What is told for a slack is the distance of the ends as told, and not less."""
@@ -531,11 +534,12 @@ class Units(unittest.TestCase):
 
     def test_what_only_the_matrix_as_written_reaches(self):
         written = answers.Written(10, (100, 1105, 12100))  # 100, 110.5, 121
-        one = direction([100, 110, 120], levels=(121, 130))
+        one = direction([100, 110, 120], levels=(120, 121, 130))
         one = dataclasses.replace(one, written=written)
         plot = Plot(one)
-        self.assertIn("guard 0: ≥ 121 REACHED as written", plot.words)
-        self.assertIn("guard 1: ≥ 130 CLEAR, by 10", plot.words)
+        self.assertIn("guard 0: > 120 REACHED as written", plot.words)
+        self.assertIn("guard 1: > 121 CLEAR, by 1", plot.words)
+        self.assertIn("guard 2: > 130 CLEAR, by 10", plot.words)
         picture = chart.draw([one], ("a",), 2, "title")
         self.assertLessEqual({"as written", "guard level, REACHED as written"},
                              set(words_of(picture)))
@@ -577,10 +581,10 @@ class Units(unittest.TestCase):
             ("rail", {"mV", "mA", "step, and time in ms", "highest, lowest: rail",
                       "peak 24,650 mV at step 56 (70 ms)",
                       "lowest 21,504 mV at step 58 (72.5 ms)",
-                      "limit: ≥ 25,200 mV CLEAR, by 550 mV",
-                      "resets: ≤ 21,000 mV CLEAR, by 504 mV"}),
+                      "limit: > 25,200 mV CLEAR, by 550 mV",
+                      "resets: < 21,000 mV CLEAR, by 504 mV"}),
             ("head", {"°C", "step, and time in ms", "312.5",
-                      "limit: ≥ 280 °C CLEAR, by 23.875 °C"}),
+                      "limit: > 280 °C CLEAR, by 23.875 °C"}),
             ("budget", {"mV", "°C", "counts"}),
         ):
             picture = (examples.FOLDER / f"{name}.svg").read_text(encoding="utf-8")
@@ -764,21 +768,21 @@ class Tubes(PlotTest):
         self.at(plot, plot.lines(BOUND)[0], [2, 4])
         self.at(plot, plot.lines(BOUND)[1], [1, Fraction(1, 2)])
         self.assertLessEqual({"V", "peak 4 V at step 1", "lowest 0.5 V at step 1",
-                              "guard 0: ≤ 0 V CLEAR, by 0.5 V"}, set(plot.words))
+                              "guard 0: < 0 V CLEAR, by 0.5 V"}, set(plot.words))
 
     def test_guards_of_both_sides(self):
         upper = direction([30, 40, 36], slack=1, levels=(36, 50))
-        lower = direction([-10, -8, -9], slack=1, levels=(-9, -8, 2), entries=(-1,))
+        lower = direction([-10, -8, -9], slack=1, levels=(-10, -9, -8, 2), entries=(-1,))
         plot = Plot(upper, lower)
-        self.near(plot.across(), [plot.y(level) for level in (50, 36, 9, 8, -2)])
-        for expected in ("guard 0: ≥ 36 HIT 1, by 3", "guard 1: ≥ 50 CLEAR, by 10",
-                         "guard 0: ≤ 9 HIT 1", "guard 1: ≤ 8 UNKNOWN 1",
-                         "guard 2: ≤ -2 CLEAR, by 10"):
+        self.near(plot.across(), [plot.y(level) for level in (50, 36, 10, 9, 8, -2)])
+        for expected in ("guard 0: > 36 HIT 1, by 3", "guard 1: > 50 CLEAR, by 10",
+                         "guard 0: < 10 HIT 1, by 1", "guard 1: < 9 UNKNOWN 1",
+                         "guard 2: < 8 CLEAR, by 0", "guard 3: < -2 CLEAR, by 10"):
             self.assertIn(expected, plot.words)
         marks = [(float(node.get("cx")), float(node.get("cy")))
                  for node in plot.root.iter(NS + "circle") if node.get("r") == "5"]
         self.assertEqual({x for x, _ in marks}, {plot.x(1)})
-        self.near([y for _, y in marks], [plot.y(level) for level in (36, 9, 8)])
+        self.near([y for _, y in marks], [plot.y(level) for level in (36, 10, 9)])
 
     def test_spare_and_factor(self):
         one, other = direction([1, 2]), direction([1, 2], entries=(-1,))
@@ -821,12 +825,13 @@ class Peaks(PlotTest):
 
     def test_margins_are_rounded_down(self):
         """The largest value lies between 998/3 and 1000/3."""
-        levels = (800, 998, 999, 1000, 1001, 1100)
+        levels = (800, 997, 998, 999, 1000, 1001, 1100)
         words = Plot(direction([100, 1000], slack=2, levels=levels, unit=("V", 3))).words
         for expected in (
-            "guard 0: ≥ 800/3 V HIT 1, by 66.00 V", "guard 1: ≥ 998/3 V HIT 1",
-            "guard 2: ≥ 333 V UNKNOWN 1", "guard 3: ≥ 1,000/3 V UNKNOWN 1",
-            "guard 4: ≥ 1,001/3 V CLEAR, by 0.33 V", "guard 5: ≥ 1,100/3 V CLEAR, by 33.33 V",
+            "guard 0: > 800/3 V HIT 1, by 66.00 V", "guard 1: > 997/3 V HIT 1, by 0.33 V",
+            "guard 2: > 998/3 V UNKNOWN 1", "guard 3: > 333 V UNKNOWN 1",
+            "guard 4: > 1,000/3 V CLEAR, by 0.00 V", "guard 5: > 1,001/3 V CLEAR, by 0.33 V",
+            "guard 6: > 1,100/3 V CLEAR, by 33.33 V",
         ):
             self.assertIn(expected, words)
 
@@ -834,7 +839,7 @@ class Peaks(PlotTest):
         """Also where it is so near that rounding to fewer places would put it there."""
         bounds = [0, Fraction("24649.991")]
         words = Plot(direction(bounds, levels=(24650,), factor=1000, unit=("mV", 1))).words
-        self.assertIn("guard 0: ≥ 24,650 mV CLEAR, by 0.009 mV", words)
+        self.assertIn("guard 0: > 24,650 mV CLEAR, by 0.009 mV", words)
         self.assertIn("peak 24,649.991 mV at step 1", words)
 
     def test_arrow(self):
@@ -853,7 +858,7 @@ class Peaks(PlotTest):
     def test_arrow_is_as_long_as_the_margin(self):
         """Where the slack can be seen, the bound is too high for a level that is HIT."""
         plot = Plot(direction([3, 70, 50], 20, (40, 110)))
-        self.assertLessEqual({"guard 0: ≥ 40 HIT 1, by 10", "guard 1: ≥ 110 CLEAR, by 40"},
+        self.assertLessEqual({"guard 0: > 40 HIT 1, by 10", "guard 1: > 110 CLEAR, by 40"},
                              set(plot.words))
         (_, _, stop), = plot.arrows()
         self.near([stop], [plot.y(110)])
@@ -872,6 +877,29 @@ class Peaks(PlotTest):
     def test_no_arrow(self):
         for slack, *levels in ((0,), (0, 70), (0, 71), (0, 10**6), (20, 40), (60, 40)):
             self.assertEqual(Plot(direction([3, 70, 50], slack, levels)).arrows(), [])
+
+    def test_a_level_at_the_peak(self):
+        """It is clear by 0: its line goes through the mark of the peak, and it has no arrow."""
+        for slack, levels, ends in ((0, (70,), []), (20, (70,), []), (20, (70, 110), [110])):
+            with self.subTest(slack, levels=levels):
+                plot = Plot(direction([3, 70, 50], slack, levels))
+                self.assertIn("guard 0: > 70 CLEAR, by 0", plot.words)
+                self.near(plot.across()[-1:], [y for _, y in plot.peaks()])
+                self.near([end for _, _, end in plot.arrows()], [plot.y(end) for end in ends])
+                circles = [node.get("r") for node in plot.root.iter(NS + "circle")]
+                self.assertNotIn("5", circles)
+        lower = direction([-10, -20], levels=(-10,), entries=(-1,))
+        plot = Plot(direction([60, 70], levels=(70,)), lower)
+        self.assertLessEqual({"guard 0: > 70 CLEAR, by 0", "guard 0: < 10 CLEAR, by 0"},
+                             set(plot.words))
+        self.near(plot.across(), [y for _, y in plot.peaks()])
+        self.assertEqual(plot.arrows(), [])
+
+    def test_a_margin_of_0_has_the_decimals_of_the_direction(self):
+        bounds = [Fraction("0.001"), 24, Fraction("23.999")]
+        words = Plot(direction(bounds, Fraction("0.002"), (24,), factor=1000, unit=("V", 1))).words
+        self.assertLessEqual({"guard 0: > 24 V CLEAR, by 0.000 V", "peak 24.000 V at step 1"},
+                             set(words))
 
     def test_arrows_of_a_tube(self):
         upper = direction([60, 70], levels=(100,))
@@ -903,7 +931,7 @@ class Multiplied(PlotTest):
         self.assertIn("factor 1,000", plot.words)
         self.assertFalse([words for words in plot.words if "spare" in words])
         self.assertIn("peak 24.300 V at step 1", plot.words)
-        self.assertIn("guard 0: ≥ 24 V HIT 1, by 0.298 V", plot.words)
+        self.assertIn("guard 0: > 24 V HIT 1, by 0.298 V", plot.words)
 
     def test_slacks_are_rounded_up(self):
         for factor, counts, slack, expected in (
@@ -930,8 +958,8 @@ class Multiplied(PlotTest):
         plain, sharp = words_of(drawn(text)), words_of(drawn_multiplied(text, 100))
         self.assertIn("high, low: a", plain)
         self.assertIn("high, low: a", sharp)
-        self.assertIn("least: ≤ -7 mV CLEAR, by 1 mV", plain)
-        self.assertIn("least: ≤ -7 mV CLEAR, by 1.01 mV", sharp)
+        self.assertIn("least: < -7 mV CLEAR, by 1 mV", plain)
+        self.assertIn("least: < -7 mV CLEAR, by 1.01 mV", sharp)
 
 
 class Command(FolderTest):
@@ -957,6 +985,10 @@ class Command(FolderTest):
         good = self.folder / "good.listing"
         other = self.write("other.model", TEXT.replace("guard least 1", "guard least -1"))
         longer = self.write("longer.model", TEXT.replace("steps 3", "steps 4"))
+        listing = good.read_text()
+        self.assertIn("\nguard 0 HIT 2\n", listing)
+        older, wrong = (self.write(f"{step}.listing", listing.replace("0 HIT 2", f"0 HIT {step}"))
+                        for step in (1, 3))
         for arguments, message in (
             ((self.folder / "none",), "no such file"),
             ((self.folder,), "is a directory"),
@@ -965,6 +997,10 @@ class Command(FolderTest):
             ((self.folder / "good.model",), "good.model:1: expected 'model N K'"),
             ((good, "--model", other), "says CLEAR of guard 4, whose level -1 makes it HIT 0"),
             ((good, "--model", longer), "is not of this model"),
+            ((wrong, "--model", self.folder / "good.model"),
+             "is not of this model: it says HIT 3 of guard 0, whose level 2 makes it HIT 2"),
+            ((older, "--model", self.folder / "good.model"),
+             "is from before version 0.8.0; make it again: it says HIT 1 of guard 0, whose level"),
             ((good, "--model", good), "good.listing:1: unknown word 'model'"),
         ):
             with self.subTest(message):

@@ -6,12 +6,12 @@ import stat
 import sys
 import unittest
 
-from helpers import TOOLS, FolderTest, run_tool
+from helpers import TOOLS, FolderTest, run_tool, single
 
 import compare
 import exact
 import models
-from layout import FITTED, Model, offsets, states_drift, states_input
+from layout import FITTED, Model, encode, offsets, states_drift, states_input
 from listings import Refusal
 
 
@@ -71,6 +71,18 @@ class Compare(FolderTest):
         self.assertTrue(50 < seen[16] < 120, seen)
         for number, count in seen.items():
             self.assertIn(f" {number}:{count}", counts.summary())
+
+    def test_guards_where_a_verdict_changes_are_counted(self):
+        """The bounds are 0, 1, 2, 2, and without their slacks 0, 1, 1, 1."""
+        counts = compare.Counts()
+        for levels in ((1, 2, 3), (2, 0, -1), ()):
+            model = single(32_768, (0, 0), (0, 1), 1, 3, guards=levels)
+            counts.add(encode(model), exact.listing_of(model))
+        growing = single(131_072, (0, 0), (0, 1), 1, 11, guards=(1, 2))
+        counts.add(encode(growing), exact.listing_of(growing))
+        told = "guards HIT:2 UNKNOWN:1 CLEAR:3 GROWTH:2"
+        told += " at the largest bound:2 at the largest bound - slack:1;"
+        self.assertIn(told, counts.summary())
 
     def test_wrong_output(self):
         number = next(n for n in range(99) if "guard" in exact.listing(models.file_of(4, n)))

@@ -15,7 +15,7 @@ import files
 import listings
 import pack
 from layout import BOX, VERTICES, ZONOTOPE, Set, encode
-from reporting import reports
+from reporting import reports, terminal
 
 
 def source_of(name):
@@ -25,6 +25,12 @@ def source_of(name):
 def listing_of(name):
     data = files.read_bytes(str(examples.FOLDER / f"{name}.listing"))
     return listings.parse(data.decode("ascii"))
+
+
+def report_of(name):
+    """The report of an example, by the exact program's replies."""
+    data = (examples.FOLDER / f"{name}.model").read_bytes()
+    return reports.report_of(reports.Input(name, data, source_of(name)), reply=examples.reply)
 
 
 class Examples(unittest.TestCase):
@@ -55,13 +61,27 @@ class Examples(unittest.TestCase):
     def test_a_text_speaks_of_the_listing_and_of_the_report(self):
         """Three texts say that a guard is UNKNOWN, and what it is in the report."""
         for name, word in (("rail", "CLEAR"), ("head", "HIT"), ("fitted", "HIT")):
-            path = examples.FOLDER / f"{name}.model"
-            self.assertRegex(path.read_text(), rf" edge .*UNKNOWN.*, {word} in the sharper report\n")
-            told = reports.report_of(
-                reports.Input(name, path.read_bytes(), source_of(name)), reply=examples.reply
-            )
-            said = {guard.name: guard.said.word for _, guard in told.guards}
+            text = (examples.FOLDER / f"{name}.model").read_text()
+            self.assertRegex(text, rf" edge .*UNKNOWN.*, {word} in the sharper report\n")
+            said = {guard.name: guard.said.word for _, guard in report_of(name).guards}
             self.assertEqual(said["edge"], word)
+
+    def test_cooling_has_a_level_equal_to_its_largest_bound(self):
+        """It is clear by 0, listed and reported; `examples/README.md` shows the row."""
+        swept, source = listing_of("cooling").directions[0], source_of("cooling")
+        self.assertEqual((source.guards[0], source.model.guards[0]), ("reheats", (0, 3_200)))
+        self.assertEqual((max(swept.bounds), swept.slacks[0]), (3_200, 0))
+        self.assertEqual(listing_of("cooling").guards[0], listings.Verdict("CLEAR"))
+        told = report_of("cooling")
+        margins = {guard.name: one.direction.margin(guard) for one, guard in told.guards}
+        self.assertEqual(margins["reheats"], (0, 0))
+        readme = (examples.FOLDER / "README.md").read_text()
+        (shown,) = (row.strip() for row in readme.splitlines() if row.startswith("    reheats "))
+        self.assertIn(shown, terminal.whole(told).splitlines())
+        self.assertIn("If the limit itself is not allowed, write the level one count lower: "
+                      "`guard element 3199`.", readme)
+        lower = replace(source.model, guards=((0, 3_199),))
+        self.assertEqual(exact.listing_of(lower).guards, (listings.Verdict("HIT", 0),))
 
     def test_accuracy(self):
         for name in self.names:
@@ -74,8 +94,9 @@ class Examples(unittest.TestCase):
 
     def test_what_each_shows(self):
         said = {name: {verdict.word for verdict in listing_of(name).guards} for name in self.names}
-        for name in ("verdicts", "head", "rail", "roller", "fitted"):
+        for name in ("head", "rail", "roller", "fitted"):
             self.assertLessEqual({"HIT", "UNKNOWN", "CLEAR"}, said[name])
+        self.assertEqual(said["verdicts"], {"UNKNOWN", "CLEAR"})
         self.assertEqual(listing_of("runaway").directions[0], listings.Growth(32))
         self.assertIn("GROWTH", said["runaway"])
         unnamed = [name for name in self.names if source_of(name).stated_steps == 0]
@@ -113,7 +134,7 @@ class Examples(unittest.TestCase):
     def test_the_sample_is_the_specifications(self):
         self.assertEqual(len(source_of("verdicts").data), 186)
         expected = "model 1 3/dir 0 spare 10/0 0 0/1 1 0/2 2 1/3 2 1/"
-        expected += "guard 0 HIT 1/guard 1 UNKNOWN 2/guard 2 CLEAR/"
+        expected += "guard 0 UNKNOWN 2/guard 1 CLEAR/guard 2 CLEAR/"
         self.assertEqual(listings.write(listing_of("verdicts")), expected.replace("/", "\n"))
 
     def test_rail_is_unknown_and_clear_by_the_slack(self):

@@ -12,14 +12,15 @@ from fractions import Fraction
 from helpers import BEYOND_BY_HALF, HALVED_ONCE, single
 
 import exact
+import listings
 import models
 import refusal
 from layout import (
-    BODY_LENGTHS, BOX, ENTRY_KINDS, FITTED, GROWTH_LIMIT, MAX_REACH, READ_LIMIT, VERTICES, ZONOTOPE,
-    beyond, encode, entry_places, fitted_rows_of, offsets, pattern, zero_box, states_drift,
-    states_input,
+    BODY_LENGTHS, BOX, ENTRY_KINDS, FITTED, GROWTH_LIMIT, MAX_LEVEL, MAX_REACH, MIN_LEVEL,
+    READ_LIMIT, VERTICES, ZONOTOPE, beyond, encode, entry_places, fitted_rows_of, offsets, pattern,
+    zero_box, states_drift, states_input,
 )
-from listings import Growth, Refusal
+from listings import Growth, Listing, Refusal
 
 SEED, COUNT = 1, 1_500
 
@@ -43,6 +44,15 @@ LATE = "file.require_zeros(_numbers(file.data[file.start + 1 : file.at])[n:])"
 EARLY = ("(kind == 5 or kind & 0xF0 in (0x10, 0x20, 0x30)) and"
          " any(self.data[self.at + 1 + 4 * self.data[1] : self.at + 25])")
 WHOLE = f"self.at + 25 <= len(self.data) and {EARLY}"
+
+ABOVE, HIT_RULE, UNKNOWN_RULE = ("value > level", "reaches(bound - slack, level)",
+                                 "reaches(bound, level)")
+
+
+def signed(value):
+    """The text of a number as 64 bits with a sign hold it."""
+    return f"(({value} + 2**63) % 2**64 - 2**63)"
+
 
 # A wrong answer's name, the text of `exact` that is changed, and what it becomes.
 EDITS = (
@@ -92,8 +102,17 @@ EDITS = (
     ("last_vertex_left_out", LARGEST, f"{LARGEST[:-1]}[:-1] or set_.points)"),
     ("largest_from_zero", LARGEST, f"max(0, {LARGEST})"),
     ("largest_magnitude", LARGEST, "max(abs(dot(vertex, r)) for vertex in set_.points)"),
-    ("hit_above_level", "reaches(bound - slack, level)", "reaches(bound - slack - 1, level)"),
-    ("unknown_above_level", "reaches(bound, level)", "reaches(bound - 1, level)"),
+    ("level_itself_reached", ABOVE, "value >= level"),
+    ("only_hit_above_level", UNKNOWN_RULE, "bound >= level"),
+    ("only_unknown_above_level", HIT_RULE, "bound - slack >= level"),
+    ("hit_two_above_level", HIT_RULE, "reaches(bound - slack - 1, level)"),
+    ("unknown_two_above_level", UNKNOWN_RULE, "reaches(bound - 1, level)"),
+    ("hit_from_bound", HIT_RULE, "reaches(bound, level)"),
+    ("reached_at_the_level_from_0_on", ABOVE, "value > level or value == level >= 0"),
+    ("reached_at_the_level_below_0", ABOVE, "value > level or value == level < 0"),
+    ("lowest_level_wrapped", ABOVE, f"value >= {signed('level - 1')} + 2"),
+    ("highest_level_wrapped", ABOVE, f"value >= {signed('level + 1')}"),
+    ("difference_wrapped", ABOVE, f"{signed('level - value')} < 0"),
     ("body_before_order", "if kind not in allowed:",
      "if self.at + BODY_LENGTHS[kind] >= len(self.data):\n"
      "            raise _Refused(1, self.at)\n"
@@ -351,6 +370,28 @@ class Strength(unittest.TestCase):
                 data = encode(model)
                 self.assertTrue(differs(edited((old, new)), data, exact.listing(data)))
 
+    def test_levels_stand_where_a_verdict_changes(self):
+        """Guards stand at the largest bound and bound - slack, and one count to both sides of each.
+
+        They do so also where the slack makes six different places of these, at those of the peak
+        and of other steps, and at both ends of 64 bits.
+        """
+        seen = collections.Counter()
+        for data, listing in zip(self.files, self.listings):
+            told, model = listings.parse(listing), exact.read_model(data)
+            for number, level in model.guards if isinstance(told, Listing) else ():
+                if not isinstance(told.directions[number], Growth):
+                    seen.update(places_of(level, told.directions[number]))
+        largest, others = ("bound", "low", "low of the peak"), ("bound elsewhere", "low elsewhere")
+        for distance in (-1, 0, 1):
+            for what in itertools.product(largest, (False, True)):
+                self.assertGreater(seen[*what, distance], 40, (what, distance))
+            for what in others:
+                self.assertGreater(seen[what, distance], 100, (what, distance))
+            self.assertGreater(seen["low not of the peak", True, distance], 5, distance)
+        for end in (MIN_LEVEL, MAX_LEVEL):
+            self.assertGreater(seen[end], 40, end)
+
     def test_a_slack_of_t_is_the_same(self):
         """T in place of two halves of it, rounded up: no odd T is a multiple of 1,048,576."""
         program = edited(("2 * half", "dot(e, initial_reach) + entered_errors"))
@@ -521,6 +562,25 @@ class Stream(unittest.TestCase):
             seen.update(halves_of(model))
         for what, share in (("above 0", 0.02), ("below 0", 0.02), ("odd T", 0.3)):
             self.assertGreater(seen[what] / accepted, share, seen)
+
+
+def places_of(level, swept):
+    """How far a level is above each bound and bound - slack, the largest and others, and itself.
+
+    Of the largest, and of those of the peak, also whether their slack tells one count beside them
+    apart.
+    """
+    lows = [bound - slack for bound, slack in zip(swept.bounds, swept.slacks)]
+    peak = swept.bounds.index(max(swept.bounds))
+    apart, apart_there = max(swept.bounds) - max(lows) > 2, swept.slacks[peak] > 2
+    yield "bound", apart, level - max(swept.bounds)
+    yield "low", apart, level - max(lows)
+    yield "low of the peak", apart_there, level - lows[peak]
+    yield "low not of the peak", max(lows) > lows[peak], level - max(lows)
+    for name, values in (("bound", swept.bounds), ("low", lows)):
+        others = {level - value for value in values} - {level - max(values), level - values[peak]}
+        yield from ((f"{name} elsewhere", distance) for distance in others)
+    yield level
 
 
 def sum_passed(data, offset):

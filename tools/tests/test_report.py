@@ -4,8 +4,10 @@ What `./report` prints is tested from outside in `tests/report.py`, and the page
 `tests/page.py`.
 """
 
+import collections
 import csv
 import io
+import itertools
 import json
 import os
 import random
@@ -25,7 +27,8 @@ import listings
 import models
 import pack
 import quantities
-from answers import Direction, Figures
+from answers import Direction, Figures, Guard
+from answers import Written as Values
 from inputs import NOT_RUN, REFUSED, Failed, Input
 from layout import MAX_DIRECTION_ENTRY, MAX_DIRECTIONS, MAX_LEVEL, MIN_LEVEL, encode
 from listings import Growth, Refusal, Sweep, Verdict
@@ -159,16 +162,17 @@ class Reports(unittest.TestCase):
         self.assertEqual(one.direction.bounds, (0, 1, Fraction(3, 2), Fraction(7, 4)))
         self.assertEqual((one.places, one.bound(3), one.slack(3)), (2, Fraction(7, 4), 0))
         said = [(str(guard.said), words.margin(one, guard)) for _, guard in told.guards]
-        self.assertEqual(said, [("HIT 1", "passed by 0.75 counts"), ("CLEAR", "clear by 0.25 counts"),
+        self.assertEqual(said, [("HIT 2", "passed by 0.75 counts"), ("CLEAR", "clear by 0.25 counts"),
                                 ("CLEAR", "clear by 1.25 counts")])
         self.assertEqual(told.status, NOT_CLEAR)
 
     def test_without_a_factor_it_is_the_listing(self):
+        """Bounds 0, 1, 2, 2, and 0, 1, 1, 1 without their slacks: at 1 and at 2 none is above."""
         told = example("verdicts", plain=True)
         (one,) = told.figures
         said = [(str(guard.said), words.margin(one, guard)) for _, guard in told.guards]
-        between = "between 1 short and 0 counts past"
-        self.assertEqual(said, [("HIT 1", "reached"), ("UNKNOWN 2", between),
+        between = "between 0 short and 1 count past"
+        self.assertEqual(said, [("UNKNOWN 2", between), ("CLEAR", "clear by 0 counts"),
                                 ("CLEAR", "clear by 1 count")])
 
     def test_statuses(self):
@@ -178,8 +182,9 @@ class Reports(unittest.TestCase):
             self.assertEqual(report(text("direction d 1", *rows)).status, status)
         grown = report(text("direction d 1", "guard d 900", entry="2", steps=40))
         self.assertEqual((grown.status, grown.guards[0][1].said.word), (NOT_CLEAR, "GROWTH"))
-        unknown = report(text("direction d 1", "guard d 2"), plain=True)
-        self.assertEqual((unknown.status, unknown.guards[0][1].said.word), (NOT_CLEAR, "UNKNOWN"))
+        for level, status, word in ((1, NOT_CLEAR, "UNKNOWN"), (2, ALL_CLEAR, "CLEAR")):
+            told = report(text("direction d 1", f"guard d {level}"), plain=True)
+            self.assertEqual((told.status, told.guards[0][1].said.word), (status, word))
 
     def test_the_worst_status(self):
         for statuses, worst in (
@@ -256,6 +261,88 @@ class Reports(unittest.TestCase):
             self.assertTrue(told.message.startswith(message), told.message)
 
 
+class Border(unittest.TestCase):
+    """A level is reached only above it: at it a guard is clear by 0."""
+
+    def rows(self, content, plain):
+        """What is told of each guard of a text behind its name, and the status."""
+        told = report(content, plain)
+        return {row[0]: row[1:] for row in tables.guards(told).rows}, told.status
+
+    def test_a_bound_equal_to_the_level(self):
+        """From 0 to 8 at the start, and then halved."""
+        guards = "guard d 7 below", "guard d 8 at", "guard d 9 above"
+        for plain in (False, True):
+            found, status = self.rows(text("direction d 1", *guards, upper=8, more=0), plain)
+            self.assertEqual(found, {
+                "below": ["value > 7 counts", "HIT at step 0", "passed by 1 count"],
+                "at": ["value > 8 counts", "CLEAR", "clear by 0 counts"],
+                "above": ["value > 9 counts", "CLEAR", "clear by 1 count"],
+            })
+            self.assertEqual(status, NOT_CLEAR)
+            _, status = self.rows(text("direction d 1", *guards[1:], upper=8, more=0), plain)
+            self.assertEqual(status, ALL_CLEAR)
+
+    def test_a_lowest_value(self):
+        """It is reached below its level. From 7 to 8 at the start; then the lowest is -2."""
+        guards = "guard d 1 above", "guard d 2 at", "guard d 3 below"
+        for plain in (False, True):
+            content = text("direction d -1", *guards, "unit d mV", entry="-0.25", lower=7, upper=8,
+                           more=0, steps=1)
+            found, _ = self.rows(content, plain)
+            self.assertEqual(found, {
+                "above": ["value < -1 mV", "HIT at step 1", "passed by 1 mV"],
+                "at": ["value < -2 mV", "CLEAR", "clear by 0 mV"],
+                "below": ["value < -3 mV", "CLEAR", "clear by 1 mV"],
+            })
+
+    def test_a_bound_minus_its_slack_equal_to_the_level(self):
+        """The bound is 2 and the slack 1 at the last step, where the exact value is 7/4."""
+        found, status = self.rows(text("direction d 1", "guard d 1 low", "guard d 2 high"), True)
+        between = "between 0 short and 1 count past"
+        self.assertEqual(found["low"][1:], ["UNKNOWN at step 2", between])
+        self.assertEqual(found["high"][1:], ["CLEAR", "clear by 0 counts"])
+        self.assertEqual(status, NOT_CLEAR)
+
+    def test_what_is_passed_is_told_above_0(self):
+        """However little it is, beside any slack; and of a clear guard 0 only at its level."""
+        rng = random.Random(73)
+        seen = collections.Counter()
+        for _ in range(2_000):
+            factor, counts = rng.choice((1, 7, 930, 1000)), rng.choice((1, 3, 7, 16, 1000))
+            slack, level = rng.choice((0, 1, 2, 50, 10**6)), rng.randrange(-(10**6), 10**6)
+            bound = factor * level + rng.choice((0, slack)) + rng.choice((-1, 0, 1))
+            swept = Sweep(0, (bound - 5_000, bound), (slack, slack))
+            guard = Guard(0, None, level, exact.verdict(swept, factor * level))
+            one = Figures(Direction(0, "d", (1,), swept, factor, ("V", counts), (guard,)))
+            told = words.margin(one, guard)
+            figures = [Fraction(each.replace(",", "")) for each in re.findall(r"[-\d,.]*\d", told)]
+            word = guard.said.word
+            if word == "CLEAR":
+                self.assertEqual(figures[0] == 0, bound == factor * level, told)
+            else:
+                self.assertGreater(figures[-1], 0, told)
+            self.assertGreaterEqual(min(figures), 0, told)
+            seen[word, min(figures) == 0] += 1
+        sorts = {("HIT", False), *itertools.product(("UNKNOWN", "CLEAR"), (False, True))}
+        self.assertEqual(set(seen), sorts)
+        self.assertGreater(min(seen.values()), 50, seen)
+
+    def test_what_is_passed_as_written_is_told_above_0(self):
+        """Also a part in 10^40 of a count, which no decimal of the direction tells."""
+        for more, step, told in (
+            (1, 1, "passed by 0.1 counts from step 1"), (0, None, "clear by 0.0 counts"),
+            (-1, None, "clear by 0.0 counts"), (10**40, 1, "passed by 1.0 counts from step 1"),
+        ):
+            written = Values(10**40, (0, 8 * 10**40 + more))
+            swept = Sweep(0, (0, 85), (0, 0))
+            guard = Guard(0, None, 8, exact.verdict(swept, 80))
+            one = Figures(Direction(0, "d", (1,), swept, 10, guards=(guard,), written=written))
+            self.assertEqual((one.places, one.reached_as_written(guard)), (1, step))
+            self.assertEqual(words.as_written(one, guard), told)
+            self.assertEqual(one.written_margin(guard) < 0, step is not None)
+
+
 class Written(unittest.TestCase):
     """The matrix as it was written."""
 
@@ -329,8 +416,8 @@ class Written(unittest.TestCase):
         content = text("direction d 1", "guard d 99 a", "guard d 100 b", "guard d 101 c", upper=100,
                        more=0, steps=1).replace("row 0.5", "row ~0.1")
         cells = {row[0]: row[-1] for row in tables.guards(report(content)).rows}
-        self.assertEqual(cells, {"a": "passed by 1.000 counts from step 0", "b": "reached at step 0",
-                                 "c": "clear by 1.000 counts"})
+        self.assertEqual(cells, {"a": "passed by 1.000 counts from step 0",
+                                 "b": "clear by 0.000 counts", "c": "clear by 1.000 counts"})
         told = json.loads(data.as_json([report(content)], 3))["models"][0]["guards"]
         self.assertEqual([guard["margin_as_written"] for guard in told], [-1, 0, 1])
 
@@ -349,21 +436,21 @@ class Texts(unittest.TestCase):
         rows = ["time 1.25 ms", "direction up 1", "direction down -1", "unit up °C 16",
                 "unit down °C 16", "guard up 8 warm", "guard down 1 cold"]
         told = terminal.whole(report(text(*rows, more=16)))
-        for part in ("steps 0 to 3 (3.75 ms): 1 HIT, 1 CLEAR", "value ≥ 0.5 °C",
-                     "HIT at step 1 (1.25 ms)", "value ≤ -0.0625 °C", "value ≤ 1.75 °C",
+        for part in ("steps 0 to 3 (3.75 ms): 1 HIT, 1 CLEAR", "value > 0.5 °C",
+                     "HIT at step 1 (1.25 ms)", "value < -0.0625 °C", "value ≤ 1.75 °C",
                      "value ≥ 0.0000 °C", "3 (3.75 ms)"):
             self.assertIn(part, told)
 
     def test_a_direction_with_a_unit_of_its_own(self):
         """The coordinates are told only where the text says how they make up the unit."""
         for rows, claim, condition in (
-            (["unit value V", "direction d 100", "unit d V 100"], "value ≤ 24 V", "value ≥ 25 V"),
+            (["unit value V", "direction d 100", "unit d V 100"], "value ≤ 24 V", "value > 25 V"),
             (["unit value V 2", "direction d -100", "unit d V 100"], "2 value ≥ 0 V", ""),
-            (["direction d 100", "unit d V 100"], "d ≤ 24 V", "d ≥ 25 V"),
-            (["direction d 1", "unit d V 100"], "value ≤ 0.24 V", "value ≥ 25 V"),
-            (["direction d -100", "unit d V 100"], "d ≤ 0 V", "d ≥ 25 V"),
-            (["unit value V", "direction d 100"], "100 value ≤ 2,400 V", "100 value ≥ 2,500 V"),
-            (["unit value A", "direction d 100", "unit d V 100"], "d ≤ 24 V", "d ≥ 25 V"),
+            (["direction d 100", "unit d V 100"], "d ≤ 24 V", "d > 25 V"),
+            (["direction d 1", "unit d V 100"], "value ≤ 0.24 V", "value > 25 V"),
+            (["direction d -100", "unit d V 100"], "d ≤ 0 V", "d > 25 V"),
+            (["unit value V", "direction d 100"], "100 value ≤ 2,400 V", "100 value > 2,500 V"),
+            (["unit value A", "direction d 100", "unit d V 100"], "d ≤ 24 V", "d > 25 V"),
         ):
             level = 2500
             told = report(text(*rows, f"guard d {level}", upper=24, more=0))
@@ -374,8 +461,8 @@ class Texts(unittest.TestCase):
 
     def test_counts_are_one_or_more(self):
         told = terminal.whole(report(text("direction d 1", "guard d 1", "guard d 2", more=4)))
-        self.assertIn("value ≥ 1 count ", told)
-        self.assertIn("value ≥ 2 counts ", told)
+        self.assertIn("value > 1 count ", told)
+        self.assertIn("value > 2 counts ", told)
 
     def test_a_direction_refused_for_growth(self):
         told = terminal.whole(report(text("direction d 1", "guard d 5", entry="2", steps=40)))
@@ -479,6 +566,7 @@ class Data(unittest.TestCase):
                     yield from keys(part)
 
         self.assertEqual(set(keys(whole)) - names, set())
+        self.assertIn(f"| `pepperscarp-report`, {data.FORMAT_VERSION}, and ", told)
         self.assertEqual({*data.COLUMNS, *data.CHANGE_COLUMNS} - names, set())
 
     def test_lists_of_numbers_stand_in_one_row(self):
@@ -505,7 +593,7 @@ class Against(unittest.TestCase):
         self.assertEqual(direction.bound.difference, Fraction("1.75"))
         told = {change.either[1].name: change for change in found.guards}
         self.assertEqual([str(pair[1].said) for pair in (told["low"].old, told["low"].new)],
-                         ["CLEAR", "HIT 1"])
+                         ["CLEAR", "HIT 2"])
         self.assertEqual(told["high"].margin.difference, Fraction("-1.75"))
         cells = {row[0]: row for row in tables.changed_guards(found).rows}
         self.assertEqual(cells["high"], ["high", "5 V", "CLEAR", "CLEAR", "3.25", "1.50", "-1.75"])
@@ -545,7 +633,7 @@ class Against(unittest.TestCase):
         found = self.compared(text("direction d 1", "guard d 1 a"),
                               text("direction d 1", "guard d 3 a"))
         row = tables.changed_guards(found).rows[0]
-        self.assertEqual(row[:4], ["a", "1 count → 3 counts", "HIT at step 1", "CLEAR"])
+        self.assertEqual(row[:4], ["a", "1 count → 3 counts", "HIT at step 2", "CLEAR"])
         self.assertEqual(row[-1], "+2.00")
         cells = json.loads(data.as_json([found.new, found.old], 0, found))["changes"]["guards"][0]
         self.assertEqual((cells["old_level"], cells["new_level"]), (1, 3))
@@ -579,7 +667,7 @@ class Against(unittest.TestCase):
         for one in (found.old, found.new):
             self.assertEqual(tables.directions(one).rows, tables.directions(found.new).rows)
             self.assertEqual(tables.guards(one).rows, tables.guards(found.new).rows)
-        self.assertIn("value ≥ 25 V", tables.guards(found.old).rows[0])
+        self.assertIn("value > 25 V", tables.guards(found.old).rows[0])
 
     def test_growth_on_one_side(self):
         found = self.compared(text("direction d 1", "guard d 9"),
@@ -638,7 +726,9 @@ class Page(unittest.TestCase):
         shown = " ".join(" ".join(found.texts).split())
         for part in ("Pepperscarp report: some.model", rail.sha256, rail.packed_sha256,
                      "What is proved", "What is tested", "What is assumed", "-21,515.063 mV",
-                     "generator 240 0 240", "passed by 1,284.916 mV", "Warning:"):
+                     "generator 240 0 240", "passed by 1,284.916 mV", "Warning:",
+                     "rail < 22,800 mV", "rail > 24,600 mV", "fades: < 22,800 mV",
+                     "A level is reached only where the value is above it."):
             self.assertIn(part, shown)
         self.assertIn("svg", found.seen)
         self.assertIn("@media print", content)
@@ -650,6 +740,15 @@ class Page(unittest.TestCase):
         self.assertFalse({"b", "i", "u", "s", "script"} & set(found.seen) - {"b"})
         self.assertIn("<script>alert(1)</script>", " ".join(found.texts))
         self.assertIn("<b>&\"'.model", found.texts)
+
+    def test_the_signs_of_levels_are_escaped(self):
+        """In the table, in the chart, and in the row of a model among several."""
+        content = text("direction down -1", "direction up 1", "guard down 2 low", "guard up 3 high")
+        told = page.page([report(content, plain=True), report(content)])
+        for part in ("<td>value &lt; -2 counts</td>", "<td>value &gt; 3 counts</td>",
+                     ">low: &lt; -2 <tspan", ">high: &gt; 3 <tspan", ">high: value &gt; 3 counts<"):
+            self.assertIn(part, told)
+        self.assertIsNone(re.search("(?:value|low:|high:) [<>]", told))
 
     def test_a_packed_file_is_shown_as_a_text(self):
         packed = pack.parse(text("direction d 1")).data

@@ -1,2 +1,3 @@
 pub mod Report
 pub mod FarLevels
+pub mod OneLower

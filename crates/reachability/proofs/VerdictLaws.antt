@@ -7,10 +7,9 @@ use native.Mathlib.Omega.{arith}
 use borrow.Author.Tests.{lt-ltb, le-ltb}
 use lib.Dec.{ltb}
 use lib.IntN.{ℤ, pos, _-ℤ_, _+ℤ_, _*ℤ_}
-use lib.Signed.{leZ}
 use Rattle.integers.specs.Whole.{_⩽_}
-use Rattle.integers.proofs.SignedParts.{v, #, _⊕_, _⊖_, _⊗_, le!, le?}
-use Rattle.integers.proofs.Order.{⩽-trans, ⩽-scale, le-of-ltZ-false, lt-of-ltZ, ⩽-of-leZ, lt-of-leZ-false}
+use Rattle.integers.proofs.SignedParts.{v, #, _⊕_, _⊗_, le!, le?}
+use Rattle.integers.proofs.Order.{⩽-trans, ⩽-scale, le-of-ltZ-false, lt-of-ltZ}
 use Rattle.reachability.specs.Recurrence.{firstPlace}
 use Rattle.reachability.specs.Verdicts.{reaches, hitAt, unknownAt, verdictBelow}
 use Rattle.reachability.specs.declared.verdicts.Judged.the-variants.{Hit, Unknown, Clear}
@@ -59,14 +58,6 @@ reaches-unscale p level x t = told (reaches level x) refl
     told : (s : Bool) → reaches level x ≡ s → s ≡ true
     told true s = refl
     told false f = absurd (omega (arith, le? (# p ⊗ v x) (# p ⊗ v level) (⩽-scale p (reaches-false-le level x f)), le? (# p ⊗ v level ⊕ # 1) (# p ⊗ v x) (reaches-lt (pos p *ℤ level) (pos p *ℤ x) t)))
-
--- Verdicts 5: of whole numbers, those above a level that is one count lower are those at the level or above
-pub reaches-one-lower : (level x : ℤ) → reaches (level -ℤ pos 1) x ≡ leZ level x
-reaches-one-lower level x = told (leZ level x) refl
-  where
-    told : (t : Bool) → leZ level x ≡ t → reaches (level -ℤ pos 1) x ≡ t
-    told true t = reaches-above (level -ℤ pos 1) x (le! (v level ⊖ # 1 ⊕ # 1) (v x) (omega (arith, le? (v level) (v x) (⩽-of-leZ level x t))))
-    told false f = reaches-not (level -ℤ pos 1) x (le! (v x) (v level ⊖ # 1) (omega (arith, le? (v x ⊕ # 1) (v level) (lt-of-leZ-false level x f))))
 
 -- ---- the verdict from the two first steps
 

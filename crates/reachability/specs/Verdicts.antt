@@ -10,7 +10,7 @@ use Rattle.reachability.specs.declared.model.Model.{Model}
 use Rattle.reachability.specs.declared.verdicts.Judged.{Judged}
 use Rattle.reachability.specs.declared.verdicts.Judged.the-variants.{Hit, Unknown, Clear}
 
--- Verdicts 1: v is above the level. No other definition compares with a level.
+-- Verdicts 1: v is above the level. No other definition that a contract rests on compares with a level.
 abbrev pub reaches : ℤ → ℤ → Bool
 reaches level v = ltZ level v
 
