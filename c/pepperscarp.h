@@ -111,8 +111,8 @@ uint64_t pepperscarp_sweep(const uint8_t *file, size_t file_length, size_t direc
  * neither. At the step of an UNKNOWN the exact largest value is no farther from the level than the slack. A guard at INT64_MIN is
  * HIT at step 0, and one at INT64_MAX is CLEAR.
  * Numbers 1 to 10 and 13 to 17: as for the sweep. 12: the file has no such guard.
- * (Before version 0.8.0 a value equal to the level reached it too. A level one count lower in the file keeps the verdicts and steps
- * of those versions; INT64_MIN keeps them as it is.) */
+ * (Before version 0.8.0 a value equal to the level reached it too. A level one count lower in the file, -22801 in place of -22800,
+ * keeps the verdicts and steps of versions 0.4.0 to 0.7.2; INT64_MIN keeps them as it is.) */
 uint64_t pepperscarp_judge(const uint8_t *file, size_t file_length, size_t guard, int64_t *bounds, size_t bounds_length,
                            int64_t *slacks, size_t slacks_length);
 

@@ -26,7 +26,7 @@ import unittest
 from dataclasses import replace
 from fractions import Fraction
 from functools import cached_property
-from typing import Iterator, NamedTuple, Sequence
+from typing import Iterable, Iterator, NamedTuple, Sequence
 
 from claims import FED, STILL, Case, first_at, in_csv, in_json, listed, random_cases
 from clones import EXAMPLES, SAMPLE, TIME_LIMIT, heed_signals, script, until
@@ -39,14 +39,19 @@ from layout import (
 )
 from listings import CLEAR, GROWTH, HIT, UNKNOWN, Growth, Sweep
 
-PACKED_MODELS, TEXTS, SHARES = 20, 25, 30  # random ones
+PACKED_MODELS, TEXTS, SHARES = 20, 25, 40  # random ones
 AS_WRITTEN = "REACHED AS WRITTEN"
-KEEPS = "With the level to keep, the listing has the verdict from before version 0.8.0; see --help.\n"
+# All the ways in which a verdict can change, to a later step or to another word.
+LISTING_WAYS = {(HIT, HIT), (HIT, UNKNOWN), (HIT, CLEAR), (UNKNOWN, UNKNOWN), (UNKNOWN, CLEAR)}
+REPORT_WAYS = LISTING_WAYS | {
+    (HIT, AS_WRITTEN), (UNKNOWN, AS_WRITTEN), (AS_WRITTEN, AS_WRITTEN), (AS_WRITTEN, CLEAR),
+}
+KEEPS = "With the level to keep, the listing has the verdict of versions 0.4.0 to 0.7.2; see --help.\n"
 VERDICTS = (EXAMPLES / "verdicts.model").read_text()
 # From step 1 on x is a share of y, which stays. 65,536 times 0.7 is 45,875.2, so that less is stored.
 SHARE = """coordinates x y
 steps 2
-row 0 ~{part}
+row {back} ~{part}
 row 0 1
 initial box
   lower 0 0
@@ -55,9 +60,13 @@ direction largest 1 0
 """
 
 
-def share(of: int, *levels: int, part: str = "0.7") -> str:
-    """A text with guards, whose largest value as written is 0, and then this part of a number."""
-    return SHARE.format(part=part, of=of) + "".join(f"guard largest {level}\n" for level in levels)
+def share(of: int, *levels: int, part: str = "0.7", back: str = "0") -> str:
+    """A text with guards, whose largest value as written is 0, and then `part` of a number.
+
+    At step 2 `back` of what x was at step 1 is added.
+    """
+    text = SHARE.format(back=back, part=part, of=of)
+    return text + "".join(f"guard largest {level}\n" for level in levels)
 
 
 def setUpModule() -> None:
@@ -98,6 +107,16 @@ class Said(NamedTuple):
         return self.old_listing != self.new_listing, self.old_report != self.new_report
 
 
+def ways(saids: Iterable[Said]) -> tuple[set[tuple[str, str]], set[tuple[str, str]]]:
+    """The ways in which verdicts change in the listing and in the report: the words of before and now."""
+    found: tuple[set[tuple[str, str]], set[tuple[str, str]]] = (set(), set())
+    for said in saids:
+        for pair, seen in zip((said[:2], said[2:]), found):
+            if pair[0] != pair[1]:
+                seen.add(tuple(each.rstrip(" 0123456789") for each in pair))
+    return found
+
+
 class Judged(Case):
     """A model file with what is said of its guards."""
 
@@ -132,7 +151,7 @@ class Judged(Case):
 
     @cached_property
     def changed(self) -> dict[int, Said]:
-        """The guards with another verdict, by number."""
+        """The guards whose verdict changes, by number."""
         said = {guard: self.said(guard) for guard in range(len(self.model.guards))}
         return {guard: each for guard, each in said.items() if any(each.changes)}
 
@@ -144,8 +163,9 @@ class Judged(Case):
             unit, counts = self.unit(number)
             row = {
                 "model": self.name, "guard": self.guard_names[guard], "number": str(guard),
-                "direction": self.source.directions[number], "level": str(level), "unit": unit or "counts",
-                "level_in_unit": shown(Fraction(level, counts)).replace(",", ""), "level_to_keep": str(level - 1),
+                "direction": self.source.directions[number], "unit": unit or "counts",
+                "level": shown(Fraction(level, counts)).replace(",", ""), "level_counts": str(level),
+                "level_counts_to_keep": str(level - 1),
             }
             for name, each in said._asdict().items():
                 row[name], _, row[f"{name}_step"] = re.fullmatch(r"(\D+?)( (\d+))?", each).groups("")
@@ -178,9 +198,9 @@ def shown(value: Fraction) -> str:
 def summary(cases: Sequence[Judged], failed: int = 0) -> str:
     """The last row."""
     guards, changed = sum(len(case.model.guards) for case in cases), sum(len(case.changed) for case in cases)
-    count = f"{changed} of {guards}, in {sum(bool(case.changed) for case in cases)}"
-    told = count if changed else f"none of {guards}, in none"
-    return f"guards with another verdict: {told} of {len(cases)} models" + f"; not checked: {failed}" * bool(failed)
+    count = f"{changed} of {guards}, in {sum(bool(case.changed) for case in cases)} of"
+    told = f"{count if changed else f'none of {guards}, in'} {len(cases)} {'model' if len(cases) == 1 else 'models'}"
+    return f"guards whose verdict changed: {told}" + f"; not checked: {failed}" * bool(failed)
 
 
 def expected(cases: Sequence[Judged], failed: int = 0) -> str:
@@ -223,11 +243,13 @@ def guarded(rng: random.Random, case: Case) -> Judged:
 
 
 def cases_of(seed: int) -> Iterator[Judged]:
-    """Random models, and some whose largest values as written are whole numbers of counts."""
+    """Random models, and some whose largest values as written are about whole numbers of counts."""
     rng = random.Random(seed)
     yield from (guarded(rng, case) for case in random_cases(seed, PACKED_MODELS, TEXTS))
     for number in range(SHARES):
-        text = share(rng.choice((10**3, 10**6)), part=f"0.{rng.randint(1, 999):03}")
+        part = rng.choice((100 * rng.randint(1, 9), rng.randint(1, 999)))
+        text = share(rng.choice((10, 10**3, 10**6)), part=f"0.{part:03}{rng.choice(('', '001'))}",
+                     back=rng.choice(("0", "~0.000001", "~0.0001")))
         yield guarded(rng, Case(f"s{number:03}.model", text.encode()))
 
 
@@ -260,7 +282,7 @@ class Rule(Changed):
             "guard    direction  level  listing was  is         report was  is     level to keep\n"
             "guard 0  largest        1  HIT 1        UNKNOWN 2  HIT 1       HIT 2              0\n"
             "guard 1  largest        2  UNKNOWN 2    CLEAR      CLEAR       CLEAR              1\n"
-            f"\n{KEEPS}guards with another verdict: 2 of 3, in 1 of 1 models\n"
+            f"\n{KEEPS}guards whose verdict changed: 2 of 3, in 1 of 1 model\n"
         )
         case = self.case("verdicts.model", VERDICTS)
         self.assertEqual(re.sub(" +", " ", told), expected([case]))
@@ -271,14 +293,16 @@ class Rule(Changed):
     def test_levels_are_told_in_their_unit_too(self) -> None:
         text = VERDICTS + "unit largest °C 16\ndirection other 2\nguard other 2 two\nguard other 99 far\n"
         case = self.case("m.model", text)
-        self.assertEqual(case.rows()[-1]["level_in_unit"], "2")
+        units = [(row["unit"], row["level"], row["level_counts"]) for row in case.rows()]
+        self.assertEqual(units, [("°C", "0.0625", "1"), ("°C", "0.125", "2"), ("counts", "2", "2")])
+        self.assertEqual(in_csv(self.run_in("--csv", "m.model").stdout), case.rows())
         done = self.run_in("m.model")
         self.assert_rows(done, 3, expected([case]))
         self.assertRegex(done.stdout.decode(), r"\nguard 0  largest        1    0\.0625 °C  HIT 1  ")
         self.assertRegex(done.stdout.decode(), r"\ntwo      other          2               HIT 1  ")
 
     def test_random_models(self) -> None:
-        cases = list(cases_of(9))
+        cases = list(cases_of(31))
         for case in cases:
             self.put(case.name, case.data)
         names = [case.name for case in cases]
@@ -291,11 +315,7 @@ class Rule(Changed):
         changed = [said for case in cases for said in case.changed.values()]
         kinds = collections.Counter(said.changes for said in changed)
         self.assertGreater(min(kinds[kind] for kind in ((True, True), (True, False), (False, True))), 2, kinds)
-        said = [tuple(each.rstrip(" 0123456789") for each in said) for said in changed]
-        for pair in ((HIT, HIT), (HIT, UNKNOWN), (HIT, CLEAR), (UNKNOWN, CLEAR)):
-            self.assertIn(pair, [each[:2] for each in said])
-        for pair in ((HIT, HIT), (HIT, CLEAR), (UNKNOWN, CLEAR), (AS_WRITTEN, CLEAR)):
-            self.assertIn(pair, [each[2:] for each in said])
+        self.assertEqual(ways(changed), (LISTING_WAYS, REPORT_WAYS))
         self.assertGreater(sum(len(case.model.guards) for case in cases) - len(changed), 100)
         # With the level to keep the program itself says what was said before.
         for case in cases:
@@ -303,7 +323,7 @@ class Rule(Changed):
             for row in rows:
                 if row["model"] == case.name:
                     number = int(row["number"])
-                    guards[number] = (guards[number][0], int(row["level_to_keep"]))
+                    guards[number] = (guards[number][0], int(row["level_counts_to_keep"]))
             told = listed(replace(case.model, guards=tuple(guards))).guards
             for guard, said in case.changed.items():
                 self.assertEqual(str(told[guard]), said.old_listing, case.name)
@@ -321,6 +341,27 @@ class Rule(Changed):
             self.put(f"{name}.model", text.format(*more) + "direction d 1\n" + guards)
             told += [[*pair, *pair, str(level - 1)] for level, pair in levels.items() if pair]
         self.assertEqual(self.saids("stays.model", "rises.model", "falls.model"), told)
+        # A part of y, and at step 2 of x too; what is stored may be less than what is written.
+        names, told = [], []
+        for of, level, part, back, *said in (
+            (10, 5, "0.500001", "0", "HIT 1", CLEAR, "HIT 1", f"{AS_WRITTEN} 1"),
+            (10, 7, "0.700001", "0", "UNKNOWN 1", CLEAR, "UNKNOWN 1", f"{AS_WRITTEN} 1"),
+            (10, 7, "0.7", "0", "UNKNOWN 1", CLEAR, "UNKNOWN 1", CLEAR),
+            (10_000, 7_000, "0.7", "0", "UNKNOWN 1", CLEAR, f"{AS_WRITTEN} 1", CLEAR),
+            (10**6, 700_000, "0.7", "~0.000001", CLEAR, CLEAR, f"{AS_WRITTEN} 1", f"{AS_WRITTEN} 2"),
+            (10, 5, "0.49997", "~0.00012", "UNKNOWN 1", "UNKNOWN 2", "UNKNOWN 1", "UNKNOWN 2"),
+            (1_000, 262, "0.26199", "~0.00003", "UNKNOWN 1", "UNKNOWN 2", "HIT 2", "UNKNOWN 2"),
+            (10, 5, "0.5", "0", "HIT 1", CLEAR, "HIT 1", CLEAR),
+            (10, 0, "0.5", "0", "HIT 0", "HIT 1", "HIT 0", "HIT 1"),
+        ):
+            names.append(f"{len(names)}.model")
+            case = self.case(names[-1], share(of, level, part=part, back=back))
+            self.assertEqual(case.said(0), tuple(said), case.data.decode())
+            told.append([*said, str(level - 1)])
+        self.assertEqual(self.saids(*names), told)
+        self.put("verdicts.model", VERDICTS)
+        told += self.saids("verdicts.model")
+        self.assertEqual(ways(Said(*row[:4]) for row in told), (LISTING_WAYS, REPORT_WAYS))
 
     def test_the_ends_of_64_bits(self) -> None:
         # As far from 0 as a value can be, and a factor by which a level is no number of 64 bits.
@@ -331,7 +372,7 @@ class Rule(Changed):
             model = Model(1, 256, ((65_536,),), box, box, ((entry,),), guards)
             cases.append(self.case(f"{entry}{far}.bin", encode(model)))
             self.assertEqual([str(said) for said in listed(model).guards], ["HIT 0", "HIT 0", "CLEAR", "CLEAR"])
-        told = "guards with another verdict: none of 16, in none of 4 models\n"
+        told = "guards whose verdict changed: none of 16, in 4 models\n"
         self.assertEqual(expected(cases), told)
         self.assert_rows(self.run_in("."), 0, told)
 
@@ -340,9 +381,31 @@ class Rule(Changed):
         growing += "guard largest 8\nguard largest 0\n"
         cases = [self.case("growing.model", growing), self.case("none.model", STILL.replace("guard", "# guard"))]
         self.assertEqual(cases[0].said(1), ("GROWTH 11",) * 4)
-        told = "guards with another verdict: none of 3, in none of 2 models\n"
+        told = "guards whose verdict changed: none of 3, in 2 models\n"
         self.assertEqual(expected(cases), told)
         self.assert_rows(self.run_in("growing.model", "none.model"), 0, told)
+        self.assert_rows(self.run_in("none.model"), 0, "guards whose verdict changed: none of 0, in 1 model\n")
+
+    def test_a_lowest_value_has_its_level_to_keep_as_in_the_file(self) -> None:
+        # The rail is never below this; in the file the sign of its level is turned.
+        rail = ("coordinates rail\nsteps 3\nrow 1\ninitial box\nlower {}\nupper 24000\nunit rail mV\n"
+                "direction lowest -1\nguard lowest {} fades\n").format
+        case = self.case("m.model", rail(22_800, -22_800))
+        done = self.run_in("m.model")
+        self.assert_rows(done, 3, expected([case]))
+        row = re.split(" {2,}", done.stdout.decode().splitlines()[2])
+        self.assertEqual(row, ["fades", "lowest", "-22800", "-22,800 mV", "HIT 0", CLEAR, "HIT 0", CLEAR, "-22801"])
+        (row,) = in_csv(self.run_in("--csv", "m.model").stdout)
+        levels = [row[name] for name in ("level", "level_counts", "level_counts_to_keep")]
+        self.assertEqual(levels, ["-22800", "-22800", "-22801"])
+        # The level to keep is HIT as it was; -22799 is CLEAR, also of a rail that reaches -22800 by both rules.
+        for lowest, level, told, said in (
+            (22_800, -22_800, "22,800", CLEAR), (22_800, -22_801, "22,801", "HIT at step 0"),
+            (22_799, -22_800, "22,800", "HIT at step 0"), (22_799, -22_799, "22,799", CLEAR),
+        ):
+            self.put("m.model", rail(lowest, level))
+            report = self.run_in("m.model", command=self.clone / "report").stdout.decode()
+            self.assertRegex(report, rf"\nfades +rail < {told} mV +{said} ")
 
 
 class Sharp(Changed):
@@ -367,8 +430,7 @@ class Sharp(Changed):
 
     def test_a_later_step_as_written_is_another_verdict(self) -> None:
         # What comes back of x is too little to be stored.
-        text = share(1_000_000, 700_000).replace("row 0 ~0.7", "row ~0.000001 ~0.7")
-        case = self.case("share.model", text)
+        case = self.case("share.model", share(1_000_000, 700_000, back="~0.000001"))
         self.assertEqual(case.said(0), (CLEAR, CLEAR, f"{AS_WRITTEN} 1", f"{AS_WRITTEN} 2"))
         self.assertEqual(self.saids("share.model"), [[*case.said(0), "699999"]])
 
@@ -376,18 +438,23 @@ class Sharp(Changed):
         self.put("share.model", share(10_000, 7_000, 6_999))
         self.put("fed.model", FED + "guard largest 1048576\nguard largest 1070000\nguard largest 1048575\n")
         self.put("verdicts.model", VERDICTS)
-        names = ["share.model", "fed.model", "verdicts.model"]
+        self.put("unit.model", VERDICTS + "unit largest °C 3\n")
+        names = ["share.model", "fed.model", "verdicts.model", "unit.model"]
         report = in_json(self.run_in("--json", *names, command=self.clone / "report").stdout)
+        in_report = in_csv(self.run_in("--csv", *names, command=self.clone / "report").stdout)
         rows = in_csv(self.run_in("--csv", *names).stdout)
         self.assertEqual({row["model"] for row in rows}, {*names})
+        self.assertIn(("°C", "1/3"), {(row["unit"], row["level"]) for row in rows})
         for row in rows:
+            same = "model", "guard", "direction", "unit", "level"
+            self.assertIn([row[name] for name in same], [[one[name] for name in same] for one in in_report])
             (model,) = (one for one in report["models"] if one["name"] == row["model"])
             (guard,) = (one for one in model["guards"] if str(one["number"]) == row["number"])
             as_written = guard["verdict"] == CLEAR and guard["reached_as_written"]
             step = guard["reached_as_written_step"] if as_written else guard["step"]
             word = AS_WRITTEN if as_written else guard["verdict"]
             self.assertEqual((row["new_report"], row["new_report_step"]), (word, "" if step is None else str(step)))
-            self.assertEqual(row["level"], str(guard["level_counts"]))
+            self.assertEqual((row["level"], row["level_counts"]), (str(guard["level"]), str(guard["level_counts"])))
 
     def test_a_level_one_count_lower_is_stricter_in_the_report(self) -> None:
         # As its help says: 1.75 is between the levels 1 and 2, of which 2 was CLEAR by both rules.
@@ -458,9 +525,11 @@ class Statuses(Changed):
         heading = self.run_in("--csv", "verdicts.model").stdout.partition(b"\n")[0]
         self.assert_done(self.run_in("--csv", "still.model"), 0, heading + b"\n", b"")
         self.assertEqual(heading.decode().split(","), [
-            "model", "guard", "number", "direction", "level", "unit", "level_in_unit", "old_listing",
+            "model", "guard", "number", "direction", "unit", "level", "level_counts", "old_listing",
             "old_listing_step", "new_listing", "new_listing_step", "old_report", "old_report_step", "new_report",
-            "new_report_step", "level_to_keep"])
+            "new_report_step", "level_counts_to_keep"])
+        told = " ".join(self.run_in("--help").stdout.decode().split())
+        self.assertIn(re.sub(",([^,]*)$", r" and \1.", heading.decode()).replace(",", ", "), told)
 
     def test_a_wrong_command_has_status_2(self) -> None:
         for words in (["--csv"], ["--none", "still.model"], ["still.model", "-o", "out"]):
@@ -486,10 +555,23 @@ class Statuses(Changed):
             self.assertIn("listing was, is" if head in ("listing was", "is") else head, told)
         for part in ("\n  0  if no verdict changes", "\n  3  if a verdict changes", str(MIN_LEVEL)):
             self.assertIn(part, told)
-        for part in ("reached only above its level. Before, it was reached at its level too", "one count lower",
-                     "up to a count stricter", "in the order 2, 1, 3, 0"):
+        for part in ("reached only above its level. Before, it was reached at its level too",
+                     "one count lower in the file", "-22801 in place of -22800", "Do not write -22799",
+                     "up to a count stricter", "on L - 1", "on F x L - 1", "from exact fractions: tested, not proved",
+                     "versions 0.4.0 to 0.7.2", "in the order 2, 1, 3, 0"):
             self.assertIn(part, " ".join(told.split()))
         self.assertLess(max(map(len, told.splitlines())), 101)
+
+    def test_the_help_lists_every_way_a_verdict_can_change(self) -> None:
+        told = self.run_in("--help").stdout.decode().partition("verdict before      verdict now\n")[2]
+        found = set()
+        for row in told.partition("\n\n")[0].splitlines():
+            before, now = re.fullmatch(r"  (\S.*?)  +(\S.*)", row).groups()
+            for word in (HIT, UNKNOWN, CLEAR, AS_WRITTEN):
+                self.assertEqual(f"{word} at a later step" in now, word == before)
+                found |= {(before, word)} if word in now else set()
+            self.assertEqual("./report" in now, AS_WRITTEN in (before, *re.findall(AS_WRITTEN, now)))
+        self.assertEqual(found, REPORT_WAYS)
 
     def test_the_examples_of_help_work(self) -> None:
         (self.clone / "examples").symlink_to(EXAMPLES)

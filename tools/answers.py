@@ -24,7 +24,10 @@ from quantities import exactly, places_for, places_to, rounded_down, rounded_up
 from textform import Source, Unit
 
 # When a level is reached (Verdicts 1): in words, in numbers and as a sign, for reports and charts.
-REACHED_MEANS = "A level is reached only where the value is above it."
+REACHED_MEANS = (
+    "A level is reached only where the value is above it; the level of a lowest value, only where"
+    " the value is below it."
+)
 
 
 def reaches(value: int, level: int) -> bool:

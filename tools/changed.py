@@ -1,39 +1,56 @@
 #!/usr/bin/env python3
-"""Report which guards of models have another verdict since version 0.8.0.
+"""Report which guards of models changed their verdict with version 0.8.0.
 
     ./pepperscarp changed [--csv] MODEL ..
 
 Since version 0.8.0 a guard is reached only above its level. Before, it was reached at its level
 too. A verdict can therefore change only if a bound, a bound minus its slack, or a largest value of
-the matrix as written is equal to the level at some step. HIT may then name a later step or become
-UNKNOWN or CLEAR, and UNKNOWN may name a later step or become CLEAR.
+the matrix as written is equal to the level at some step. These are all the ways:
 
-For each MODEL with such guards the command prints its name and a table of them:
+  verdict before      verdict now
+  HIT                 HIT at a later step, UNKNOWN or CLEAR; in ./report also REACHED AS WRITTEN
+  UNKNOWN             UNKNOWN at a later step or CLEAR; in ./report also REACHED AS WRITTEN
+  REACHED AS WRITTEN  REACHED AS WRITTEN at a later step or CLEAR (./report only)
+
+REACHED AS WRITTEN 4 is what ./report prints as "CLEAR as stored, REACHED as written", with the
+first step at which the level is reached.
+
+For each MODEL in which a verdict changed, the command prints its name and a table of the guards:
 
   guard            the name of the guard, or its number from 0
   direction        the direction that the guard is on
   level            the level in counts, as in the file
   in its unit      the level in the unit of the direction, if the text names one
   listing was, is  the verdict in the listing (./run), by the old rule and by the new one
-  report was, is   the verdict in ./report, which multiplies directions and is sharper. REACHED AS
-                   WRITTEN 4 is what ./report prints as "CLEAR as stored, REACHED as written", with
-                   the first step at which the level is reached
-  level to keep    the level that keeps the old meaning: one count lower
+  report was, is   the verdict in ./report, which multiplies directions and is sharper
+  level to keep    the level in counts that keeps the old meaning: one count lower in the file
 
 Guards whose verdict stays the same are not printed. The last row counts the guards and the models.
---csv prints the same guards as CSV. Levels are then in counts, except level_in_unit.
+--csv prints a row for each of the same guards, with the columns model, guard, number, direction,
+unit, level, level_counts, old_listing, old_listing_step, new_listing, new_listing_step, old_report,
+old_report_step, new_report, new_report_step and level_counts_to_keep. The column level is in the
+unit; the unit is counts if the text names none.
 
 To keep the old meaning, write the level to keep, as in "guard hottest 3199" for a level of 3200.
+The level of a lowest value stands in the file with its sign turned, so one count lower in the file
+is one count higher in ./report: write -22801 in place of -22800, printed as rail < 22,801 mV in
+place of rail < 22,800 mV. Do not write -22799: it is laxer than both rules.
+
 Levels and bounds are whole counts, so the listing then has the same verdict as before, with the
 same step. ./report measures in fractions of a count. There the level to keep is up to a count
 stricter than the old level: a run that comes between the two reaches it. If the level itself is
 permitted in use, leave it as it is. The lowest level, -9223372036854775808, has no level below it;
 its verdict is the same by both rules.
 
-All verdicts come from the proved program envelope: those by the new rule for the model as it is,
-and those by the old rule for the same model with levels one count lower. The program is built first
-if it is missing or older than its sources. Both rules use the bounds of this version. A listing
-from before version 0.4.0 had larger slacks and may differ in more verdicts.
+HIT, UNKNOWN and CLEAR come from the proved program envelope, by both rules. The old verdict of the
+listing on a level L is the program's verdict on L - 1. The old verdict of ./report, which
+multiplies a direction by F, is the program's on F x L - 1. REACHED AS WRITTEN is worked out by this
+tool from exact fractions: tested, not proved. The program is built first if it is missing or older
+than its sources.
+
+Both rules use the bounds of this version, which are those of versions 0.4.0 to 0.7.2. The verdicts
+before are those of these versions; ./report came with 0.7.1. Versions before 0.4.0 had other bounds
+and slacks, and their listings may differ in more verdicts.
 
 A MODEL is a text (python3 tools/pack.py --help shows the form) or a packed file. It may be a pipe,
 and - is standard input. After -- every word is a MODEL. A folder means all texts (*.model) and
@@ -79,11 +96,13 @@ EXAMPLES = """examples:
   ./pepperscarp changed examples
   ./pepperscarp changed --csv examples/verdicts.model"""
 COLUMNS = (
-    "model", "guard", "number", "direction", "level", "unit", "level_in_unit", "old_listing",
+    "model", "guard", "number", "direction", "unit", "level", "level_counts", "old_listing",
     "old_listing_step", "new_listing", "new_listing_step", "old_report", "old_report_step",
-    "new_report", "new_report_step", "level_to_keep",
+    "new_report", "new_report_step", "level_counts_to_keep",
 )
-KEEPS = "With the level to keep, the listing has the verdict from before version 0.8.0; see --help."
+KEEPS = (
+    "With the level to keep, the listing has the verdict of versions 0.4.0 to 0.7.2; see --help."
+)
 
 
 @dataclass(frozen=True)
@@ -134,7 +153,10 @@ def lower(level: int) -> int:
 
 
 def with_lower_levels(model: Model) -> Model:
-    """The model on which the program says now what it said of this one before (Verdicts 5)."""
+    """The model on which the program says now what it said of this one before (Verdicts 5).
+
+    Levels of a multiplied model, F x L, become F x L - 1 (Report 10).
+    """
     guards = tuple((number, lower(level)) for number, level in model.guards)
     return replace(model, guards=guards)
 
@@ -222,10 +244,11 @@ def table(changes: Sequence[Change]) -> Table:
 def summary(results: Sequence[Result]) -> str:
     there = [one for one in results if isinstance(one, Checked)]
     guards, count = sum(one.guards for one in there), sum(len(one.changes) for one in there)
-    models = sum(bool(one.changes) for one in there)
-    told = f"{count} of {guards}, in {models}" if count else f"none of {guards}, in none"
+    models = f"{len(there)} model{'s' if len(there) > 1 else ''}"
+    if count:
+        models = f"{sum(bool(one.changes) for one in there)} of {models}"
     failed = f"; not checked: {len(results) - len(there)}" if len(there) < len(results) else ""
-    return f"guards with another verdict: {told} of {len(there)} models{failed}"
+    return f"guards whose verdict changed: {count or 'none'} of {guards}, in {models}{failed}"
 
 
 def as_text(results: Sequence[Result]) -> str:
@@ -244,10 +267,10 @@ def cells(model: str, change: Change) -> dict[str, object]:
         "guard": guard.label,
         "number": guard.number,
         "direction": one.name,
-        "level": guard.level,
         "unit": one.unit_name,
-        "level_in_unit": data.number(one.level(guard)),
-        "level_to_keep": change.to_keep,
+        "level": data.number(one.level(guard)),
+        "level_counts": guard.level,
+        "level_counts_to_keep": change.to_keep,
     }
     for where in ("listing", "report"):
         verdicts = {when: getattr(each, where) for when, each in said.items()}
@@ -266,7 +289,7 @@ def as_csv(results: Sequence[Result]) -> str:
 
 def options_of(arguments: Sequence[str]) -> argparse.Namespace:
     parser = commands.Parser(f"./pepperscarp {NAME}", __doc__, EXAMPLES)
-    parser.add_argument("--csv", action="store_true", help="CSV: a row for each guard that changes")
+    parser.add_argument("--csv", action="store_true", help="print CSV, a row for each guard")
     return parser.parsed(arguments)
 
 

@@ -444,17 +444,19 @@ def peak_parts(curve: Curve, x: Scale, y: Scale) -> Iterable[str]:
     """The mark of a curve's peak, and an arrow from it to the nearest level.
 
     The arrow is as long as the margin that is told: an UNKNOWN level has none, and one that is HIT
-    only where the slack can't be seen. Nor has a level that is off the scale or at the mark.
+    only where the slack can't be seen. Nor has a level that is off the scale or at the mark. Where
+    a CLEAR level is at the mark, there is no arrow: one to the next level would show more than the
+    smallest margin.
     """
     direction, step = curve.direction, curve.direction.peak
     place = y(curve.bounds[step])
     seen = abs(y(curve.placed(direction.largest_low)) - place) > LEAST_ARROW
     words = (CLEAR,) if seen else (CLEAR, HIT)
-    levels = [curve.level(guard) for guard in direction.guards
-              if curve.figures.word(guard) in words]
-    places = [y(level) for level in levels if y.shows(level)]
-    far = [each for each in places if abs(each - place) >= DIAMOND + LEAST_ARROW]
-    if far:
+    levels = [(curve.level(guard), curve.figures.word(guard)) for guard in direction.guards]
+    shown = [(y(level), word) for level, word in levels if word in words and y.shows(level)]
+    near = {word for each, word in shown if abs(each - place) < DIAMOND + LEAST_ARROW}
+    far = [each for each, _ in shown if abs(each - place) >= DIAMOND + LEAST_ARROW]
+    if far and CLEAR not in near:
         nearest = min(far, key=lambda each: abs(each - place))
         yield from arrow(x(step), place + math.copysign(DIAMOND, nearest - place), nearest)
     yield peak_mark(x(step), place)
@@ -700,11 +702,13 @@ def check_same(listing: Listing, source: pack.Source) -> None:
         swept = listing.directions[direction]
         expected = exact.verdict(swept, level)
         if said != expected:
+            wrong = "is not of this model"
             # Before version 0.8.0: what is said now of the level one count lower (Verdicts 5).
-            older = said == exact.verdict(swept, level - 1)
-            wrong = "from before version 0.8.0; make it again" if older else "not of this model"
+            if said == exact.verdict(swept, level - 1):
+                wrong = ("is from before version 0.8.0, or of levels one count lower,"
+                         " and must be made again")
             raise files.Failure(
-                f"the listing is {wrong}: it says {said} of guard {number}, whose level {level}"
+                f"the listing {wrong}: it says {said} of guard {number}, whose level {level}"
                 f" makes it {expected}"
             )
 

@@ -228,7 +228,8 @@ pub fn sweep(file: &[u8], direction: usize, bounds: &mut [i64], slacks: &mut [i6
 ///
 /// The lists and the refusals are those of [`sweep`]. Entries of fitted rows are rounded first here too, and the verdict is on the
 /// bounds and the runs of the rounded matrix. (Before version 0.8.0 a value equal to the level reached it too. A level one count
-/// lower in the file keeps the verdicts and steps of those versions; [`i64::MIN`] keeps them as it is.)
+/// lower in the file, -22801 in place of -22800, keeps the verdicts and steps of versions 0.4.0 to 0.7.2; [`i64::MIN`] keeps them as it
+/// is.)
 pub fn judge(file: &[u8], guard: usize, bounds: &mut [i64], slacks: &mut [i64]) -> Result<Verdict, Refusal> {
     // SAFETY: as for the sweep.
     let answer = unsafe {

@@ -3,6 +3,8 @@
 What `./pepperscarp changed` prints is tested from outside in `tests/changed.py`.
 """
 
+import csv
+import io
 import random
 import signal
 import unittest
@@ -61,6 +63,14 @@ class Changes(unittest.TestCase):
             (1, changed.Said(unknown, clear), changed.Said(clear, clear), 1),
         ])
 
+    def test_the_level_to_keep_of_a_lowest_value_is_lower_in_the_file(self):
+        model = single(65_536, (22_800, 24_000), (0, 0), -1, 3, (-22_801, -22_800, -22_799))
+        (found,) = checked(model).changes
+        self.assertEqual((found.guard.level, found.to_keep), (-22_800, -22_801))
+        hit, clear = Verdict(HIT, 0), Verdict(CLEAR)
+        self.assertEqual((found.old.listing, found.new.listing), (hit, clear))
+        self.assertEqual(examples.reply(encode(model), "").guards, (hit, clear, clear))
+
     def test_guards_stand_in_the_order_of_the_file(self):
         model = replace(SAMPLE, directions=((1,), (2,)), guards=((1, 2), (0, 1), (1, 3), (0, 2)))
         self.assertEqual([one.guard.number for one in checked(model).changes], [0, 1, 2, 3])
@@ -96,13 +106,14 @@ class Told(unittest.TestCase):
     def test_the_last_row_counts_guards_and_models(self):
         other, still = checked(SAMPLE), checked(self.STILL)
         failed = inputs.not_run("some", "a.bin", "said"), inputs.unread("some", "b", "said")
-        start = "guards with another verdict: "
+        start = "guards whose verdict changed: "
         for results, told in (
-            ((still,), "none of 2, in none of 1 models"),
-            ((still, still, failed[0]), "none of 4, in none of 2 models; not checked: 1"),
-            ((other,), "2 of 3, in 1 of 1 models"),
+            ((still,), "none of 2, in 1 model"),
+            ((still, still, failed[0]), "none of 4, in 2 models; not checked: 1"),
+            ((other,), "2 of 3, in 1 of 1 model"),
+            ((still, other), "2 of 5, in 1 of 2 models"),
             ((still, other, still, other), "4 of 10, in 2 of 4 models"),
-            ((*failed, other), "2 of 3, in 1 of 1 models; not checked: 2"),
+            ((*failed, other), "2 of 3, in 1 of 1 model; not checked: 2"),
         ):
             self.assertEqual(self.rows(*results)[-1], start + told)
         self.assertEqual({one.status for one in failed}, {NOT_RUN})
@@ -120,6 +131,17 @@ class Told(unittest.TestCase):
             self.assertEqual("in its unit" in rows[1], bool(more))
             for row, part in zip(rows[2:4], told):
                 self.assertIn(f"d0             {part}  ", row)
+
+    def test_csv_has_the_level_in_the_unit_and_in_counts(self):
+        text = pack.unpack(encode(SAMPLE))
+        for more, unit, levels in (("", "counts", "12"), ("unit d0 mV\n", "mV", "12"),
+                                   ("unit d0 °C 16\n", "°C", ("0.0625", "0.125")),
+                                   ("unit d0 °C 3\n", "°C", ("1/3", "2/3"))):
+            found = changed.checked(Input("a.model", b"", pack.parse(text + more)), examples.reply)
+            rows = list(csv.DictReader(io.StringIO(changed.as_csv([found]))))
+            names = "unit", "level", "level_counts", "level_counts_to_keep"
+            told = [tuple(row[name] for name in names) for row in rows]
+            self.assertEqual(told, [(unit, levels[0], "1", "0"), (unit, levels[1], "2", "1")])
 
 
 if __name__ == "__main__":

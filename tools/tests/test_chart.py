@@ -845,7 +845,7 @@ class Peaks(PlotTest):
     def test_arrow(self):
         for levels, end in (
             ((100,), 100), ((60,), 60), ((100, 60), 60), ((90, 40), 90), ((130, 40), 40),
-            ((71, 110), 110), ((69, 40), 40),  # nearer ones lie at the mark
+            ((69, 40), 40), ((69, 110), 110),  # a nearer one that is HIT lies at the mark
             ((10**6, 40), 40), ((10**6, 130), 130),  # off the scale
         ):
             with self.subTest(levels):
@@ -878,21 +878,37 @@ class Peaks(PlotTest):
         for slack, *levels in ((0,), (0, 70), (0, 71), (0, 10**6), (20, 40), (60, 40)):
             self.assertEqual(Plot(direction([3, 70, 50], slack, levels)).arrows(), [])
 
+    def test_no_arrow_is_longer_than_the_smallest_margin(self):
+        """One to the next level would be, where a CLEAR level is at the mark."""
+        for slack, *levels in ((0, 71, 110), (0, 110, 71), (0, 71, 40), (20, 71, 110),
+                               (0, 70, 110), (0, 70, 40), (0, 70, 69, 110), (20, 70, 110)):
+            with self.subTest(slack, levels=levels):
+                plot = Plot(direction([3, 70, 50], slack, levels))
+                (peak,) = (y for _, y in plot.peaks())
+                at_mark = [y for y in plot.across() if abs(y - peak) < chart.DIAMOND]
+                self.assertTrue(at_mark)
+                self.assertEqual(plot.arrows(), [])
+        text = (examples.FOLDER / "verdicts.model").read_text(encoding="utf-8")
+        plot = Plot(*multiplied(text, 1)[0])
+        self.assertLessEqual({"guard 1: > 2 CLEAR, by 0", "guard 2: > 3 CLEAR, by 1"},
+                             set(plot.words))
+        self.assertEqual(plot.arrows(), [])
+
     def test_a_level_at_the_peak(self):
         """It is clear by 0: its line goes through the mark of the peak, and it has no arrow."""
-        for slack, levels, ends in ((0, (70,), []), (20, (70,), []), (20, (70, 110), [110])):
+        for slack, levels in ((0, (70,)), (20, (70,)), (20, (70, 110))):
             with self.subTest(slack, levels=levels):
                 plot = Plot(direction([3, 70, 50], slack, levels))
                 self.assertIn("guard 0: > 70 CLEAR, by 0", plot.words)
                 self.near(plot.across()[-1:], [y for _, y in plot.peaks()])
-                self.near([end for _, _, end in plot.arrows()], [plot.y(end) for end in ends])
+                self.assertEqual(plot.arrows(), [])
                 circles = [node.get("r") for node in plot.root.iter(NS + "circle")]
                 self.assertNotIn("5", circles)
-        lower = direction([-10, -20], levels=(-10,), entries=(-1,))
+        lower = direction([-10, -20], levels=(-10, 20), entries=(-1,))
         plot = Plot(direction([60, 70], levels=(70,)), lower)
         self.assertLessEqual({"guard 0: > 70 CLEAR, by 0", "guard 0: < 10 CLEAR, by 0"},
                              set(plot.words))
-        self.near(plot.across(), [y for _, y in plot.peaks()])
+        self.near(plot.across(), [*(y for _, y in plot.peaks()), plot.y(-20)])
         self.assertEqual(plot.arrows(), [])
 
     def test_a_margin_of_0_has_the_decimals_of_the_direction(self):
@@ -989,6 +1005,9 @@ class Command(FolderTest):
         self.assertIn("\nguard 0 HIT 2\n", listing)
         older, wrong = (self.write(f"{step}.listing", listing.replace("0 HIT 2", f"0 HIT {step}"))
                         for step in (1, 3))
+        raised = self.write("raised.model", TEXT.replace("guard most 2", "guard most 3"))
+        lower = ("is from before version 0.8.0, or of levels one count lower, and must be made"
+                 " again: ")
         for arguments, message in (
             ((self.folder / "none",), "no such file"),
             ((self.folder,), "is a directory"),
@@ -1000,7 +1019,9 @@ class Command(FolderTest):
             ((wrong, "--model", self.folder / "good.model"),
              "is not of this model: it says HIT 3 of guard 0, whose level 2 makes it HIT 2"),
             ((older, "--model", self.folder / "good.model"),
-             "is from before version 0.8.0; make it again: it says HIT 1 of guard 0, whose level"),
+             f"{lower}it says HIT 1 of guard 0, whose level 2 makes it HIT 2"),
+            ((good, "--model", raised),
+             f"{lower}it says HIT 2 of guard 0, whose level 3 makes it UNKNOWN 3"),
             ((good, "--model", good), "good.listing:1: unknown word 'model'"),
         ):
             with self.subTest(message):

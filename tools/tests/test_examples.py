@@ -78,8 +78,11 @@ class Examples(unittest.TestCase):
         readme = (examples.FOLDER / "README.md").read_text()
         (shown,) = (row.strip() for row in readme.splitlines() if row.startswith("    reheats "))
         self.assertIn(shown, terminal.whole(told).splitlines())
-        self.assertIn("If the limit itself is not allowed, write the level one count lower: "
-                      "`guard element 3199`.", readme)
+        self.assertIn(
+            "If the limit itself is not allowed, write the level one count lower: `guard element"
+            " 3199` in place of 3200. The level of a lowest value stands in the file with its sign"
+            " turned: write `guard lowest -22801` in place of -22800", " ".join(readme.split()))
+        self.assertIn((0, -22_800), source_of("rail").model.guards)
         lower = replace(source.model, guards=((0, 3_199),))
         self.assertEqual(exact.listing_of(lower).guards, (listings.Verdict("HIT", 0),))
 

@@ -103,7 +103,9 @@ class Reached(unittest.TestCase):
     def test_a_level_is_reached_only_above_it(self):
         self.assertEqual((answers.reached_sign(turned=False), answers.reached_sign(turned=True)),
                          (">", "<"))
-        self.assertIn("only where the value is above it", answers.REACHED_MEANS)
+        self.assertEqual(
+            answers.REACHED_MEANS, "A level is reached only where the value is above it; the level"
+            " of a lowest value, only where the value is below it.")
         for reaches in (exact.reaches, answers.reaches):
             self.assertEqual([reaches(value, 5) for value in (4, 5, 6)], [False, False, True])
             self.assertEqual([reaches(value, -5) for value in (-6, -5, -4)], [False, False, True])

@@ -27,7 +27,7 @@ import listings
 import models
 import pack
 import quantities
-from answers import Direction, Figures, Guard
+from answers import REACHED_MEANS, Direction, Figures, Guard
 from answers import Written as Values
 from inputs import NOT_RUN, REFUSED, Failed, Input
 from layout import MAX_DIRECTION_ENTRY, MAX_DIRECTIONS, MAX_LEVEL, MIN_LEVEL, encode
@@ -728,7 +728,7 @@ class Page(unittest.TestCase):
                      "What is proved", "What is tested", "What is assumed", "-21,515.063 mV",
                      "generator 240 0 240", "passed by 1,284.916 mV", "Warning:",
                      "rail < 22,800 mV", "rail > 24,600 mV", "fades: < 22,800 mV",
-                     "A level is reached only where the value is above it."):
+                     REACHED_MEANS):
             self.assertIn(part, shown)
         self.assertIn("svg", found.seen)
         self.assertIn("@media print", content)

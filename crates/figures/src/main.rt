@@ -1,4 +1,5 @@
-// Runs the cases of Figures 1 to 12, 16 to 22 and 24 to 27, and some that the specification doesn't list, and writes what comes out.
+// Runs the cases of Figures 1 to 12, 16 to 22, 24 to 27 and 30 to 32, and some that the specification doesn't list, and writes what
+// comes out.
 // Each row of the file `args` is an argument: a case, a heading or a comment, with a note on how they are written. The file
 // `stdout` has what should come out, worked out by hand: the specification tells some of it, and the rest follows from its
 // recurrence. The r and e of walks of ten steps and more are the exact program's.
