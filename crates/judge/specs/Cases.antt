@@ -1,7 +1,8 @@
--- Figures 1 to 12, 16 to 22, 24 to 27 and 30 to 32, the marked cases, as one list, and what it means that they hold. Definitions only. A case is
--- the list of what the specification says in it; a saying sets a figure beside what the contracts of `support`, `reach`, `sweep` and
--- `judge` say is answered or left, or beside the r, e, T or raw slack by which they say it. Sweeps are of direction 0 and judges of
--- guard 0, with K + 1 elements in both lists. Where the specification names no K, it is the last step that has a figure.
+-- Figures 1 to 12, 16 to 22, 24 to 27 and 30 to 32, the marked cases, as one list, and what it means that they hold. Definitions
+-- only. A case is the list of what the specification says in it; a saying sets a figure beside what the contracts of `support`,
+-- `reach`, `sweep` and `judge` say is answered or left, or beside the r, e, T or raw slack by which they say it. Sweeps are of
+-- direction 0 and judges of guard 0, with K + 1 elements in both lists. Where the specification names no K, it is the last step that
+-- has a figure.
 -- In order: stored values; sayings; the sets and models; the cases. Not here: the theorem (`proofs.MarkedCases`). Assumes nothing.
 use mathlib.Core.Path.{_≡_}
 use mathlib.Core.List.{List, [], _∷_, _++_}

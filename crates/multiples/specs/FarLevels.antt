@@ -1,4 +1,5 @@
--- Verdicts 6: the verdict on a level that is far from every bound. Definitions only, for a law; no contract cites them. Assumes nothing.
+-- Verdicts 6: the verdict on a level that is far from every bound. Definitions only, for a law; no contract cites them.
+-- Assumes nothing.
 use mathlib.Core.Path.{_≡_}
 use Prim.Native.Nat.{ℕ}
 use lib.IntN.{ℤ, pos, negℤ, _+ℤ_}
