@@ -1,6 +1,8 @@
 // Code over stored whole numbers that several crates share (Routines 16): magnitudes, tests over every element of an array, and rows
 // and columns of rows of six.
 // No public function has a `requires`.
+#![tactic(auto)]
+
 ghost use Rattle.std.specs.Prelude.{◌≡◌, ◌≤◌, ◌<◌, max, nat_abs};
 ghost use Rattle.integers.specs.Whole.{fraction as fraction_of};
 ghost use Rattle.integers.specs.Sums.{matrix};

@@ -3,6 +3,8 @@
 //
 // No public function has a `requires`: any model, step and slack gets its reply. A model that breaks a rule is refused by 11, as the
 // sweep refuses it, one that is not calm by 26, a step beyond K by 27, and a slack that no step stays within by 28.
+#![tactic(auto)]
+
 mod columns;
 mod limit;
 
@@ -12,7 +14,7 @@ use reachability::model::{Model, accepts};
 use reachability::motion::rows_of;
 
 // What `calm` answers: the model is calm; it is not; 11, it breaks a rule.
-#[derive(Drop)]
+#[derive(Clone, Copy)]
 pub enum Calmness {
     Yes,
     No,
@@ -20,7 +22,7 @@ pub enum Calmness {
 }
 
 // What `slack_limit` answers: the limit; 11, the model breaks a rule; 26, it is not calm; 27, it has no such step.
-#[derive(Drop)]
+#[derive(Clone, Copy)]
 pub enum Limited {
     Limit(u64),
     Invalid,
@@ -29,7 +31,7 @@ pub enum Limited {
 }
 
 // What `steps_within` answers: the step; 11, the model breaks a rule; 26, it is not calm; 28, the limit of step 0 is above the slack.
-#[derive(Drop)]
+#[derive(Clone, Copy)]
 pub enum Within {
     Step(usize),
     Invalid,

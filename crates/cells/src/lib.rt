@@ -4,6 +4,8 @@
 //
 // This serves the test program `figures` alone. No function has a `requires`; most promise only that they return, and what they do is
 // held to the program's file `stdout`. No promise could say what is written.
+#![tactic(auto)]
+
 pub mod output;
 
 ghost use Rattle.std.specs.Prelude.{◌≡◌, ◌≤◌, length, take};

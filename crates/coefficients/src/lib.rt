@@ -3,6 +3,8 @@
 // finite or above 2 in magnitude by 15. `rows` has the six of a row.
 //
 // No public function has a `requires`.
+#![tactic(auto)]
+
 pub mod rows;
 
 ghost use Rattle.std.specs.Prelude.{◌≡◌, from_bits, to_bits};
@@ -22,14 +24,14 @@ pub const FITTED_LIMIT: f64 = 2.0;
 const HALVES: f64 = (2 * MATRIX_UNIT) as f64;
 
 // Forms 9. An entry as its row has it: counted in 1 / 65,536, or a binary64 number.
-#[derive(Drop)]
+#[derive(Clone, Copy)]
 pub enum Coefficient {
     Scaled(i32),
     Fitted(f64),
 }
 
 // The stored entry, or the number that a row with this entry is refused by: 5 where it is scaled, 15 where it is fitted.
-#[derive(Drop)]
+#[derive(Clone, Copy)]
 pub enum EntryAnswer {
     Entry(i32),
     Refused(u8),

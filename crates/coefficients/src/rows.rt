@@ -7,14 +7,14 @@ ghost use Rattle.coefficients.specs.Rows.{answer_at, entries_of, mixed_row, scal
 use crate::{Coefficient, EntryAnswer, entry_of};
 
 // The number that a row is refused by, 0 where it is not, and its six stored entries: zero for one that is refused and beyond n.
-#[derive(Drop)]
+#[derive(Clone, Copy)]
 pub struct RowEntries {
     pub number: u8,
     pub six: [i32; 6],
 }
 
 // Forms 11. A fitted row as its record has it.
-#[derive(Drop)]
+#[derive(Clone, Copy)]
 pub struct FittedRow {
     pub number: usize,
     pub values: [f64; 6],

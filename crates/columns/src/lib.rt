@@ -3,6 +3,8 @@
 // binary64 number is compared: a zero is told by its bits.
 //
 // No public function has a `requires`: any n, offset, layout and bytes get their answer. Bytes beyond the end of a body count as 0.
+#![tactic(auto)]
+
 ghost use Rattle.std.specs.Prelude.{◌≡◌, ◌<◌};
 ghost use Rattle.coefficients.specs.Binary64.{is_zero};
 ghost use Rattle.columns.specs.Columns.{first_byte, entry_at, bits_at, six_at, fitted_at, held_row, column_zero, unused_zero};

@@ -3,6 +3,8 @@
 // At most 2,048 bytes are read (Reading 4): no longer file is accepted, and a longer one has the reply to those bytes. A read
 // that fails counts as the end of the file (Listing 9). The whole text goes out in one write, or in as few as the system allows; where
 // standard output takes nothing more, the program says so on standard error and stops.
+#![tactic(auto)]
+
 ghost use Rattle.std.specs.Prelude.{◌≡◌, length};
 
 use libc::{STDIN_FILENO, STDOUT_FILENO};

@@ -3,6 +3,8 @@
 // Each row of the file `args` is an argument: a case, a heading or a comment, with a note on how they are written. The file
 // `stdout` has what should come out, worked out by hand: the specification tells some of it, and the rest follows from its
 // recurrence. The r and e of walks of ten steps and more are the exact program's.
+#![tactic(auto)]
+
 mod sets;
 mod sweeps;
 mod walks;

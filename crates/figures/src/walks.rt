@@ -31,7 +31,7 @@ pub fn spare(cells: &[i64; 258]) {
 }
 
 // How a walk ends: its last step, the growth sum there, and the largest growth sum of its steps.
-#[derive(Drop)]
+#[derive(Clone, Copy)]
 struct Ending {
     step: usize,
     sum: u64,

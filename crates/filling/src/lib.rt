@@ -2,6 +2,8 @@
 // set, and the input set that was left out.
 //
 // No public function has a `requires`: any model, row and place get their answer.
+#![tactic(auto)]
+
 ghost use Rattle.std.specs.Prelude.{◌≡◌};
 ghost use Rattle.filling.specs.Models.{blank_model, put_row, shape_of, set_of, set_set, input_at};
 

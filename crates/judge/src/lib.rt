@@ -1,6 +1,8 @@
 // The judge of a guard: whether its level can be reached.
 //
 // No public function has a `requires`: any value gets its reply. On a refusal, with its number, lent lists are as they were.
+#![tactic(auto)]
+
 mod places;
 
 ghost use Rattle.judge.specs.Answers.{VerdictAnswers, JudgeLeaves};

@@ -2,6 +2,8 @@
 // a box.
 //
 // No public function has a `requires`.
+#![tactic(auto)]
+
 ghost use Rattle.std.specs.Prelude.{◌≡◌, ◌<◌};
 ghost use Rattle.limits.specs.Limits.{frame_ok, all_zero, directions_ok, guard_ok, guards_ok, value_ok, direction_ok, corners_ordered};
 

@@ -1,6 +1,8 @@
 // The text that the program `envelope` writes for a file, "Listing" of the specification: the listing of its model, or its refusal.
 //
 // No public function has a `requires`.
+#![tactic(auto)]
+
 mod directions;
 mod guards;
 

@@ -2,3 +2,4 @@
 // of the direction itself; of levels far from every bound; of a level that is one count lower; of the slacks of a calm model with
 // multiplied directions.
 // There is no code here: see specs/ and proofs/.
+#![tactic(auto)]

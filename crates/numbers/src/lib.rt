@@ -1,6 +1,8 @@
 // Numbers of several bytes in a slice, least significant byte first (File 2). A byte beyond the slice's end counts as 0.
 //
 // No public function has a `requires`: any bytes and any offset get their answer.
+#![tactic(auto)]
+
 ghost use Rattle.std.specs.Prelude.{◌≡◌, ◌+◌, ◌*◌, ◌^◌, ◌≤◌, ◌<◌, get_or};
 ghost use Rattle.numbers.specs.Numbers.{little_endian, twos_complement, signed_at};
 

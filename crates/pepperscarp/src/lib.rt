@@ -3,6 +3,8 @@
 //
 // An answer of every function but the listing is one number: number + 256 × verdict + 65,536 × figure. The number is the refusal's, 0
 // where nothing is refused. On a refusal the lent memory is as it was.
+#![tactic(auto)]
+
 mod packing;
 
 ghost use Rattle.listing.specs.Listing.{ReplyLeaves};

@@ -2,6 +2,8 @@
 // and the verdicts on a guard.
 //
 // No public function has a `requires`: any value gets its reply. Memory that a caller lends is finished, or exactly as it was.
+#![tactic(auto)]
+
 pub mod entering;
 pub mod model;
 pub mod motion;

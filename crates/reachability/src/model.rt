@@ -8,7 +8,7 @@ use crate::sets::{Set, set_ok};
 
 // Model 1, as stored, in parts: n coordinates, `steps` steps, what moves the state, the drift, the initial set and the input set, and
 // what is asked. Every number that n and the counts leave unused is zero.
-#[derive(Drop)]
+#[derive(Clone, Copy)]
 pub struct Model {
     pub n: usize,
     pub steps: usize,
@@ -21,7 +21,7 @@ pub struct Model {
 
 // Model 4 and 5, as stored: the directions in sixteen rows of six, and the guards, each the number of the direction that it watches and
 // a level.
-#[derive(Drop)]
+#[derive(Clone, Copy)]
 pub struct Questions {
     pub directions: usize,
     pub entries: [i32; 96],

@@ -3,7 +3,7 @@ ghost use Rattle.std.specs.Prelude.{◌≡◌};
 ghost use Rattle.reachability.specs.Motion.{matrix_at, rows_of, with_rows};
 
 // Model 6, as stored: the matrix of every move, in six rows of six.
-#[derive(Drop)]
+#[derive(Clone, Copy)]
 pub struct Motion {
     pub matrix: [i32; 36],
 }

@@ -21,7 +21,7 @@ pub const MOST_POINTS: usize = 16;
 pub const MOST_ZONOTOPE_POINTS: usize = 9;
 
 // How a set's points are to be read: lower and upper corner; centre and generators; vertices.
-#[derive(Drop)]
+#[derive(Clone, Copy)]
 pub enum Shape {
     Box,
     Zonotope,
@@ -29,7 +29,7 @@ pub enum Shape {
 }
 
 // Sets 1, Forms 2. A set: its shape, how many points it has, and sixteen points of six coordinates. What is unused is zero.
-#[derive(Drop)]
+#[derive(Clone, Copy)]
 pub struct Set {
     pub shape: Shape,
     pub count: usize,
@@ -37,14 +37,14 @@ pub struct Set {
 }
 
 // What `support` answers: the value, or number 11.
-#[derive(Drop)]
+#[derive(Clone, Copy)]
 pub enum Supported {
     Value(i64),
     Refused,
 }
 
 // What `reach` answers: number 0 with the reach in each coordinate, or number 11 with zeros.
-#[derive(Drop)]
+#[derive(Clone, Copy)]
 pub struct Reached {
     pub number: u8,
     pub reaches: [i64; 6],

@@ -7,7 +7,7 @@ use crate::model::{Model, accepts};
 
 // What `sweep` answers: the spare figure; 11, the model breaks a rule; 12, it has no such direction; 13, a list has another length
 // than K + 1; 14, growth, and the first step that has it.
-#[derive(Drop)]
+#[derive(Clone, Copy)]
 pub enum Swept {
     Spare(u32),
     Invalid,

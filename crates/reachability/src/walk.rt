@@ -10,7 +10,7 @@ use stepping::rounding::{Rounded, bound_and_slack};
 use stepping::sum_of;
 
 // What a walk has gathered: the supports of what entered at its moves, their error terms, and the largest growth sum of its places.
-#[derive(Drop)]
+#[derive(Clone, Copy)]
 pub(crate) struct Gathered {
     pub(crate) entered: i64,
     pub(crate) errors: u64,

@@ -15,7 +15,7 @@ use records::kinds::{Layout, layout_of};
 use records::places::END;
 
 // What a record comes to: reading goes on at an offset, the file has ended, or it is refused, with the number and its offset.
-#[derive(Drop)]
+#[derive(Clone, Copy)]
 pub enum Outcome {
     Next(usize),
     Ended,
@@ -23,7 +23,7 @@ pub enum Outcome {
 }
 
 // The outcome, and the state behind the record.
-#[derive(Drop)]
+#[derive(Clone, Copy)]
 pub struct Advanced {
     pub outcome: Outcome,
     pub state: State,

@@ -2,6 +2,8 @@
 // 15 to 17, with its offset.
 //
 // No public function has a `requires`.
+#![tactic(auto)]
+
 mod advance;
 mod order;
 mod state;
@@ -19,14 +21,14 @@ use state::State;
 pub const MOST_READ: usize = 2048;
 
 // Whether a file was read, or its number and the offset that it is told at.
-#[derive(Drop)]
+#[derive(Clone, Copy)]
 pub enum Status {
     Read,
     Refused(u8, usize),
 }
 
 // What reading a file gives. Beside a refusal stands a blank model: zero everywhere.
-#[derive(Drop)]
+#[derive(Clone, Copy)]
 pub struct Reading {
     pub status: Status,
     pub model: Model,

@@ -2,7 +2,7 @@
 use reachability::model::Model;
 
 // The place in the order, the number of rows read, and the model so far.
-#[derive(Drop)]
+#[derive(Clone, Copy)]
 pub struct State {
     pub place: u8,
     pub rows: usize,

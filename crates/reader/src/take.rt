@@ -29,7 +29,7 @@ const DRIFT_LIMIT: i32 = REACH_LIMIT as i32;
 const LEAST_DRIFT: i32 = -DRIFT_LIMIT;
 
 // The number of the value test that the record fails, 0 where it passes, and then the state behind the record.
-#[derive(Drop)]
+#[derive(Clone, Copy)]
 pub struct Taken {
     pub number: u8,
     pub state: State,

@@ -1,6 +1,8 @@
 // Reads each file that an argument names and writes what the reader answers: the name, then `refused N at P` with number and
 // offset, or `model n K`. The files are in the folder `data`, and the file `stdout` has what should come out; both are made by
 // tools/readerfiles.py.
+#![tactic(auto)]
+
 use libc::STDOUT_FILENO;
 use reader::{Reading, Status};
 

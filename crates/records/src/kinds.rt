@@ -8,7 +8,7 @@ use crate::kinds::Point::{Centre, Generator, Lower, NoPoint, Upper, Vertex};
 use crate::places::{DIRECTIONS, DRIFT, END, GUARDS, INITIAL, INPUT, MATRIX, ROWS, START};
 
 // A part of a model, as the table of File 3 has them.
-#[derive(Drop)]
+#[derive(Clone, Copy)]
 pub enum Part {
     Head,
     Row,
@@ -21,7 +21,7 @@ pub enum Part {
 }
 
 // What a point of a set is. A record of another part is none.
-#[derive(Drop)]
+#[derive(Clone, Copy)]
 pub enum Point {
     NoPoint,
     Lower,
@@ -33,7 +33,7 @@ pub enum Point {
 
 // What a kind is: the part it belongs to, which point it is, the length of its body in bytes, the offset of its six entries in the
 // body and the bytes of each of them (0 where it has none), the most records of its part, and the place behind it.
-#[derive(Drop)]
+#[derive(Clone, Copy)]
 pub struct Layout {
     pub part: Part,
     pub point: Point,
@@ -54,7 +54,7 @@ const MOST: u8 = 16;
 const ZONOTOPE: u8 = 9;
 
 // A kind, and what it is: the fields of `Layout` in their order.
-#[derive(Drop)]
+#[derive(Clone, Copy)]
 struct Entry(u8, Part, Point, u8, u8, u8, u8, u8);
 
 // The number of kinds.

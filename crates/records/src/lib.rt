@@ -3,6 +3,8 @@
 //
 // No public function has a `requires`: any bytes, any offset, any kind gets its answer. How many records a part has so far, and what a
 // body may hold, is the reader's.
+#![tactic(auto)]
+
 pub mod kinds;
 pub mod order;
 pub mod places;

@@ -6,7 +6,7 @@ ghost use Rattle.records.specs.Inner.{OrderTable};
 use crate::places::{DIRECTIONS, DRIFT, GUARDS, INITIAL, INPUT, MATRIX, ROWS, START};
 
 // A place, and a kind that may stand there.
-#[derive(Drop)]
+#[derive(Clone, Copy)]
 struct Pair(u8, u8);
 
 // The number of pairs.

@@ -43,7 +43,7 @@ pub(crate) fn error_sum(matrix: &[i32; 36], e: &[i64; 6], i: usize) -> u64
 }
 
 // The next r and e of a column, and their sum in half units.
-#[derive(Drop)]
+#[derive(Clone, Copy)]
 struct Column {
     r: i64,
     e: i64,

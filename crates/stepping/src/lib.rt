@@ -3,6 +3,8 @@
 //
 // No public function has a `requires`. A working direction is six numbers r in units of 1/1,048,576 with six errors e in half units.
 // What lies beyond the n coordinates is zero. A refusal is number 11, and leaves r and e as they were.
+#![tactic(auto)]
+
 mod column;
 mod refusals;
 pub mod rounding;
@@ -33,14 +35,14 @@ const UNIT_I64: i64 = DIRECTION_UNIT as i64;
 pub const GROWTH_LIMIT: u64 = 1073741824;
 
 // What a step or a growth sum answers: the growth sum, or number 11.
-#[derive(Drop)]
+#[derive(Clone, Copy)]
 pub enum Stepped {
     Sum(u64),
     Refused,
 }
 
 // What `spare_bits` answers: the spare figure, or number 11.
-#[derive(Drop)]
+#[derive(Clone, Copy)]
 pub enum Spare {
     Bits(u32),
     NoSpare,

@@ -6,7 +6,7 @@ use crate::DIRECTION_UNIT;
 const UNIT_U64: u64 = DIRECTION_UNIT as u64;
 
 // A bound and its slack.
-#[derive(Drop)]
+#[derive(Clone, Copy)]
 pub struct Rounded {
     pub bound: i64,
     pub slack: i64,

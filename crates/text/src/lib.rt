@@ -2,6 +2,8 @@
 // there might be too few bytes from `at` on, it writes nothing and answers `at`.
 //
 // No public function has a `requires`.
+#![tactic(auto)]
+
 ghost use Rattle.std.specs.Prelude.{◌≡◌, ◌+◌, length};
 ghost use Rattle.text.specs.Text.{decimal, signed_decimal, line};
 ghost use Rattle.text.specs.Put.{Puts, ToldFull};

@@ -1,6 +1,8 @@
 // The writer of model files, "Writing" of the specification: one file for each model. Refusals: 11 and 22.
 //
 // No public function has a `requires`.
+#![tactic(auto)]
+
 mod encoding;
 mod parts;
 
@@ -14,7 +16,7 @@ use reader::{Status, read};
 pub const LONGEST: usize = 1546;
 
 // How many bytes were written, or why none were: the model is not accepted (11), or the file needs more bytes than were lent (22).
-#[derive(Drop)]
+#[derive(Clone, Copy)]
 pub enum Written {
     Length(usize),
     Invalid,
@@ -38,7 +40,7 @@ pub fn write(model: Model, out: &mut [u8]) -> Written
 
 // How many bytes of the model's file were written, or why none were: the number and the offset of a refused file, or that the file needs
 // more bytes than were lent (22).
-#[derive(Drop)]
+#[derive(Clone, Copy)]
 pub enum Rewritten {
     Length(usize),
     Refused(u8, usize),

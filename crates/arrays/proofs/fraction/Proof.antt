@@ -1,5 +1,5 @@
 -- `arrays::fraction` meets its contract: a signed remainder is 0 where that of the magnitude is. Assumes nothing.
-use Rattle.integers.proofs.Basics.{◌≡◌, refl, sym, ap, ap₂, subst, ◌∙◌, Bool, ℕ, suc, ◌≤◌, arith, needs, ℤ, pos, negsuc, nat_abs, w64, SFits, to_z, of_z, to_z-of_z}
+use Rattle.integers.proofs.Basics.{◌≡◌, refl, sym, ap, ap₂, subst, ◌∙◌, Bool, ℕ, suc, ◌≤◌, arith, rules, ℤ, pos, negsuc, nat_abs, w64, SFits, to_z, of_z, to_z-of_z}
 use mathlib.Core.Bool.{cond}
 use Prim.Native.Nat.{zero, ◌%◌, ◌/◌, zero-le}
 use native.Mathlib.Nat.{mod-zero, div-le_self, le_of_suc-le-suc, lt_of_le_of_lt}
@@ -27,49 +27,49 @@ quot-small (negsuc a) u = below (suc a / u) (div-le_self (suc a) u)
     below (suc q) h = le_of_suc-le-suc h
 
 -- by 0
-module _ (c : tie.Then1) where
-  by_zero : nat_abs c.before.args.x % c.before.args.unit ≡ nat_abs c.before.args.x
-  by_zero = ap (λ (k : ℕ). nat_abs c.before.args.x % k) c.if1.true ∙ mod-zero (nat_abs c.before.args.x)
+module _ (c : tie.Then-unit-eq0) where
+  by_zero : nat_abs c.args.x % c.args.unit ≡ nat_abs c.args.x
+  by_zero = ap (λ (k : ℕ). nat_abs c.args.x % k) c.if-unit-eq0.true ∙ mod-zero (nat_abs c.args.x)
 
-returns : tie.Need-returns
-returns c = sym (ap (λ (t : Bool). cond t 0 1) (eq-eqb _ 0 (by_zero c.before ∙ zero-of-bits w64 c.before.before.ranges.x c.if2.true)))
+returns : tie.Need-returns-then-x-eq0
+returns c = sym (ap (λ (t : Bool). cond t 0 1) (eq-eqb _ 0 (by_zero c.before ∙ zero-of-bits w64 c.ranges.x c.if-x-eq0.true)))
 
-returns-2 : tie.Need-returns-2
-returns-2 c = sym (ap (λ (t : Bool). cond t 0 1) (ne_eqb _ 0 (λ e. c.if2.false (ap (of_z w64) (zero-of-nat_abs c.before.before.args.x (sym (by_zero c.before) ∙ e))))))
+returns-2 : tie.Need-returns-then-unit-eq0
+returns-2 c = sym (ap (λ (t : Bool). cond t 0 1) (ne_eqb _ 0 (λ e. c.if-x-eq0.false (ap (of_z w64) (zero-of-nat_abs c.args.x (sym (by_zero c.before) ∙ e))))))
 
 -- by another unit
-module _ (c : tie.Else1) where
+module _ (c : tie.Else-unit-eq0) where
   abbrev x : ℤ
-  x = c.before.args.x
+  x = c.args.x
 
   abbrev u : ℕ
-  u = c.before.args.unit
+  u = c.args.unit
 
   read-unit : to_z w64 u ≡ pos u
-  read-unit = to_z_pos w64 (omega (arith, c.before.ranges.unit.fits))
+  read-unit = to_z_pos w64 (omega (arith, c.ranges.unit.fits))
 
   rem_is : rem_z (to_z w64 (of_z w64 x)) (to_z w64 u) ≡ rem_z x (pos u)
-  rem_is = ap₂ rem_z (to_z-of_z c.before.ranges.x) read-unit
+  rem_is = ap₂ rem_z (to_z-of_z c.ranges.x) read-unit
 
   rem-fits : SFits w64 (rem_z x (pos u))
-  rem-fits = record { sfits = lt_of_le_of_lt (mag_rem x (pos u)) c.before.ranges.x.sfits }
+  rem-fits = record { sfits = lt_of_le_of_lt (mag_rem x (pos u)) c.ranges.x.sfits }
 
   quot_fits : SFits w64 (quot_z (to_z w64 (of_z w64 x)) (to_z w64 u))
-  quot_fits = subst (SFits w64) (sym (ap₂ quot_z (to_z-of_z c.before.ranges.x) read-unit)) (record { sfits = lt_of_le_of_lt (quot-small x u) c.before.ranges.x.sfits })
+  quot_fits = subst (SFits w64) (sym (ap₂ quot_z (to_z-of_z c.ranges.x) read-unit)) (record { sfits = lt_of_le_of_lt (quot-small x u) c.ranges.x.sfits })
 
-rem-if3 : tie.Need-nonzero-rem-if3
-rem-if3 c = (omega (arith, c.if1.false), quot_fits c)
+rem-if3 : tie.Need-nonzero_rem-x
+rem-if3 c = (omega (arith, c.if-unit-eq0.false), quot_fits c)
 
-returns-3 : tie.Need-returns-3
+returns-3 : tie.Need-returns-then-x-unit-eq0
 returns-3 c =
     let b = c.before in
-    let none = zero-of-bits w64 (rem-fits b) (sym (ap (of_z w64) (rem_is b)) ∙ c.if3.true) in
+    let none = zero-of-bits w64 (rem-fits b) (sym (ap (of_z w64) (rem_is b)) ∙ c.if-x-unit-eq0.true) in
     sym (ap (λ (t : Bool). cond t 0 1) (eq-eqb _ 0 (sym (rem-size (x b) (u b)) ∙ none)))
 
-returns-4 : tie.Need-returns-4
+returns-4 : tie.Need-returns-else-x-unit-eq0
 returns-4 c =
     let b = c.before in
-    sym (ap (λ (t : Bool). cond t 0 1) (ne_eqb _ 0 (λ e. c.if3.false (ap (of_z w64) (rem_is b ∙ zero-of-nat_abs _ (rem-size (x b) (u b) ∙ e))))))
+    sym (ap (λ (t : Bool). cond t 0 1) (ne_eqb _ 0 (λ e. c.if-x-unit-eq0.false (ap (of_z w64) (rem_is b ∙ zero-of-nat_abs _ (rem-size (x b) (u b) ∙ e))))))
 
 pub fraction_spec : {M : Type 1} → statement M
-fraction_spec = tie.close (tie.spec returns returns-2 (λ c. search needs) rem-if3 returns-3 returns-4)
+fraction_spec = tie.close (tie.spec returns returns-2 (λ c. search rules) rem-if3 returns-3 returns-4)

@@ -7,45 +7,45 @@ use Rattle.integers.proofs.Machine.{filled, filled_none, filled_more, filled-all
 use Rattle.arrays.proofs.row.Statement.{statement}
 use Rattle.arrays.proofs.row.Tie as tie
 
-abbrev invariant-loop : tie.invariant-loop
+abbrev invariant-loop : tie.invariant-loop-i
 invariant-loop rows k six₀ i₀ six i = (i ≤ 6) × (six ≡ filled (matrix rows k) i six₀)
 
-abbrev decreases-loop : tie.decreases-loop
+abbrev decreases-loop : tie.decreases-loop-i
 decreases-loop rows k six₀ i₀ six i = 6 - i
 
-loop-holds : tie.Need-loop-init invariant-loop decreases-loop
-loop-holds c = (omega arith, sym (filled_none (matrix c.before.args.rows.now c.before.args.k) _))
+loop-holds : tie.Need-loop-i-init invariant-loop decreases-loop
+loop-holds c = (omega arith, sym (filled_none (matrix c.args.rows.now c.args.k) _))
 
 -- the row is one of the sixteen
-mul-six : tie.Need-overflow-mul-six invariant-loop decreases-loop
-mul-six c = omega (arith, c.before.before.if1.false)
+mul-six : tie.Need-overflow_mul-six invariant-loop decreases-loop
+mul-six c = omega (arith, c.if-k-ge16.false)
 
-add_six : tie.Need-overflow-add-six invariant-loop decreases-loop
-add_six c = omega (arith, c.before.before.if1.false)
+add_six : tie.Need-overflow_add-six invariant-loop decreases-loop
+add_six c = omega (arith, c.if-k-ge16.false)
 
-mul-six-2 : tie.Need-overflow-mul-six-2 invariant-loop decreases-loop
-mul-six-2 c = omega (arith, c.before.before.if1.false)
+mul-six-2 : tie.Need-offset_bounds-rows-k invariant-loop decreases-loop
+mul-six-2 c = omega (arith, c.if-k-ge16.false)
 
-element-copy-out-six : tie.Need-element-copy-out-six invariant-loop decreases-loop
-element-copy-out-six c = omega (arith, c.before.before.if1.false)
+element-copy-out-six : tie.Need-bounds-rows-k invariant-loop decreases-loop
+element-copy-out-six c = omega (arith, c.if-k-ge16.false)
 
-loop-again : tie.Need-loop-preserved invariant-loop decreases-loop
+loop-again : tie.Need-loop-i-preserved invariant-loop decreases-loop
 loop-again c =
     let at-loop = c.before.before in
-    let a = at-loop.before.before.args in
-    let i = at-loop.loop.i in
+    let a = at-loop.args in
+    let i = at-loop.loop-i.i in
     let f = matrix a.rows.now a.k in
-    (omega arith, ap₂ (λ l (z : ℤ). set l i z) at-loop.loop.invariant.1 (read-given w32 (f i) c.six.given) ∙ filled_more f i _ (omega arith))
+    (omega arith, ap₂ (λ l (z : ℤ). set l i z) at-loop.loop-i.invariant.1 (read-given w32 (f i) c.six-1.given) ∙ filled_more f i _ (omega arith))
 
-returns : tie.Need-returns invariant-loop decreases-loop
-returns c = simp (le-ltb c.before.args.k 16 c.if1.true)
+returns : tie.Need-returns-then-k-ge16 invariant-loop decreases-loop
+returns c = simp (le-ltb c.args.k 16 c.if-k-ge16.true)
 
-returns-2 : tie.Need-returns-2 invariant-loop decreases-loop
+returns-2 : tie.Need-returns invariant-loop decreases-loop
 returns-2 c =
-    let a = c.before.before.before.args in
+    let a = c.args in
     let f = matrix a.rows.now a.k in
-    let done : c.before.loop.i ≡ 6 = omega arith in
-    simp (lt-ltb a.k 16 c.before.before.if1.false) (c.before.loop.invariant.1 ∙ ap (λ (j : ℕ). filled f j _) done ∙ filled-all f 6 _ refl)
+    let done : c.loop-i.i ≡ 6 = omega arith in
+    simp (lt-ltb a.k 16 c.if-k-ge16.false) (c.loop-i.invariant.1 ∙ ap (λ (j : ℕ). filled f j _) done ∙ filled-all f 6 _ refl)
 
 pub row_spec : {M : Type 1} → statement M
 row_spec =

@@ -33,7 +33,7 @@ pub(crate) fn spare_of(sum: u64) -> u32
 
 // What filling the rows gives: how many steps come before the first growth, K + 1 where there is none, and then their largest growth
 // sum.
-#[derive(Drop)]
+#[derive(Clone, Copy)]
 pub(crate) struct Filled {
     pub(crate) steps: usize,
     pub(crate) largest: u64,
