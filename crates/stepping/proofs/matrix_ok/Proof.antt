@@ -1,6 +1,6 @@
 -- `stepping::matrix_ok` meets its contract. At n = 6 and above each place of the six rows is inside; below, place k of the list is
 -- place k % 6 of row k / 6, so that the test row by row is the test of all. Assumes nothing.
-use Rattle.integers.proofs.Basics.{◌≡◌, refl, sym, ap, ap₂, subst, ◌∙◌, Bool, true, false, ℕ, ◌+◌, ◌*◌, ◌<◌, arith, needs, length, ℤ, nat_abs}
+use Rattle.integers.proofs.Basics.{◌≡◌, refl, sym, ap, ap₂, subst, ◌∙◌, Bool, true, false, ℕ, ◌+◌, ◌*◌, ◌<◌, arith, rules, length, ℤ, nat_abs}
 use mathlib.Core.Bool.{cond, ◌&&◌, ◌||◌}
 use mathlib.Core.List.{List}
 use Prim.Native.Nat.{◌/◌, ◌%◌}
@@ -52,27 +52,27 @@ module _ (n : ℕ) (m : List ℤ) (size : length m ≡ 36) where
       cases true e = e ∙ sym (all_below-intro (length m) at (holds e))
       cases false e = e ∙ sym (fails e)
 
--- ---- the needs
+-- ---- the rules
 
-returns : tie.Need-returns
-returns c = simp (sym c.before.all-between.ensures ∙ not-true _ c.if1.true)
+returns : tie.Need-returns-then-not-all_between
+returns c = simp (sym c.all_between.ensures ∙ c.if-not-all_between.true)
 
-returns-2 : tie.Need-returns-2
+returns-2 : tie.Need-returns-then-n-ge-MOST_COORDINATES
 returns-2 c =
-    let a = c.before.before.before.before.args in
-    let entries = sym c.before.before.all-between.ensures ∙ not-false _ c.before.if1.false in
-    let size : length a.matrix.now ≡ 36 = c.before.before.before.all-between-arg.given.0 in
-    let inside = all_below-intro (length a.matrix.now) (λ k. zero_unless a.n a.n k (vector a.matrix.now k)) (λ k h. ap (λ (t : Bool). t || eqb (nat_abs (vector a.matrix.now k)) 0) (ap₂ ◌&&◌ (lt-ltb (k / 6) a.n (omega (arith, c.if2.true, size, h))) (lt-ltb (k % 6) a.n (omega (arith, c.if2.true))))) in
+    let a = c.args in
+    let entries = sym c.all_between.ensures ∙ c.if-not-all_between.false in
+    let size : length a.matrix.now ≡ 36 = c.all_between-arg-1.given in
+    let inside = all_below-intro (length a.matrix.now) (λ k. zero_unless a.n a.n k (vector a.matrix.now k)) (λ k h. ap (λ (t : Bool). t || eqb (nat_abs (vector a.matrix.now k)) 0) (ap₂ ◌&&◌ (lt-ltb (k / 6) a.n (omega (arith, c.if-n-ge-MOST_COORDINATES.true, size, h))) (lt-ltb (k % 6) a.n (omega (arith, c.if-n-ge-MOST_COORDINATES.true))))) in
     sym (ap₂ ◌&&◌ entries inside)
 
-returns-3 : tie.Need-returns-3
+returns-3 : tie.Need-returns
 returns-3 c =
     let b = c.before.before in
-    let a = b.before.before.before.args in
-    let entries = sym b.before.all-between.ensures ∙ not-false _ b.if1.false in
-    let size : length a.matrix.now ≡ 36 = b.before.before.all-between-arg.given.0 in
-    simp entries (c.zero-around.ensures ∙ around-is a.n a.matrix.now size)
+    let a = b.args in
+    let entries = sym b.all_between.ensures ∙ b.if-not-all_between.false in
+    let size : length a.matrix.now ≡ 36 = b.all_between-arg-1.given in
+    simp entries (c.zero_around.ensures ∙ around-is a.n a.matrix.now size)
 
 pub matrix_ok_spec : {M : Type 1} → statement M
 matrix_ok_spec =
-    tie.close (tie.spec (λ c κs. search needs) returns returns-2 (λ c κs. search needs) returns-3)
+    tie.close (tie.spec (λ c κs. search rules) returns returns-2 (λ c κs. search rules) returns-3)

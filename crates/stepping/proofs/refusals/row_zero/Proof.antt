@@ -17,45 +17,45 @@ use Rattle.stepping.proofs.refusals.row_zero.Tie as tie
 abbrev zero_at : ℕ → ℕ → List ℤ → ℕ → Bool
 zero_at p from m k = ltb k from || eqb (nat_abs (matrix_of m p k)) 0
 
-abbrev invariant-loop : tie.invariant-loop
+abbrev invariant-loop : tie.invariant-loop-i
 invariant-loop p from matrix i₀ i = (from ≤ i) × ((k : ℕ) → k < i → zero_at p from matrix k ≡ true)
 
-abbrev decreases-loop : tie.decreases-loop
+abbrev decreases-loop : tie.decreases-loop-i
 decreases-loop p from matrix i₀ i = 6 - i
 
-loop-holds : tie.Need-loop-init invariant-loop decreases-loop
+loop-holds : tie.Need-loop-i-init invariant-loop decreases-loop
 loop-holds c = (le_refl _, λ k h. ap (λ (t : Bool). t || eqb (nat_abs (matrix_of c.args.matrix.now c.args.p k)) 0) (lt-ltb k c.args.from h))
 
-mul-if1 : tie.Need-overflow-mul-if1 invariant-loop decreases-loop
-mul-if1 c = omega (arith, c.before.before.requires)
+mul-if1 : tie.Need-overflow_mul-p invariant-loop decreases-loop
+mul-if1 c = omega (arith, c.requires)
 
-add-if1 : tie.Need-overflow-add-if1 invariant-loop decreases-loop
-add-if1 c = omega (arith, c.before.before.requires)
+add-if1 : tie.Need-overflow_add-p invariant-loop decreases-loop
+add-if1 c = omega (arith, c.requires)
 
-mul-if1-2 : tie.Need-overflow-mul-if1-2 invariant-loop decreases-loop
-mul-if1-2 c = omega (arith, c.before.before.requires)
+mul-if1-2 : tie.Need-offset_bounds-matrix-p invariant-loop decreases-loop
+mul-if1-2 c = omega (arith, c.requires)
 
-element-copy-out-if1 : tie.Need-element-copy-out-if1 invariant-loop decreases-loop
-element-copy-out-if1 c = omega (arith, c.before.before.requires)
+element-copy-out-if1 : tie.Need-bounds-matrix-p invariant-loop decreases-loop
+element-copy-out-if1 c = omega (arith, c.requires)
 
-returns : tie.Need-returns invariant-loop decreases-loop
+returns : tie.Need-returns-then-matrix-p-ne0 invariant-loop decreases-loop
 returns c =
     let at-loop = c.before.before.before in
-    let a = at-loop.before.args in
-    let i = at-loop.loop.i in
-    sym (all_below-fails 6 (zero_at a.p a.from a.matrix.now) i (omega arith) (ap₂ ◌||◌ (le-ltb i a.from at-loop.loop.invariant.0) (eqb-of-bits-nonzero w32 (matrix_of a.matrix.now a.p i) c.if1.true)))
+    let a = at-loop.args in
+    let i = at-loop.loop-i.i in
+    sym (all_below-fails 6 (zero_at a.p a.from a.matrix.now) i (omega arith) (ap₂ ◌||◌ (le-ltb i a.from at-loop.loop-i.invariant.0) (eqb-of-bits-nonzero w32 (matrix_of a.matrix.now a.p i) c.if-matrix-p-ne0.true)))
 
-loop-again : tie.Need-loop-preserved invariant-loop decreases-loop
+loop-again : tie.Need-loop-i-preserved invariant-loop decreases-loop
 loop-again c =
     let at-loop = c.before.before.before in
-    let a = at-loop.before.args in
-    let i = at-loop.loop.i in
-    (omega arith, below_more (λ k. zero_at a.p a.from a.matrix.now k ≡ true) i at-loop.loop.invariant.1 (ap₂ ◌||◌ (le-ltb i a.from at-loop.loop.invariant.0) (eqb-of-bits-zero w32 {z = matrix_of a.matrix.now a.p i} (record { sfits = c.before.if12.given }) c.if1.false)))
+    let a = at-loop.args in
+    let i = at-loop.loop-i.i in
+    (omega arith, below_more (λ k. zero_at a.p a.from a.matrix.now k ≡ true) i at-loop.loop-i.invariant.1 (ap₂ ◌||◌ (le-ltb i a.from at-loop.loop-i.invariant.0) (eqb-of-bits-zero w32 {z = matrix_of a.matrix.now a.p i} (record { sfits = c.t11-1.given }) c.if-matrix-p-ne0.false)))
 
-returns-2 : tie.Need-returns-2 invariant-loop decreases-loop
+returns-2 : tie.Need-returns invariant-loop decreases-loop
 returns-2 c =
-    let a = c.before.before.args in
-    sym (all_below-intro 6 (zero_at a.p a.from a.matrix.now) (λ k h. c.before.loop.invariant.1 k (omega arith)))
+    let a = c.args in
+    sym (all_below-intro 6 (zero_at a.p a.from a.matrix.now) (λ k h. c.loop-i.invariant.1 k (omega arith)))
 
 pub row_zero_spec : {M : Type 1} → statement M
 row_zero_spec =

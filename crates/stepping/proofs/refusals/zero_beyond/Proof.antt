@@ -17,33 +17,33 @@ use Rattle.stepping.proofs.refusals.zero_beyond.Tie as tie
 abbrev zero_at : ℕ → List ℤ → ℕ → Bool
 zero_at n xs k = ltb k n || eqb (magnitudes xs k) 0
 
-abbrev invariant-loop : tie.invariant-loop
+abbrev invariant-loop : tie.invariant-loop-i
 invariant-loop n xs i₀ i = (n ≤ i) × ((k : ℕ) → k < i → zero_at n xs k ≡ true)
 
-abbrev decreases-loop : tie.decreases-loop
+abbrev decreases-loop : tie.decreases-loop-i
 decreases-loop n xs i₀ i = 6 - i
 
-loop-holds : tie.Need-loop-init invariant-loop decreases-loop
+loop-holds : tie.Need-loop-i-init invariant-loop decreases-loop
 loop-holds c = (le_refl _, λ k h. ap (λ (t : Bool). t || eqb (magnitudes c.args.xs.now k) 0) (lt-ltb k c.args.n h))
 
-returns : tie.Need-returns invariant-loop decreases-loop
+returns : tie.Need-returns-then-xs-i-ne0 invariant-loop decreases-loop
 returns c =
     let at-loop = c.before.before.before in
-    let a = at-loop.before.args in
-    let i = at-loop.loop.i in
-    sym (all_below-fails 6 (zero_at a.n a.xs.now) i (omega arith) (ap₂ ◌||◌ (le-ltb i a.n at-loop.loop.invariant.0) (eqb-of-bits-nonzero w64 (get_or a.xs.now i (pos 0)) c.if1.true)))
+    let a = at-loop.args in
+    let i = at-loop.loop-i.i in
+    sym (all_below-fails 6 (zero_at a.n a.xs.now) i (omega arith) (ap₂ ◌||◌ (le-ltb i a.n at-loop.loop-i.invariant.0) (eqb-of-bits-nonzero w64 (get_or a.xs.now i (pos 0)) c.if-xs-i-ne0.true)))
 
-loop-again : tie.Need-loop-preserved invariant-loop decreases-loop
+loop-again : tie.Need-loop-i-preserved invariant-loop decreases-loop
 loop-again c =
     let at-loop = c.before.before.before in
-    let a = at-loop.before.args in
-    let i = at-loop.loop.i in
-    (omega arith, below_more (λ k. zero_at a.n a.xs.now k ≡ true) i at-loop.loop.invariant.1 (ap₂ ◌||◌ (le-ltb i a.n at-loop.loop.invariant.0) (eqb-of-bits-zero w64 {z = get_or a.xs.now i (pos 0)} (record { sfits = c.before.if12.given }) c.if1.false)))
+    let a = at-loop.args in
+    let i = at-loop.loop-i.i in
+    (omega arith, below_more (λ k. zero_at a.n a.xs.now k ≡ true) i at-loop.loop-i.invariant.1 (ap₂ ◌||◌ (le-ltb i a.n at-loop.loop-i.invariant.0) (eqb-of-bits-zero w64 {z = get_or a.xs.now i (pos 0)} (record { sfits = c.t8-1.given }) c.if-xs-i-ne0.false)))
 
-returns-2 : tie.Need-returns-2 invariant-loop decreases-loop
+returns-2 : tie.Need-returns invariant-loop decreases-loop
 returns-2 c =
-    let a = c.before.before.args in
-    sym (all_below-intro 6 (zero_at a.n a.xs.now) (λ k h. c.before.loop.invariant.1 k (omega arith)))
+    let a = c.args in
+    sym (all_below-intro 6 (zero_at a.n a.xs.now) (λ k h. c.loop-i.invariant.1 k (omega arith)))
 
 pub zero_beyond_spec : {M : Type 1} → statement M
 zero_beyond_spec =

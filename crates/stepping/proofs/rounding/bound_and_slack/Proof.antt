@@ -1,6 +1,6 @@
 -- `stepping::rounding::bound_and_slack` meets its contract: a quotient rounded up is the one rounded down, plus 1 where
 -- there is a fraction; a shift rounds down. Nothing wraps, since a quotient is far inside its width. Assumes nothing.
-use Rattle.integers.proofs.Basics.{◌≡◌, refl, sym, ap, ap₂, subst, ◌∙◌, Bool, true, false, ℕ, suc, ◌+◌, ◌≤◌, ◌<◌, arith, needs, ℤ, pos, negsuc, nat_abs, ◌+ℤ◌, w64, SFits, to_z, of_z, to_z-of_z}
+use Rattle.integers.proofs.Basics.{◌≡◌, refl, sym, ap, ap₂, subst, ◌∙◌, Bool, true, false, ℕ, suc, ◌+◌, ◌≤◌, ◌<◌, arith, rules, ℤ, pos, negsuc, nat_abs, ◌+ℤ◌, w64, SFits, to_z, of_z, to_z-of_z}
 use Prim.Native.Nat.{zero, ◌/◌, ◌%◌}
 use mathlib.Core.Bool.{cond}
 use borrow.Author.Tests.{eqb-true, eqb-false}
@@ -44,58 +44,58 @@ round_up s = cases (eqb (s % direction_unit % direction_unit) 0) refl
     cases false e = omega (arith, eqb-false (s % direction_unit % direction_unit) 0 e)
 
 -- the raw bound, rounded up
-module _ (c : tie.After-fraction) where
+module _ (c : tie.After-fraction-part) where
   abbrev raw : ℤ
-  raw = c.before.args.raw
+  raw = c.args.raw
 
-  part-is : c.fraction.result ≡ fraction_of raw direction_unit
-  part-is = c.fraction.ensures ∙ ap (λ (z : ℤ). fraction_of z direction_unit) (to_z-of_z c.before.ranges.raw)
+  part-is : c.fraction-part.result ≡ fraction_of raw direction_unit
+  part-is = c.fraction-part.ensures ∙ ap (λ (z : ℤ). fraction_of z direction_unit) (to_z-of_z c.ranges.raw)
 
-  part_small : c.fraction.result ≤ 1
+  part_small : c.fraction-part.result ≤ 1
   part_small = subst (λ (k : ℕ). k ≤ 1) (sym part-is) (fraction-le-one raw direction_unit)
 
   down-small : nat_abs (shr_z raw direction_unit) ≤ 8796093022208
-  down-small = shr_z-small raw c.before.ranges.raw.sfits
+  down-small = shr_z-small raw c.ranges.raw.sfits
 
   read_down : to_z w64 (of_z w64 (shr_z (to_z w64 (of_z w64 raw)) direction_unit)) ≡ shr_z raw direction_unit
-  read_down = ap (λ (z : ℤ). to_z w64 (of_z w64 (shr_z z direction_unit))) (to_z-of_z c.before.ranges.raw) ∙ to_z-of_z (sfits-of-nat_abs w64 down-small (lit< tt))
+  read_down = ap (λ (z : ℤ). to_z w64 (of_z w64 (shr_z z direction_unit))) (to_z-of_z c.ranges.raw) ∙ to_z-of_z (sfits-of-nat_abs w64 down-small (lit< tt))
 
-  read-part : to_z w64 c.fraction.result ≡ pos c.fraction.result
+  read-part : to_z w64 c.fraction-part.result ≡ pos c.fraction-part.result
   read-part = to_z_pos w64 (omega (arith, part_small))
 
-  sum_is : to_z w64 (of_z w64 (shr_z (to_z w64 (of_z w64 raw)) direction_unit)) +ℤ to_z w64 c.fraction.result ≡ shr_z raw direction_unit +ℤ pos c.fraction.result
+  sum_is : to_z w64 (of_z w64 (shr_z (to_z w64 (of_z w64 raw)) direction_unit)) +ℤ to_z w64 c.fraction-part.result ≡ shr_z raw direction_unit +ℤ pos c.fraction-part.result
   sum_is = ap₂ ◌+ℤ◌ read_down read-part
 
-  sum_fits : SFits w64 (shr_z raw direction_unit +ℤ pos c.fraction.result)
-  sum_fits = sfits-of-nat_abs w64 {b = 8796093022209} (omega (arith, nat_abs-add (shr_z raw direction_unit) (pos c.fraction.result), down-small, part_small)) (lit< tt)
+  sum_fits : SFits w64 (shr_z raw direction_unit +ℤ pos c.fraction-part.result)
+  sum_fits = sfits-of-nat_abs w64 {b = 8796093022209} (omega (arith, nat_abs-add (shr_z raw direction_unit) (pos c.fraction-part.result), down-small, part_small)) (lit< tt)
 
 -- the raw slack, rounded up
-module _ (c : tie.After-fraction2) where
-  abbrev first : tie.After-fraction
+module _ (c : tie.After-fraction-rest) where
+  abbrev first : tie.After-fraction-part
   first = c.before
 
   abbrev slack : ℕ
-  slack = first.before.args.raw-slack
+  slack = first.args.raw_slack
 
-  rest-is : c.fraction2.result ≡ fraction_of (pos (slack % direction_unit)) direction_unit
-  rest-is = c.fraction2.ensures ∙ ap (λ (z : ℤ). fraction_of z direction_unit) (to_z_pos w64 {n = slack % direction_unit} (omega arith))
+  rest-is : c.fraction-rest.result ≡ fraction_of (pos (slack % direction_unit)) direction_unit
+  rest-is = c.fraction-rest.ensures ∙ ap (λ (z : ℤ). fraction_of z direction_unit) (to_z_pos w64 {n = slack % direction_unit} (omega arith))
 
-  up_is : slack / direction_unit + c.fraction2.result ≡ (slack + 1048575) / direction_unit
+  up_is : slack / direction_unit + c.fraction-rest.result ≡ (slack + 1048575) / direction_unit
   up_is = ap (λ (k : ℕ). slack / direction_unit + k) rest-is ∙ round_up slack
 
-add-up : tie.Need-overflow-add-up
+add-up : tie.Need-overflow_add-up
 add-up c = omega (arith, up_is c)
 
-cast-bound : tie.Need-overflow-cast-bound
+cast-bound : tie.Need-overflow_cast-bound
 cast-bound c = record { sfits = omega (arith, part_small (first c)) }
 
-add-bound : tie.Need-overflow-add-bound
+add-bound : tie.Need-overflow_add-bound
 add-bound c = subst (SFits w64) (sym (sum_is (first c))) (sum_fits (first c))
 
-add-slack : tie.Need-overflow-add-slack
+add-slack : tie.Need-overflow_add-slack
 add-slack c = omega (arith, up_is c, part_small (first c))
 
-cast-slack : tie.Need-overflow-cast-slack
+cast-slack : tie.Need-overflow_cast-slack
 cast-slack c = record { sfits = omega (arith, up_is c, part_small (first c)) }
 
 returns : tie.Need-returns
@@ -110,9 +110,9 @@ pub bound_and_slack_spec : {M : Type 1} → statement M
 bound_and_slack_spec =
     tie.close
     (tie.spec
-    (λ c κs. search needs)
-    (λ c. search needs)
-    (λ c κs. search needs)
+    (λ c κs. search rules)
+    (λ c. search rules)
+    (λ c κs. search rules)
     add-up
     cast-bound
     add-bound
