@@ -1,5 +1,5 @@
 -- `reachability::sets::reach` meets its contract. Assumes nothing.
-use Rattle.integers.proofs.Basics.{◌≡◌, sym, ap, ◌∙◌, Bool, true, needs, pos}
+use Rattle.integers.proofs.Basics.{◌≡◌, sym, ap, ◌∙◌, Bool, true, rules, pos}
 use mathlib.Core.Bool.{cond, ◌&&◌}
 use borrow.Author.Tests.{not-true, not-false}
 use Rattle.integers.proofs.Booleans.{and-true}
@@ -10,35 +10,35 @@ use Rattle.reachability.proofs.sets.Facts.{set-facts}
 use Rattle.reachability.proofs.sets.reach.Statement.{statement}
 use Rattle.reachability.proofs.sets.reach.Tie as tie
 
-returns : tie.Need-returns
+returns : tie.Need-returns-then-not-set_ok
 returns c =
-    let a = c.before.before.args in
+    let a = c.args in
     let s = a.set in
-    let failed = sym c.before.set-ok.ensures ∙ not-true _ c.if1.true in
+    let failed = sym c.set_ok.ensures ∙ c.if-not-set_ok.true in
     record {
       number_is = sym (ap (λ (t : Bool). cond t 0 11) failed);
       reaches-are = sym (ap (λ (t : Bool). cond t (tabulate 6 (λ i. pos (reach_of s.shape s.count (points s.points) i))) (tabulate 6 (λ i. pos 0))) failed);
     }
 
-passed : (c : tie.Else1) → dimension_ok c.before.before.args.n && set_ok c.before.before.args.n c.before.before.args.set.shape c.before.before.args.set.count c.before.before.args.set.points ≡ true
-passed c = sym c.before.set-ok.ensures ∙ not-false _ c.if1.false
+passed : (c : tie.Else-not-set_ok) → dimension_ok c.args.n && set_ok c.args.n c.args.set.shape c.args.set.count c.args.set.points ≡ true
+passed c = sym c.set_ok.ensures ∙ c.if-not-set_ok.false
 
-reaches-of-requires : tie.Need-reaches-of-requires
+reaches-of-requires : tie.Need-reaches_of-reaches-requires
 reaches-of-requires c κs =
     let b = c.before.before in
-    let a = b.before.before.args in
+    let a = b.args in
     let s = a.set in
     let facts = set-facts a.n s.shape s.count s.points (and-true (dimension_ok a.n) (set_ok a.n s.shape s.count s.points) (passed b)).1 in
     (facts.counted, facts.reach-small)
 
-returns-2 : tie.Need-returns-2
+returns-2 : tie.Need-returns
 returns-2 c =
     let b = c.before.before.before in
-    let s = b.before.before.args.set in
+    let s = b.args.set in
     record {
       number_is = sym (ap (λ (t : Bool). cond t 0 11) (passed b));
-      reaches-are = c.Reaches-of.ensures ∙ sym (ap (λ (t : Bool). cond t (tabulate 6 (λ i. pos (reach_of s.shape s.count (points s.points) i))) (tabulate 6 (λ i. pos 0))) (passed b));
+      reaches-are = c.reaches_of-reaches.ensures ∙ sym (ap (λ (t : Bool). cond t (tabulate 6 (λ i. pos (reach_of s.shape s.count (points s.points) i))) (tabulate 6 (λ i. pos 0))) (passed b));
     }
 
 pub reach_spec : {M : Type 1} → statement M
-reach_spec = tie.close (tie.spec (λ c κs. search needs) returns reaches-of-requires returns-2)
+reach_spec = tie.close (tie.spec (λ c κs. search rules) returns reaches-of-requires returns-2)

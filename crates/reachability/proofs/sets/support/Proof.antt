@@ -1,6 +1,6 @@
 -- `reachability::sets::support` meets its contract: a set and a direction that pass are within what the inner support asks, and its
 -- sums to six are those to n. Assumes nothing.
-use Rattle.integers.proofs.Basics.{◌≡◌, refl, sym, ap, ◌∙◌, Bool, true, false, ℕ, ℤ, arith, needs, w64}
+use Rattle.integers.proofs.Basics.{◌≡◌, refl, sym, ap, ◌∙◌, Bool, true, false, ℕ, ℤ, arith, rules, w64}
 use mathlib.Core.Bool.{◌&&◌}
 use mathlib.Core.List.{List}
 use borrow.Author.Tests.{not-true, not-false}
@@ -30,52 +30,52 @@ fails false s r e = refl
 settled : (n : ℕ) (s : Set) (r : List ℤ) (a : Supported) → a ≡ support_answer n s r → Supports n s r a
 settled n s r a e = record { answer = e; number = ap support_number e ∙ number-cond support_number (support_ok n s r) (Value (support_of n s.shape s.count (points s.points) (vector r))) Refused }
 
-returns : tie.Need-returns
+returns : tie.Need-returns-then-not-set_ok
 returns c =
-    let a = c.before.before.args in
+    let a = c.args in
     let s = a.set in
     settled a.n s a.r.now Refused
-    (simp (fails (dimension_ok a.n) (set_ok a.n s.shape s.count s.points) (direction_ok a.n a.r.now) (sym (not-true _ c.if1.true) ∙ c.before.set-ok.ensures)))
+    (simp (fails (dimension_ok a.n) (set_ok a.n s.shape s.count s.points) (direction_ok a.n a.r.now) (sym c.if-not-set_ok.true ∙ c.set_ok.ensures)))
 
-passed : (c : tie.Else1) → (dimension_ok c.before.before.args.n ≡ true) × (set_ok c.before.before.args.n c.before.before.args.set.shape c.before.before.args.set.count c.before.before.args.set.points ≡ true)
-passed c = split c.before.before.args.n c.before.before.args.set c.before.set-ok.result c.before.set-ok.ensures (not-false _ c.if1.false)
+passed : (c : tie.Else-not-set_ok) → (dimension_ok c.args.n ≡ true) × (set_ok c.args.n c.args.set.shape c.args.set.count c.args.set.points ≡ true)
+passed c = split c.args.n c.args.set c.set_ok.result c.set_ok.ensures c.if-not-set_ok.false
 
-returns-2 : tie.Need-returns-2
+returns-2 : tie.Need-returns-then-not-direction_ok
 returns-2 c =
-    let a = c.before.before.before.before.args in
-    settled a.n a.set a.r.now Refused (simp ((passed c.before.before).0, (passed c.before.before).1, sym c.before.direction-ok.ensures ∙ not-true _ c.if2.true))
+    let a = c.args in
+    settled a.n a.set a.r.now Refused (simp ((passed c.before.before).0, (passed c.before.before).1, sym c.direction_ok.ensures ∙ c.if-not-direction_ok.true))
 
 -- after both tests
-module _ (c : tie.Else2) where
-  facts : SetFacts c.before.before.before.before.args.n c.before.before.before.before.args.set.shape c.before.before.before.before.args.set.count c.before.before.before.before.args.set.points
+module _ (c : tie.Else-not-direction_ok) where
+  facts : SetFacts c.args.n c.args.set.shape c.args.set.count c.args.set.points
   facts =
-      let a = c.before.before.before.before.args in
+      let a = c.args in
       set-facts a.n a.set.shape a.set.count a.set.points (passed c.before.before).1
 
-  direction : direction_ok c.before.before.before.before.args.n c.before.before.before.before.args.r.now ≡ true
-  direction = sym c.before.direction-ok.ensures ∙ not-false _ c.if2.false
+  direction : direction_ok c.args.n c.args.r.now ≡ true
+  direction = sym c.direction_ok.ensures ∙ c.if-not-direction_ok.false
 
-support-of-requires : tie.Need-support-of-requires
+support-of-requires : tie.Need-support_of-requires
 support-of-requires c κs =
     let b = c.before.before in
-    let a = b.before.before.before.before.args in
+    let a = b.args in
     ((facts b).counted, record { coordinates = (facts b).coordinates; values = direction-small a.n a.r.now (direction b) })
 
-returns-3 : tie.Need-returns-3
+returns-3 : tie.Need-returns
 returns-3 c =
     let b = c.before.before.before in
-    let a = b.before.before.before.before.args in
+    let a = b.args in
     let ok = passed b.before.before in
-    let value = read-given w64 c.support-of.result c.support-of.type-inv ∙ c.support-of.ensures ∙ support_of-six a.n (n-range a.n ok.0).1 a.set.count a.set.points (facts b).outside a.set.shape (vector a.r.now) in
+    let value = read-given w64 c.support_of.result c.support_of.type_inv ∙ c.support_of.ensures ∙ support_of-six a.n (n-range a.n ok.0).1 a.set.count a.set.points (facts b).outside a.set.shape (vector a.r.now) in
     settled a.n a.set a.r.now _ (simp (ok.0, ok.1, direction b) (ap Value value))
 
 pub support_spec : {M : Type 1} → statement M
 support_spec =
     tie.close
     (tie.spec
-    (λ c κs. search needs)
+    (λ c κs. search rules)
     returns
-    (λ c κs. search needs)
+    (λ c κs. search rules)
     returns-2
     support-of-requires
     returns-3)

@@ -1,5 +1,5 @@
 -- `reachability::walk::begin` meets its contract: the first working direction, and its growth sum. Assumes nothing.
-use Rattle.integers.proofs.Basics.{refl, ap, ◌∙◌, needs}
+use Rattle.integers.proofs.Basics.{refl, ap, ◌∙◌, rules}
 use Rattle.stepping.specs.Refusals.{sum_of}
 use Rattle.reachability.proofs.walk.begin.Statement.{statement}
 use Rattle.reachability.proofs.walk.begin.Tie as tie
@@ -8,11 +8,11 @@ returns : tie.Need-returns
 returns c =
     let at-growth = c.before in
     record {
-      first = at-growth.before.before.before.first.ensures;
+      first = at-growth.first.ensures;
       entered-is = refl;
       errors-are = refl;
-      largest-is = c.sum_of.ensures ∙ ap sum_of at-growth.growth.ensures.answer;
+      largest-is = c.sum_of-largest.ensures ∙ ap sum_of at-growth.growth.ensures.answer;
     }
 
 pub begin_spec : {M : Type 1} → statement M
-begin_spec = tie.close (tie.spec (λ c κs. search needs) (λ c κs. search needs) (λ c κs. search needs) returns)
+begin_spec = tie.close (tie.spec (λ c κs. search rules) (λ c κs. search rules) (λ c κs. search rules) returns)

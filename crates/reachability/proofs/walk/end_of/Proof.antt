@@ -1,5 +1,5 @@
 -- `reachability::walk::end_of` meets its contract: it is what its parts say, and every sum is inside its width. Assumes nothing.
-use Rattle.integers.proofs.Basics.{◌≡◌, sym, ap, ap₂, subst, ◌∙◌, ℕ, ◌+◌, ◌*◌, ◌≤◌, arith, needs, ℤ, pos, nat_abs, ◌+ℤ◌, w64, SFits, to_z, of_z, to_z-of_z}
+use Rattle.integers.proofs.Basics.{◌≡◌, sym, ap, ap₂, subst, ◌∙◌, ℕ, ◌+◌, ◌*◌, ◌≤◌, arith, rules, ℤ, pos, nat_abs, ◌+ℤ◌, w64, SFits, to_z, of_z, to_z-of_z}
 use mir.Facts.{to_z_pos}
 use Prim.Native.Nat.{◌/◌}
 use lib.Dec.{lit<, lit≤}
@@ -13,7 +13,7 @@ use Rattle.reachability.proofs.walk.end_of.Statement.{statement}
 use Rattle.reachability.proofs.walk.end_of.Tie as tie
 
 -- the support at the end, and what has entered
-module _ (c : tie.After-struct-told) where
+module _ (c : tie.After-struct_told-1) where
   abbrev start : tie.Start
   start = c.before.before.before
 
@@ -24,40 +24,40 @@ module _ (c : tie.After-struct-told) where
   here = term_support start.args.shape start.args.count start.args.points.now start.args.r.now
 
   read-entered : to_z w64 (of_z w64 entered) ≡ entered
-  read-entered = search needs
+  read-entered = search rules
 
-  supports-are : to_z w64 (of_z w64 c.before.before.support-of.result) +ℤ to_z w64 (of_z w64 entered) ≡ here +ℤ entered
-  supports-are = ap₂ ◌+ℤ◌ (read-given w64 c.before.before.support-of.result c.before.before.support-of.type-inv ∙ c.before.before.support-of.ensures) read-entered
+  supports-are : to_z w64 (of_z w64 c.support_of.result) +ℤ to_z w64 (of_z w64 entered) ≡ here +ℤ entered
+  supports-are = ap₂ ◌+ℤ◌ (read-given w64 c.support_of.result c.support_of.type_inv ∙ c.support_of.ensures) read-entered
 
   small : nat_abs here + nat_abs entered ≤ 258 * term_limit
-  small = omega (arith, start.pre.terms.support-small, start.pre.entered-small)
+  small = omega (arith, start.requires.terms.support-small, start.requires.entered-small)
 
   supports-fit : SFits w64 (here +ℤ entered)
   supports-fit = sum_fits here entered small
 
-add-supports : tie.Need-overflow-add-supports
+add-supports : tie.Need-overflow_add-supports
 add-supports c = subst (SFits w64) (sym (supports-are c)) (supports-fit c)
 
 -- all errors, as the call gave them and as they are defined; the raw bound is the supports and half of these, with at most 1 more: that
 -- it is 1 is settled where the bound is
-module _ (c : tie.After-struct-known2) where
-  abbrev at : tie.After-struct-told
+module _ (c : tie.After-struct_known-2-1) where
+  abbrev at : tie.After-struct_told-1
   at = c.before.before
 
   abbrev before : tie.Start
   before = start at
 
   abbrev given : ℕ
-  given = c.before.errors-of.result + before.args.walked.errors
+  given = c.errors_of.result + before.args.walked.errors
 
   given_is : given ≡ term_errors before.args.e.now before.args.reaches.now + before.args.walked.errors
-  given_is = ap (λ (k : ℕ). k + before.args.walked.errors) c.before.errors-of.ensures
+  given_is = ap (λ (k : ℕ). k + before.args.walked.errors) c.errors_of.ensures
 
   given-small : given ≤ 258 * errors_limit
-  given-small = omega (arith, errors-small c.before.errors-of.ensures before.pre.terms.errors, before.pre.errors-small)
+  given-small = omega (arith, errors-small c.errors_of.ensures before.requires.terms.errors, before.requires.errors-small)
 
   abbrev supports : ℤ
-  supports = to_z w64 (of_z w64 (to_z w64 (of_z w64 at.before.before.support-of.result) +ℤ to_z w64 (of_z w64 (entered at))))
+  supports = to_z w64 (of_z w64 (to_z w64 (of_z w64 at.support_of.result) +ℤ to_z w64 (of_z w64 (entered at))))
 
   module _ (more : ℕ) (few : more ≤ 1) where
     abbrev half : ℕ
@@ -73,25 +73,25 @@ module _ (c : tie.After-struct-known2) where
         (omega (arith, nat_abs-add (here at +ℤ entered at) (pos half), nat_abs-add (here at) (entered at), small at, few, given-small))
         (lit< tt))
 
-add_total : tie.Need-overflow-add-total
+add_total : tie.Need-overflow_add-total
 add_total c = omega (arith, given-small c)
 
-add_half : tie.Need-overflow-add-half
+add_half : tie.Need-overflow_add-half
 add_half c = omega (arith, given-small c)
 
-cast-raw : tie.Need-overflow-cast-raw
+cast-raw : tie.Need-overflow_cast-raw
 cast-raw c = record { sfits = omega (arith, given-small c) }
 
-add-raw : tie.Need-overflow-add-raw
+add-raw : tie.Need-overflow_add-raw
 add-raw c = raw-fits c _ (lit≤ tt)
 
-mul-bound-and-slack : tie.Need-overflow-mul-bound-and-slack
+mul-bound-and-slack : tie.Need-overflow_mul-half
 mul-bound-and-slack c = omega (arith, given-small c)
 
 returns : tie.Need-returns
 returns c =
     let a = c.before in
-    let rounded = c.bound-and-slack.ensures in
+    let rounded = c.bound_and_slack.ensures in
     let raw = to_z-of_z (raw-fits a 1 (lit≤ tt)) ∙ raw-is a 1 (lit≤ tt) ∙ ap (λ (t : ℕ). (here (at a) +ℤ entered (at a)) +ℤ pos (half_up t)) (given_is a) in
     record {
       bound-is = rounded.bound-is ∙ ap bound_of raw;
@@ -102,13 +102,13 @@ pub end_of_spec : {M : Type 1} → statement M
 end_of_spec =
     tie.close
     (tie.spec
-    (λ c κs. search needs)
+    (λ c κs. search rules)
     add-supports
-    (λ c κs. search needs)
+    (λ c κs. search rules)
     add_total
     add_half
     cast-raw
     add-raw
     mul-bound-and-slack
-    (λ c κs. search needs)
+    (λ c κs. search rules)
     returns)

@@ -1,6 +1,6 @@
 -- `reachability::sets::reaches::reach_at` meets its contract, shape by shape; a box has two points, and a zonotope's centre is the
 -- first of its points. Assumes nothing.
-use Rattle.integers.proofs.Basics.{◌≡◌, ap, ap₂, ◌∙◌, Bool, true, ℕ, suc, ◌-◌, arith, needs, nat_abs}
+use Rattle.integers.proofs.Basics.{◌≡◌, ap, ap₂, ◌∙◌, Bool, true, ℕ, suc, ◌-◌, arith, rules, nat_abs}
 use mathlib.Core.Bool.{cond, ◌&&◌}
 use Prim.Native.Nat.{max}
 use borrow.Author.Tests.{le-leb, lt-ltb}
@@ -21,35 +21,35 @@ module _ (c : tie.Start) where
   sizes k = nat_abs (points_of c.args.points.now k c.args.i)
 
   -- the points and the coordinate are there
-  in_rows : in_rows c.args.count c.args.i ≡ true
-  in_rows = ap₂ ◌&&◌ (le-leb _ 16 c.requires.0.most) (lt-ltb _ 6 c.requires.1)
+  in-rows : in_rows c.args.count c.args.i ≡ true
+  in-rows = ap₂ ◌&&◌ (le-leb _ 16 c.requires.0.most) (lt-ltb _ 6 c.requires.1)
 
-returns : tie.Need-returns
+returns : tie.Need-returns-in-Box
 returns c =
-    let b = c.before.before.before in
-    rw c.before.enum_told.given.1 (c.column-most.ensures ∙ ap (λ (t : Bool). cond t (max_ℕ 2 (sizes b)) 0) (lt-ltb _ 6 b.requires.1) ∙ most-of-two (sizes b))
+    let b = c.before.before in
+    rw c.in-Box.is (c.column_most.ensures ∙ ap (λ (t : Bool). cond t (max_ℕ 2 (sizes b)) 0) (lt-ltb _ 6 b.requires.1) ∙ most-of-two (sizes b))
 
-returns-2 : tie.Need-returns-2
+returns-2 : tie.Need-returns-in-Zonotope
 returns-2 c =
-    let b = c.before.before.before in
+    let b = c.before.before in
     let all : b.args.count ≡ suc (b.args.count - 1) = omega (arith, b.requires.0.some) in
-    rw c.before.enum-told2.given.1 (c.column-sum.ensures ∙ ap (λ (t : Bool). cond t (sum_ℕ b.args.count (sizes b)) 0) (in_rows b) ∙ ap (λ (j : ℕ). sum_ℕ j (sizes b)) all ∙ sum_ℕ-first (b.args.count - 1) (sizes b))
+    rw c.in-Zonotope.is (c.column_sum.ensures ∙ ap (λ (t : Bool). cond t (sum_ℕ b.args.count (sizes b)) 0) (in-rows b) ∙ ap (λ (j : ℕ). sum_ℕ j (sizes b)) all ∙ sum_ℕ-first (b.args.count - 1) (sizes b))
 
-returns-3 : tie.Need-returns-3
+returns-3 : tie.Need-returns-in-Vertices
 returns-3 c =
-    let b = c.before.before.before in
-    rw c.before.enum-told3.given.1 (c.column-most2.ensures ∙ ap (λ (t : Bool). cond t (max_ℕ b.args.count (sizes b)) 0) (in_rows b))
+    let b = c.before.before in
+    rw c.in-Vertices.is (c.column_most-in-Vertices.ensures ∙ ap (λ (t : Bool). cond t (max_ℕ b.args.count (sizes b)) 0) (in-rows b))
 
 pub reach_at_spec : {M : Type 1} → statement M
 reach_at_spec =
     tie.close
     (tie.spec
-    (λ c. search needs)
-    (λ c κs. search needs)
-    (λ c. search needs)
-    (λ c κs. search needs)
-    (λ c. search needs)
-    (λ c κs. search needs)
+    (λ c. search rules)
+    (λ c κs. search rules)
+    (λ c. search rules)
+    (λ c κs. search rules)
+    (λ c. search rules)
+    (λ c κs. search rules)
     returns
     returns-2
     returns-3)

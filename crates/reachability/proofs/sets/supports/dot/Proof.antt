@@ -15,34 +15,34 @@ use Rattle.reachability.proofs.sets.supports.dot.Tie as tie
 abbrev product : List ℤ → ℕ → List ℤ → ℕ → ℤ
 product xs k r i = vector r i *ℤ points_of xs k i
 
-abbrev invariant-loop : tie.invariant-loop
+abbrev invariant-loop : tie.invariant-loop-i
 invariant-loop points k r sum₀ i₀ sum i = RunningSum 6 (product points k r) product_limit i (to_z w64 sum)
 
-abbrev decreases-loop : tie.decreases-loop
+abbrev decreases-loop : tie.decreases-loop-i
 decreases-loop points k r sum₀ i₀ sum i = 6 - i
 
-loop-holds : tie.Need-loop-init invariant-loop decreases-loop
+loop-holds : tie.Need-loop-i-init invariant-loop decreases-loop
 loop-holds c = running-start 6 (product c.args.points.now c.args.k c.args.r.now) product_limit
 
-mul-times-add-2 : tie.Need-overflow-mul-times-add-2 invariant-loop decreases-loop
-mul-times-add-2 c = omega (arith, c.before.before.before.requires.0)
+mul-times-add-2 : tie.Need-overflow_mul-k invariant-loop decreases-loop
+mul-times-add-2 c = omega (arith, c.requires.0)
 
-add-times-add : tie.Need-overflow-add-times-add invariant-loop decreases-loop
-add-times-add c = omega (arith, c.before.before.before.requires.0)
+add-times-add : tie.Need-overflow_add-k invariant-loop decreases-loop
+add-times-add c = omega (arith, c.requires.0)
 
-mul-times-add-3 : tie.Need-overflow-mul-times-add-3 invariant-loop decreases-loop
-mul-times-add-3 c = omega (arith, c.before.before.before.requires.0)
+mul-times-add-3 : tie.Need-offset_bounds-points-k invariant-loop decreases-loop
+mul-times-add-3 c = omega (arith, c.requires.0)
 
-element-copy-out-times-add-2 : tie.Need-element-copy-out-times-add-2 invariant-loop decreases-loop
-element-copy-out-times-add-2 c = omega (arith, c.before.before.before.requires.0)
+element-copy-out-times-add-2 : tie.Need-bounds-points-k invariant-loop decreases-loop
+element-copy-out-times-add-2 c = omega (arith, c.requires.0)
 
 -- the value and the coordinate of a turn, read
-module _ (c : tie.After-times-add-arg2 invariant-loop decreases-loop) where
+module _ (c : tie.After-times_add-arg-in-loop-i-1 invariant-loop decreases-loop) where
   abbrev start : tie.Start invariant-loop decreases-loop
   start = c.before.before.before.before
 
   abbrev i : ℕ
-  i = c.before.before.before.loop.i
+  i = c.loop-i.i
 
   abbrev x : ℤ
   x = vector start.args.r.now i
@@ -51,34 +51,34 @@ module _ (c : tie.After-times-add-arg2 invariant-loop decreases-loop) where
   y = points_of start.args.points.now start.args.k i
 
   value : to_z w64 (of_z w64 x) ≡ x
-  value = read-given w64 x c.before.times-add-arg.given
+  value = read-given w64 x c.times_add-arg-1.given
 
   coordinate : to_z w32 (of_z w32 y) ≡ y
-  coordinate = read-given w32 y c.times-add-arg2.given
+  coordinate = read-given w32 y c.times_add-arg-in-loop-i-1.given
 
   value-small : nat_abs x ≤ growth_limit
-  value-small = start.pre.1.values i (omega arith)
+  value-small = start.requires.1.values i (omega arith)
 
   coordinate-small : nat_abs y ≤ reach_limit
-  coordinate-small = start.pre.1.coordinates (6 * start.args.k + i)
+  coordinate-small = start.requires.1.coordinates (6 * start.args.k + i)
 
-times-add-requires : tie.Need-times-add-requires invariant-loop decreases-loop
+times-add-requires : tie.Need-times_add-sum-requires invariant-loop decreases-loop
 times-add-requires c κs =
     record {
-      sum-small = omega (arith, c.before.before.before.loop.invariant.small, c.before.before.loop-test.true);
+      sum-small = omega (arith, c.loop-i.invariant.small, c.loop-i-test.true);
       value-small = subst (λ (z : ℤ). nat_abs z ≤ growth_limit) (sym (value c)) (value-small c);
       coordinate-small = subst (λ (z : ℤ). nat_abs z ≤ reach_limit) (sym (coordinate c)) (coordinate-small c);
     }
 
-loop-again : tie.Need-loop-preserved invariant-loop decreases-loop
+loop-again : tie.Need-loop-i-preserved invariant-loop decreases-loop
 loop-again c =
     let b = c.before in
     let at-loop = b.before.before.before in
-    running_more at-loop.loop.invariant b.before.before.loop-test.true (nat_abs-mul-le (x b) (y b) (value-small b) (coordinate-small b))
-    (read-given w64 c.times-add.result c.times-add.type-inv ∙ c.times-add.ensures ∙ ap₂ (λ (p q : ℤ). to_z w64 at-loop.loop.sum +ℤ p *ℤ q) (value b) (coordinate b))
+    running_more at-loop.loop-i.invariant b.loop-i-test.true (nat_abs-mul-le (x b) (y b) (value-small b) (coordinate-small b))
+    (read-given w64 c.times_add-sum.result c.times_add-sum.type_inv ∙ c.times_add-sum.ensures ∙ ap₂ (λ (p q : ℤ). to_z w64 at-loop.loop-i.sum-bits +ℤ p *ℤ q) (value b) (coordinate b))
 
 returns : tie.Need-returns invariant-loop decreases-loop
-returns c = running-done c.before.loop.invariant (omega arith)
+returns c = running-done c.loop-i.invariant (omega arith)
 
 pub dot_spec : {M : Type 1} → statement M
 dot_spec =

@@ -1,6 +1,6 @@
 -- `reachability::sets::supports::of_vertices` meets its contract: `most` is the support of the points passed. The measure is what is
 -- left of the count. Assumes nothing.
-use Rattle.integers.proofs.Basics.{◌≡◌, ap, ◌∙◌, ◌-◌, arith, needs, ℤ, w64, to_z}
+use Rattle.integers.proofs.Basics.{◌≡◌, ap, ◌∙◌, ◌-◌, arith, rules, ℤ, w64, to_z}
 use Rattle.integers.proofs.Machine.{read-given}
 use Rattle.reachability.specs.Sets.{larger}
 use Rattle.reachability.specs.declared.sets.Shape.TheVariants.{Vertices}
@@ -8,39 +8,39 @@ use Rattle.reachability.proofs.sets.SupportSoFar.{SupportSoFar, product, support
 use Rattle.reachability.proofs.sets.supports.of_vertices.Statement.{statement}
 use Rattle.reachability.proofs.sets.supports.of_vertices.Tie as tie
 
-abbrev invariant-loop : tie.invariant-loop
+abbrev invariant-loop : tie.invariant-loop-k
 invariant-loop count points r most₀ k₀ most k = SupportSoFar Vertices count points r k (to_z w64 most)
 
-abbrev decreases-loop : tie.decreases-loop
+abbrev decreases-loop : tie.decreases-loop-k
 decreases-loop count points r most₀ k₀ most k = count - k
 
-dot-requires : tie.Need-dot-requires invariant-loop decreases-loop
+dot-requires : tie.Need-dot-most-requires invariant-loop decreases-loop
 dot-requires c κs = (omega arith, c.requires.1)
 
-loop-holds : tie.Need-loop-init invariant-loop decreases-loop
+loop-holds : tie.Need-loop-k-init invariant-loop decreases-loop
 loop-holds c =
-    let a = c.before.args in
-    let first : c.dot.result ≡ product a.points.now a.r.now 0 = c.dot.ensures in
-    support-first c.before.requires.0.some (read-given w64 c.dot.result c.dot.type-inv ∙ first)
+    let a = c.args in
+    let first : c.dot-most.result ≡ product a.points.now a.r.now 0 = c.dot-most.ensures in
+    support-first c.requires.0.some (read-given w64 c.dot-most.result c.dot-most.type_inv ∙ first)
 
-dot-requires-2 : tie.Need-dot-requires-2 invariant-loop decreases-loop
+dot-requires-2 : tie.Need-dot-requires invariant-loop decreases-loop
 dot-requires-2 c κs =
     let start = c.before.before.before in
-    (omega (arith, start.requires.0.most, c.loop-test.true), start.requires.1)
+    (omega (arith, start.requires.0.most, c.loop-k-test.true), start.requires.1)
 
-add-k : tie.Need-overflow-add-k invariant-loop decreases-loop
-add-k c = omega (arith, c.before.before.before.before.before.requires.0.most)
+add-k : tie.Need-overflow_add-k invariant-loop decreases-loop
+add-k c = omega (arith, c.requires.0.most)
 
-loop-again : tie.Need-loop-preserved invariant-loop decreases-loop
+loop-again : tie.Need-loop-k-preserved invariant-loop decreases-loop
 loop-again c =
     let b = c.before in
     let at-loop = b.before.before in
-    let read-dot = read-given w64 b.dot2.result b.dot2.type-inv ∙ b.dot2.ensures in
-    support-more at-loop.loop.invariant b.before.loop-test.true
-    (read-given w64 c.larger.result c.larger.type-inv ∙ c.larger.ensures ∙ ap (λ (z : ℤ). larger (to_z w64 at-loop.loop.most) z) read-dot)
+    let read-dot = read-given w64 b.dot.result b.dot.type_inv ∙ b.dot.ensures in
+    support-more at-loop.loop-k.invariant b.loop-k-test.true
+    (read-given w64 c.larger-most.result c.larger-most.type_inv ∙ c.larger-most.ensures ∙ ap (λ (z : ℤ). larger (to_z w64 at-loop.loop-k.most-bits) z) read-dot)
 
 returns : tie.Need-returns invariant-loop decreases-loop
-returns c = support-done tt c.before.loop.invariant c.loop-test.false
+returns c = support-done tt c.loop-k.invariant c.loop-k-test.false
 
 pub of_vertices_spec : {M : Type 1} → statement M
 of_vertices_spec =
@@ -51,7 +51,7 @@ of_vertices_spec =
     dot-requires
     loop-holds
     dot-requires-2
-    (λ c κs. search needs)
+    (λ c κs. search rules)
     add-k
     (λ c. omega arith)
     loop-again

@@ -24,13 +24,13 @@ module _ (c : tie.Start) where
   total-is : to_z w64 (of_z w64 c.args.sum) +ℤ to_z w64 (of_z w64 (to_z w64 (of_z w64 c.args.a) *ℤ to_z w64 (of_z w64 (to_z w32 (of_z w32 c.args.b))))) ≡ c.args.sum +ℤ c.args.a *ℤ c.args.b
   total-is = ap₂ ◌+ℤ◌ (to_z-of_z c.ranges.sum) (ap (λ (z : ℤ). to_z w64 (of_z w64 z)) product_is ∙ to_z-of_z product)
 
-cast-result : tie.Need-overflow-cast-result
+cast-result : tie.Need-overflow_cast-result
 cast-result c = subst (SFits w64) (sym (to_z-of_z c.ranges.b)) (sfits_widen tt c.ranges.b)
 
-mul-result : tie.Need-overflow-mul-result
+mul-result : tie.Need-overflow_mul-result
 mul-result c = subst (SFits w64) (sym (product_is c)) (product c)
 
-add-result : tie.Need-overflow-add-result
+add-result : tie.Need-overflow_add-result
 add-result c = subst (SFits w64) (sym (total-is c)) (total c)
 
 returns : tie.Need-returns
