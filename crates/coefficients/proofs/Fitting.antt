@@ -157,8 +157,8 @@ negative-zero m e h l z =
       entry = λ t. ap₂ (λ (b : Bool) (y : Float). signed b (nearest_even (matrix_unit * num y) (den y))) l size ∙ ap pos none ∙ sym (entry-is true m e h ∙ ap (signed true) none);
     }
 
-refused : (x : Float) (bits : ℕ) → le (absolute_of x) (fin false 1 (pos 1)) ≡ false → lt (absolute_of x) (fin false 0 (pos 0)) ≡ false → fitted_ok bits ≡ false → Checked x bits
-refused x bits t l n = record { test = t ∙ sym n; low = l; entry = λ e. absurd (true≢false (sym e ∙ n)) }
+refused : (x : Float) (b : ℕ) → le (absolute_of x) (fin false 1 (pos 1)) ≡ false → lt (absolute_of x) (fin false 0 (pos 0)) ≡ false → fitted_ok b ≡ false → Checked x b
+refused x b t l n = record { test = t ∙ sym n; low = l; entry = λ e. absurd (true≢false (sym e ∙ n)) }
 
 pub checked : (x : Float) → T (fits binary64 x) → Checked x (to_bits binary64 x)
 unfolding le lt eq neg

@@ -1,6 +1,6 @@
 -- `coefficients::entry_of_bits` meets its contract: the bits of the number are the pattern again, and a NaN's are those of a NaN.
 -- Assumes nothing.
-use Rattle.integers.proofs.Basics.{ap, ◌∙◌, needs}
+use Rattle.integers.proofs.Basics.{ap, ◌∙◌, rules}
 use lib.Ieee.{Float}
 use Rattle.coefficients.specs.Entries.{entry_of}
 use Rattle.coefficients.specs.declared.Coefficient.TheVariants.{Fitted}
@@ -9,7 +9,7 @@ use Rattle.coefficients.proofs.entry_of_bits.Statement.{statement}
 use Rattle.coefficients.proofs.entry_of_bits.Tie as tie
 
 returns : tie.Need-returns
-returns c = c.entry-of.ensures ∙ ap (λ (x : Float). entry_of (Fitted x)) c.before.value_of_lem.ensures ∙ entry_of-bits c.before.before.args.bits c.before.before.ranges.bits.fits
+returns c = c.entry_of.ensures ∙ ap (λ (x : Float). entry_of (Fitted x)) c.value_of.ensures ∙ entry_of-bits c.args.bits c.ranges.bits.fits
 
 pub entry_of_bits_spec : {M : Type 1} → statement M
-entry_of_bits_spec = tie.close (tie.spec (λ c κs. search needs) (λ c κs. search needs) returns)
+entry_of_bits_spec = tie.close (tie.spec (λ c κs. search rules) (λ c κs. search rules) returns)

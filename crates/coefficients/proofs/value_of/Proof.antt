@@ -1,6 +1,6 @@
 -- `coefficients::value_of` meets its contract: a pattern above that of the infinity, with the sign's bit taken off, is a NaN's.
 -- Assumes nothing.
-use Rattle.integers.proofs.Basics.{◌≡◌, refl, sym, subst, ◌∙◌, needs, Bool, true}
+use Rattle.integers.proofs.Basics.{◌≡◌, refl, sym, subst, ◌∙◌, rules, Bool, true}
 use Rattle.std.proofs.Common.{not, T, le-ltb, lt-ltb}
 use lib.Ieee.{Float, nan, inf, fin, binary64, of_bits, is_nan, div}
 use lib.Ieee.Bits.{nan_bits_is, nan_bits_above}
@@ -17,11 +17,11 @@ zero_by_zero : div binary64 (of_bits binary64 0) (of_bits binary64 0) ≡ nan
 unfolding div of_bits
 zero_by_zero = refl
 
-returns : tie.Need-returns
-returns c = zero_by_zero ∙ sym (nan-of (of_bits binary64 c.before.args.bits) (sym (nan_bits_is binary64 c.before.args.bits) ∙ nan_bits_above binary64 c.before.args.bits ∙ lt-ltb _ _ c.if1.true))
+returns : tie.Need-returns-then-bits-gt9218868437227405312
+returns c = zero_by_zero ∙ sym (nan-of (of_bits binary64 c.args.bits) (sym (nan_bits_is binary64 c.args.bits) ∙ nan_bits_above binary64 c.args.bits ∙ lt-ltb _ _ c.if-bits-gt9218868437227405312.true))
 
-float-from-bits-result : tie.Need-float-from-bits-result
-float-from-bits-result c = subst (λ (b : Bool). T (not b)) (sym (nan_bits_above binary64 c.before.args.bits ∙ le-ltb _ _ c.if1.false)) tt
+float-from-bits-result : tie.Need-float_from_bits-result
+float-from-bits-result c = subst (λ (b : Bool). T (not b)) (sym (nan_bits_above binary64 c.args.bits ∙ le-ltb _ _ c.if-bits-gt9218868437227405312.false)) tt
 
 pub value_of_spec : {M : Type 1} → statement M
-value_of_spec = tie.close (tie.spec returns float-from-bits-result (λ c. search needs))
+value_of_spec = tie.close (tie.spec returns float-from-bits-result (λ c. search rules))

@@ -1,5 +1,5 @@
 -- `judge::verdict` meets its contract: each arm is the definition's case. Assumes nothing.
-use Rattle.integers.proofs.Basics.{◌≡◌, refl, sym, ap, ◌∙◌, needs, ℤ, to_z-of_z}
+use Rattle.integers.proofs.Basics.{◌≡◌, refl, sym, ap, ◌∙◌, rules, ℤ, to_z-of_z}
 use Rattle.reachability.specs.declared.sweep.Swept.{Swept}
 use Rattle.reachability.specs.declared.verdicts.Judged.{Judged}
 use Rattle.judge.specs.Answers.{list_answer, swept_verdict, VerdictAnswers}
@@ -13,33 +13,33 @@ answered c w x told e =
     let a = c.args in
     verdict-answers a.swept a.level a.bounds.now a.slacks.now x (e ∙ ap (λ (y : Swept). swept_verdict y a.level a.bounds.now a.slacks.now) (sym told))
 
-returns : tie.Need-returns
+returns : tie.Need-returns-in-Spare
 returns c =
-    let a = c.before.before.before in
-    answered a _ _ c.before.enum_told.given.1 (c.verdict-of.ensures ∙ ap (λ (z : ℤ). list_answer z a.args.bounds.now a.args.slacks.now) (to_z-of_z a.ranges.level))
+    let a = c.before.before in
+    answered a _ _ c.in-Spare.is (c.verdict_of.ensures ∙ ap (λ (z : ℤ). list_answer z a.args.bounds.now a.args.slacks.now) (to_z-of_z a.ranges.level))
 
-returns-2 : tie.Need-returns-2
-returns-2 c = answered c.before.before _ _ c.enum-told2.given.1 refl
+returns-2 : tie.Need-returns-in-Invalid
+returns-2 c = answered c.before _ _ c.in-Invalid.is refl
 
-returns-3 : tie.Need-returns-3
-returns-3 c = answered c.before.before _ _ c.enum-told3.given.1 refl
+returns-3 : tie.Need-returns-in-NoDirection
+returns-3 c = answered c.before _ _ c.in-NoDirection.is refl
 
-returns-4 : tie.Need-returns-4
-returns-4 c = answered c.before.before _ _ c.enum-told4.given.1 refl
+returns-4 : tie.Need-returns-in-WrongLength
+returns-4 c = answered c.before _ _ c.in-WrongLength.is refl
 
-returns-5 : tie.Need-returns-5
-returns-5 c = answered c.before.before.before _ _ c.before.swept.given.1 refl
+returns-5 : tie.Need-returns-in-Growth
+returns-5 c = answered c.before _ _ c.in-Growth.is refl
 
 pub verdict_spec : {M : Type 1} → statement M
 verdict_spec =
     tie.close
     (tie.spec
-    (λ c. search needs)
-    (λ c κs. search needs)
-    (λ c. search needs)
-    (λ c. search needs)
-    (λ c. search needs)
-    (λ c. search needs)
+    (λ c. search rules)
+    (λ c κs. search rules)
+    (λ c. search rules)
+    (λ c. search rules)
+    (λ c. search rules)
+    (λ c. search rules)
     returns
     returns-2
     returns-3

@@ -19,41 +19,41 @@ total_at n m i = column_total n (matrix_of m) i
 abbrev calm_at : ℕ → List ℤ → ℕ → Bool
 calm_at n m i = leb (total_at n m i) matrix_unit
 
-abbrev invariant-loop : tie.invariant-loop
+abbrev invariant-loop : tie.invariant-loop-i
 invariant-loop n matrix i₀ i = PassedSoFar n (calm_at n matrix) i
 
-abbrev decreases-loop : tie.decreases-loop
+abbrev decreases-loop : tie.decreases-loop-i
 decreases-loop n matrix i₀ i = n - i
 
-loop-holds : tie.Need-loop-init invariant-loop decreases-loop
+loop-holds : tie.Need-loop-i-init invariant-loop decreases-loop
 loop-holds c = passed_none c.args.n (calm_at c.args.n c.args.matrix.now)
 
-column-total-requires : tie.Need-column-total-requires invariant-loop decreases-loop
-column-total-requires c κs = (c.before.before.requires, c.loop-test.true)
+column-total-requires : tie.Need-column_total-requires invariant-loop decreases-loop
+column-total-requires c κs = (c.requires, c.loop-i-test.true)
 
 -- what the call says of the column
-module _ (c : tie.After-column-total invariant-loop decreases-loop) where
-  abbrev at-loop : tie.At-loop invariant-loop decreases-loop
+module _ (c : tie.After-column_total invariant-loop decreases-loop) where
+  abbrev at-loop : tie.At-loop-i invariant-loop decreases-loop
   at-loop = c.before.before
 
   abbrev total : ℕ
-  total = total_at at-loop.before.args.n at-loop.before.args.matrix.now at-loop.loop.i
+  total = total_at at-loop.args.n at-loop.args.matrix.now at-loop.loop-i.i
 
-  total-is : to_z w64 (of_z w64 c.column-total.result) ≡ pos total
-  total-is = read-given w64 c.column-total.result c.column-total.type-inv ∙ c.column-total.ensures
+  total-is : to_z w64 (of_z w64 c.column_total.result) ≡ pos total
+  total-is = read-given w64 c.column_total.result c.column_total.type_inv ∙ c.column_total.ensures
 
   -- the test that the code makes, of a column
-  test-is : (b : Bool) → lt_z (pos matrix_unit) (to_z w64 (of_z w64 c.column-total.result)) ≡ b → ltb matrix_unit total ≡ b
+  test-is : (b : Bool) → lt_z (pos matrix_unit) (to_z w64 (of_z w64 c.column_total.result)) ≡ b → ltb matrix_unit total ≡ b
   test-is b t = sym (ap (lt_z (pos matrix_unit)) total-is) ∙ t
 
-returns : tie.Need-returns invariant-loop decreases-loop
-returns c = sym (passed-fails (at-loop c.before).loop.inv (omega arith) (lt-leb (total c.before) matrix_unit (ltb-true matrix_unit (total c.before) (test-is c.before true c.if1.true))))
+returns : tie.Need-returns-then-column_total-gt-COLUMN_LIMIT invariant-loop decreases-loop
+returns c = sym (passed-fails (at-loop c.before).loop-i.invariant (omega arith) (lt-leb (total c.before) matrix_unit (ltb-true matrix_unit (total c.before) (test-is c.before true c.if-column_total-gt-COLUMN_LIMIT.true))))
 
-loop-again : tie.Need-loop-preserved invariant-loop decreases-loop
-loop-again c = passed-more (at-loop c.before).loop.inv (omega arith) (le-leb (total c.before) matrix_unit (ltb-false matrix_unit (total c.before) (test-is c.before false c.if1.false)))
+loop-again : tie.Need-loop-i-preserved invariant-loop decreases-loop
+loop-again c = passed-more (at-loop c.before).loop-i.invariant (omega arith) (le-leb (total c.before) matrix_unit (ltb-false matrix_unit (total c.before) (test-is c.before false c.if-column_total-gt-COLUMN_LIMIT.false)))
 
-returns-2 : tie.Need-returns-2 invariant-loop decreases-loop
-returns-2 c = sym (passed-all c.before.loop.invariant (omega arith))
+returns-2 : tie.Need-returns invariant-loop decreases-loop
+returns-2 c = sym (passed-all c.loop-i.invariant (omega arith))
 
 pub all_calm_spec : {M : Type 1} → statement M
 all_calm_spec =
@@ -64,7 +64,7 @@ all_calm_spec =
     loop-holds
     column-total-requires
     returns
-    (λ c. omega (arith, c.before.before.before.before.requires))
+    (λ c. omega (arith, c.requires))
     (λ c. omega arith)
     loop-again
     returns-2)

@@ -1,5 +1,5 @@
 -- `calm::limit::limit_of` meets its contract. Assumes nothing.
-use Rattle.integers.proofs.Basics.{◌≡◌, refl, ap, ◌∙◌, ℕ, suc, ◌+◌, ◌*◌, ◌-◌, ◌≤◌, arith, needs}
+use Rattle.integers.proofs.Basics.{◌≡◌, refl, ap, ◌∙◌, ℕ, suc, ◌+◌, ◌*◌, ◌-◌, ◌≤◌, arith, rules}
 use Prim.Native.Nat.{zero, ◌/◌}
 use native.Mathlib.Nat.{mul-le-mul}
 use Rattle.integers.specs.Whole.{ceil_div_ℕ}
@@ -50,32 +50,32 @@ returns c = rounded (k c * c.args.initial + pairs c * c.args.entering) ∙ ap (�
     rounded : (a : ℕ) → (a + direction_unit) / direction_unit + 1 ≡ ceil_div_ℕ (a + 1) direction_unit + 1
     rounded a = omega arith
 
-mul-pairs : tie.Need-overflow-mul-pairs
+mul-pairs : tie.Need-overflow_mul-pairs
 mul-pairs c = record { fits = omega (arith, square-small c.requires.1) }
 
-sub-pairs : tie.Need-overflow-sub-pairs
+sub-pairs : tie.Need-overflow_sub-pairs
 sub-pairs c = omega (arith, pairs-least (k c))
 
-mul-errors : tie.Need-overflow-mul-errors
+mul-errors : tie.Need-overflow_mul-errors
 mul-errors c = record { fits = omega (arith, initial-small c) }
 
-mul-errors-2 : tie.Need-overflow-mul-errors-2
+mul-errors-2 : tie.Need-overflow_mul-errors-2
 mul-errors-2 c = record { fits = omega (arith, entering-small c _ (pairs_small c)) }
 
-add-errors : tie.Need-overflow-add-errors
+add-errors : tie.Need-overflow_add-errors
 add-errors c = record { fits = omega (arith, initial-small c, entering-small c _ (pairs_small c)) }
 
-add-result : tie.Need-overflow-add-result
+add-result : tie.Need-overflow_add-result
 add-result c = record { fits = omega (arith, initial-small c, entering-small c _ (pairs_small c)) }
 
-add-result-2 : tie.Need-overflow-add-result-2
+add-result-2 : tie.Need-overflow_add-result-2
 add-result-2 c = record { fits = omega (arith, initial-small c, entering-small c _ (pairs_small c)) }
 
 pub limit_of_spec : {M : Type 1} → statement M
 limit_of_spec =
     tie.close
     (tie.spec
-    (λ c. search needs)
+    (λ c. search rules)
     mul-pairs
     sub-pairs
     mul-errors

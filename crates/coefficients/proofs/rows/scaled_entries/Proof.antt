@@ -1,5 +1,5 @@
 -- `coefficients::rows::scaled_entries` meets its contract: each number of the row is one of the six. Assumes nothing.
-use Rattle.integers.proofs.Basics.{◌≡◌, ap, ◌∙◌, ◌<◌, needs, ℤ, w32, to_z, of_z}
+use Rattle.integers.proofs.Basics.{◌≡◌, ap, ◌∙◌, ◌<◌, rules, ℤ, w32, to_z, of_z}
 use Rattle.std.proofs.Common.{◌^◌}
 use lib.Signed.{mag}
 use Rattle.integers.specs.Sums.{vector}
@@ -19,26 +19,26 @@ returns : tie.Need-returns
 returns c =
     let at_last = c.before in
     let at_first = at_last.before.before.before.before.before in
-    let six = at_first.before.args.t2 in
-    c.entries-of.ensures
-    ∙ entries_of-cong at_first.before.args.n
+    let six = at_first.args.six in
+    c.entries_of.ensures
+    ∙ entries_of-cong at_first.args.n
     (each-of-six (λ i. _ ≡ scaled_row six i)
-    (same (vector six 0) at_first.t7.given)
-    (same (vector six 1) at_last.before.before.before.before.t11.given)
-    (same (vector six 2) at_last.before.before.before.t15.given)
-    (same (vector six 3) at_last.before.before.t19.given)
-    (same (vector six 4) at_last.before.t23.given)
-    (same (vector six 5) at_last.t27.given))
+    (same (vector six 0) at_first.coefficients-1.given)
+    (same (vector six 1) at_last.coefficients-2-1.given)
+    (same (vector six 2) at_last.coefficients-3-1.given)
+    (same (vector six 3) at_last.coefficients-4-1.given)
+    (same (vector six 4) at_last.coefficients-5-1.given)
+    (same (vector six 5) at_last.coefficients-6-1.given))
 
 pub scaled_entries_spec : {M : Type 1} → statement M
 scaled_entries_spec =
     tie.close
     (tie.spec
-    (λ c. search needs)
-    (λ c. search needs)
-    (λ c. search needs)
-    (λ c. search needs)
-    (λ c. search needs)
-    (λ c. search needs)
-    (λ c κs. search needs)
+    (λ c. search rules)
+    (λ c. search rules)
+    (λ c. search rules)
+    (λ c. search rules)
+    (λ c. search rules)
+    (λ c. search rules)
+    (λ c κs. search rules)
     returns)

@@ -1,6 +1,6 @@
 -- `judge::places::first_hit` meets its contract: at no step passed does the bound less its slack reach the level. The measure is
 -- what is left of the list. Assumes nothing.
-use Rattle.integers.proofs.Basics.{◌≡◌, sym, ap, ap₂, ◌∙◌, Bool, ℕ, ◌-◌, arith, needs, length, ℤ, ◌-ℤ◌, w64, to_z, of_z, to_z-of_z}
+use Rattle.integers.proofs.Basics.{◌≡◌, sym, ap, ap₂, ◌∙◌, Bool, ℕ, ◌-◌, arith, rules, length, ℤ, ◌-ℤ◌, w64, to_z, of_z, to_z-of_z}
 use Rattle.integers.specs.Sums.{vector}
 use Rattle.integers.proofs.Machine.{read-given}
 use Rattle.reachability.specs.Recurrence.{first_place}
@@ -9,17 +9,17 @@ use Rattle.reachability.proofs.FirstPlace.{NoneBefore, none-before-start, none-b
 use Rattle.judge.proofs.places.first_hit.Statement.{statement}
 use Rattle.judge.proofs.places.first_hit.Tie as tie
 
-abbrev invariant-loop : tie.invariant-loop
+abbrev invariant-loop : tie.invariant-loop-k
 invariant-loop level bounds slacks k₀ k = NoneBefore (length bounds) (hit_at (to_z w64 level) (vector bounds) (vector slacks)) k
 
-abbrev decreases-loop : tie.decreases-loop
+abbrev decreases-loop : tie.decreases-loop-k
 decreases-loop level bounds slacks k₀ k = length bounds - k
 
-loop-holds : tie.Need-loop-init invariant-loop decreases-loop
+loop-holds : tie.Need-loop-k-init invariant-loop decreases-loop
 loop-holds c = none-before-start (length c.args.bounds.now) (hit_at (to_z w64 (of_z w64 c.args.level)) (vector c.args.bounds.now) (vector c.args.slacks.now))
 
-shared-slice-copy-out-hits-2 : tie.Need-shared-slice-copy-out-hits-2 invariant-loop decreases-loop
-shared-slice-copy-out-hits-2 c = omega (arith, c.before.before.before.requires)
+shared-slice-copy-out-hits-2 : tie.Need-bounds-slacks-k invariant-loop decreases-loop
+shared-slice-copy-out-hits-2 c = omega (arith, c.requires)
 
 -- the test at a step, and what the call says of it
 module _ (at : tie.Start invariant-loop decreases-loop) where
@@ -30,28 +30,28 @@ module _ (at : tie.Start invariant-loop decreases-loop) where
   p = hit_at (to_z w64 (of_z w64 at.args.level)) (vector at.args.bounds.now) (vector at.args.slacks.now)
 
   level-is : first_place n p ≡ first_place n (hit_at at.args.level (vector at.args.bounds.now) (vector at.args.slacks.now))
-  level-is = ap (λ (z : ℤ). first_place n (hit_at z (vector at.args.bounds.now) (vector at.args.slacks.now))) (to_z-of_z at.fits.level)
+  level-is = ap (λ (z : ℤ). first_place n (hit_at z (vector at.args.bounds.now) (vector at.args.slacks.now))) (to_z-of_z at.ranges.level)
 
-told : (c : tie.After-hits invariant-loop decreases-loop) → c.hits.result ≡ p c.before.before.before.before.before c.before.before.before.before.loop.k
+told : (c : tie.After-hits invariant-loop decreases-loop) → c.hits.result ≡ p c.before.before.before.before.before c.loop-k.k
 told c =
     let at = c.before.before.before.before.before in
-    let k = c.before.before.before.before.loop.k in
-    c.hits.ensures ∙ ap₂ (λ (x y : ℤ). reaches (to_z w64 (of_z w64 at.args.level)) (x -ℤ y)) (read-given w64 (vector at.args.bounds.now k) c.before.before.hits-arg.given) (read-given w64 (vector at.args.slacks.now k) c.before.hits-arg2.given)
+    let k = c.loop-k.k in
+    c.hits.ensures ∙ ap₂ (λ (x y : ℤ). reaches (to_z w64 (of_z w64 at.args.level)) (x -ℤ y)) (read-given w64 (vector at.args.bounds.now k) c.hits-arg-1.given) (read-given w64 (vector at.args.slacks.now k) c.hits-arg-in-loop-k-1.given)
 
-returns : tie.Need-returns invariant-loop decreases-loop
+returns : tie.Need-returns-then-hits invariant-loop decreases-loop
 returns c =
     let l = c.before.before.before.before.before in
-    first_found (n l.before) (p l.before) _ l.loop.invariant (omega arith) (sym (told c.before) ∙ c.if1.true) ∙ level-is l.before
+    first_found (n l.before) (p l.before) _ l.loop-k.invariant (omega arith) (sym (told c.before) ∙ c.if-hits.true) ∙ level-is l.before
 
-loop-again : tie.Need-loop-preserved invariant-loop decreases-loop
+loop-again : tie.Need-loop-k-preserved invariant-loop decreases-loop
 loop-again c =
     let l = c.before.before.before.before.before in
-    none-before-more (n l.before) (p l.before) _ l.loop.invariant (omega arith) (sym (told c.before) ∙ c.if1.false)
+    none-before-more (n l.before) (p l.before) _ l.loop-k.invariant (omega arith) (sym (told c.before) ∙ c.if-hits.false)
 
-returns-2 : tie.Need-returns-2 invariant-loop decreases-loop
+returns-2 : tie.Need-returns invariant-loop decreases-loop
 returns-2 c =
     let at = c.before.before in
-    first-missing (n at) (p at) _ c.before.loop.invariant (omega arith) ∙ level-is at
+    first-missing (n at) (p at) _ c.loop-k.invariant (omega arith) ∙ level-is at
 
 pub first_hit_spec : {M : Type 1} → statement M
 first_hit_spec =
@@ -60,11 +60,11 @@ first_hit_spec =
     invariant-loop
     decreases-loop
     loop-holds
-    (λ c. search needs)
+    (λ c. search rules)
     (λ c. omega arith)
-    (λ c. search needs)
+    (λ c. search rules)
     shared-slice-copy-out-hits-2
-    (λ c κs. search needs)
+    (λ c κs. search rules)
     returns
     (λ c. omega arith)
     (λ c. omega arith)

@@ -1,5 +1,5 @@
 -- `judge::places::verdict_of` meets its contract: each end is the case that its tests leave. Assumes nothing.
-use Rattle.integers.proofs.Basics.{◌≡◌, sym, ap, subst, ◌∙◌, Bool, true, false, ℕ, ◌≤◌, ◌<◌, arith, needs, length, ℤ, to_z-of_z}
+use Rattle.integers.proofs.Basics.{◌≡◌, sym, ap, subst, ◌∙◌, Bool, true, false, ℕ, ◌≤◌, ◌<◌, arith, rules, length, ℤ, to_z-of_z}
 use mathlib.Core.Bool.{cond}
 use Rattle.integers.specs.Sums.{vector}
 use Rattle.reachability.specs.Recurrence.{first_place}
@@ -32,49 +32,49 @@ module _ (c : tie.Start) where
   judged : lists_ok n (length c.args.slacks.now) ≡ true → {x : Judged} → verdict_below n c.args.level b s ≡ x → x ≡ list_answer c.args.level c.args.bounds.now c.args.slacks.now
   judged t e = sym (ap answer t ∙ e)
 
-returns : tie.Need-returns
-returns c = refused c.before (lists-apart _ _ c.if1.true)
+returns : tie.Need-returns-then-slacks-size
+returns c = refused c.before (lists-apart _ _ c.if-slacks-size.true)
 
-returns-2 : tie.Need-returns-2
-returns-2 c = refused c.before.before (lists-short (n c.before.before) (length c.before.before.args.slacks.now) (omega (arith, c.if2.true)))
+returns-2 : tie.Need-returns-then-size-lt2
+returns-2 c = refused c.before.before (lists-short (n c.before.before) (length c.args.slacks.now) (omega (arith, c.if-size-lt2.true)))
 
-returns-3 : tie.Need-returns-3
-returns-3 c = refused c.before.before.before (lists-long _ _ c.if3.true)
+returns-3 : tie.Need-returns-then-size-gt-LONGEST_LIST
+returns-3 c = refused c.before.before.before (lists-long _ _ c.if-size-gt-LONGEST_LIST.true)
 
 -- the lengths pass, and the two first steps
-module _ (c : tie.After-first-hit) where
+module _ (c : tie.After-first_hit-h) where
   abbrev at : tie.Start
   at = c.before.before.before.before
 
   fit : lists_ok (n at) (length at.args.slacks.now) ≡ true
-  fit = lists-ok _ _ c.before.before.before.if1.false c.before.before.if2.false c.before.if3.false
+  fit = lists-ok _ _ c.if-slacks-size.false c.if-size-lt2.false c.if-size-gt-LONGEST_LIST.false
 
-  hit-is : c.first-hit.result ≡ first_place (n at) (hit_at at.args.level (b at) (s at))
-  hit-is = c.first-hit.ensures ∙ ap (λ (z : ℤ). first_place (n at) (hit_at z (b at) (s at))) (to_z-of_z at.fits.level)
+  hit-is : c.first_hit-h.result ≡ first_place (n at) (hit_at at.args.level (b at) (s at))
+  hit-is = c.first_hit-h.ensures ∙ ap (λ (z : ℤ). first_place (n at) (hit_at z (b at) (s at))) (to_z-of_z at.ranges.level)
 
-unknown-is : (c : tie.After-first-unknown) → c.first-unknown.result ≡ first_place (n (at c.before.before)) (unknown_at (at c.before.before).args.level (b (at c.before.before)))
+unknown-is : (c : tie.After-first_unknown-u) → c.first_unknown-u.result ≡ first_place (n (at c.before.before)) (unknown_at (at c.before.before).args.level (b (at c.before.before)))
 unknown-is c =
     let a = at c.before.before in
-    c.first-unknown.ensures ∙ ap (λ (z : ℤ). first_place (n a) (unknown_at z (b a))) (to_z-of_z a.fits.level)
+    c.first_unknown-u.ensures ∙ ap (λ (z : ℤ). first_place (n a) (unknown_at z (b a))) (to_z-of_z a.ranges.level)
 
-returns-4 : tie.Need-returns-4
+returns-4 : tie.Need-returns-then-h-size
 returns-4 c =
     let w = c.before in
     let a = at w in
-    ap Hit (hit-is w) ∙ judged a (fit w) (verdict-hit (n a) a.args.level (b a) (s a) (subst (λ (k : ℕ). k < n a) (hit-is w) c.if4.true))
+    ap Hit (hit-is w) ∙ judged a (fit w) (verdict-hit (n a) a.args.level (b a) (s a) (subst (λ (k : ℕ). k < n a) (hit-is w) c.if-h-size.true))
 
-returns-5 : tie.Need-returns-5
+returns-5 : tie.Need-returns-then-u-size
 returns-5 c =
     let w = c.before.before.before in
     let a = at w in
-    ap Unknown (unknown-is c.before) ∙ judged a (fit w) (verdict-unknown (n a) a.args.level (b a) (s a) (subst (λ (k : ℕ). n a ≤ k) (hit-is w) c.before.before.if4.false) (subst (λ (k : ℕ). k < n a) (unknown-is c.before) c.if5.true))
+    ap Unknown (unknown-is c.before) ∙ judged a (fit w) (verdict-unknown (n a) a.args.level (b a) (s a) (subst (λ (k : ℕ). n a ≤ k) (hit-is w) c.if-h-size.false) (subst (λ (k : ℕ). k < n a) (unknown-is c.before) c.if-u-size.true))
 
-returns-6 : tie.Need-returns-6
+returns-6 : tie.Need-returns
 returns-6 c =
     let w = c.before.before.before in
     let a = at w in
-    judged a (fit w) (verdict-clear (n a) a.args.level (b a) (s a) (subst (λ (k : ℕ). n a ≤ k) (hit-is w) c.before.before.if4.false) (subst (λ (k : ℕ). n a ≤ k) (unknown-is c.before) c.if5.false))
+    judged a (fit w) (verdict-clear (n a) a.args.level (b a) (s a) (subst (λ (k : ℕ). n a ≤ k) (hit-is w) c.if-h-size.false) (subst (λ (k : ℕ). n a ≤ k) (unknown-is c.before) c.if-u-size.false))
 
 pub verdict_of_spec : {M : Type 1} → statement M
 verdict_of_spec =
-    tie.close (tie.spec returns returns-2 returns-3 (λ c κs. search needs) returns-4 (λ c κs. search needs) returns-5 returns-6)
+    tie.close (tie.spec returns returns-2 returns-3 (λ c κs. search rules) returns-4 (λ c κs. search rules) returns-5 returns-6)
