@@ -1,6 +1,6 @@
 -- `records::record_at` meets its contract: the tests that led to each `return` say which case of `record_at` holds.
 -- Assumes nothing.
-use Rattle.integers.proofs.Basics.{◌≡◌, refl, sym, ap, ◌∙◌, ℕ, ◌+◌, ◌<◌, arith, needs, length, get_or}
+use Rattle.integers.proofs.Basics.{◌≡◌, refl, sym, ap, ◌∙◌, ℕ, ◌+◌, ◌<◌, arith, rules, length, get_or}
 use mathlib.Core.List.{List}
 use native.Mathlib.Nat.{add-sub_cancel_left}
 use lib.ListN.{take, drop}
@@ -25,45 +25,45 @@ module _ {file : Bor (List ℕ)} {at : ℕ} {r : Record} (is : record_at file.no
       }
 
 -- no byte is left
-returns : tie.Need-returns
+returns : tie.Need-returns-then-file-at
 returns c =
-    let a = c.before.before.before.args in
-    step-of (record_at-nothing a.file.now a.at c.before.if1.true) refl refl
+    let a = c.args in
+    step-of (record_at-nothing a.file.now a.at c.if-file-at.true) refl refl
 
 -- an unknown kind
-returns-2 : tie.Need-returns-2
+returns-2 : tie.Need-returns-then-most-eq0
 returns-2 c =
-    let at_call = c.before.before in
-    let a = at_call.before.before.before.before.args in
-    step-of (record_at-unknown a.file.now a.at at_call.before.before.if1.false (body_length-unknown _ (sym (ap (λ (l : Layout). l.most) at_call.layout_of.ensures) ∙ c.before.if2.true))) refl refl
+    let at_call = c.before in
+    let a = at_call.args in
+    step-of (record_at-unknown a.file.now a.at at_call.if-file-at.false (body_length-unknown _ (sym (ap (λ (l : Layout). l.most) at_call.layout_of-layout.ensures) ∙ c.if-most-eq0.true))) refl refl
 
 -- a known kind
-module _ (c : tie.Else2) where
+module _ (c : tie.Else-most-eq0) where
   abbrev file : Bor (List ℕ)
-  file = c.before.before.before.before.before.args.file
+  file = c.args.file
 
   abbrev at : ℕ
-  at = c.before.before.before.before.before.args.at
+  at = c.args.at
 
   abbrev n : ℕ
-  n = c.before.layout_of.result.length
+  n = c.layout_of-layout.result.length
 
   inside : at < length file.now
-  inside = c.before.before.before.if1.false
+  inside = c.if-file-at.false
 
   known : body_length (get_or file.now at 0) ≡ body_bytes n
   known =
-      let is = c.before.layout_of.ensures in
-      body_length-known _ (λ z. c.if2.false (ap (λ (l : Layout). l.most) is ∙ z)) ∙ sym (ap (λ (l : Layout). body_bytes l.length) is)
+      let is = c.layout_of-layout.ensures in
+      body_length-known _ (λ z. c.if-most-eq0.false (ap (λ (l : Layout). l.most) is ∙ z)) ∙ sym (ap (λ (l : Layout). body_bytes l.length) is)
 
 -- the file's end cuts the body off
-returns-3 : tie.Need-returns-3
+returns-3 : tie.Need-returns-then-file-start
 returns-3 c =
-    let b = c.before.before in
+    let b = c.before in
     step-of (record_at-short (file b).now (at b) (inside b) (n b) (known b) (omega arith)) refl refl
 
 -- a whole record
-returns-4 : tie.Need-returns-4
+returns-4 : tie.Need-returns
 returns-4 c =
     let b = c.before.before in
     let is = record_at-whole (file b).now (at b) (inside b) (n b) (known b) (omega arith) in
@@ -78,18 +78,18 @@ pub record_at_spec : {M : Type 1} → statement M
 record_at_spec =
     tie.close
     (tie.spec
-    (λ c. search needs)
+    (λ c. search rules)
     returns
-    (λ c. search needs)
-    (λ c κs. search needs)
-    (λ c. search needs)
+    (λ c. search rules)
+    (λ c κs. search rules)
+    (λ c. search rules)
     returns-2
-    (λ c. search needs)
-    (λ c. search needs)
-    (λ c. search needs)
+    (λ c. search rules)
+    (λ c. search rules)
+    (λ c. search rules)
     returns-3
-    (λ c. search needs)
-    (λ c. search needs)
-    (λ c. search needs)
-    (λ c. search needs)
+    (λ c. search rules)
+    (λ c. search rules)
+    (λ c. search rules)
+    (λ c. search rules)
     returns-4)
