@@ -1,6 +1,6 @@
 -- `numbers::unsigned_at` meets its contract. The loop's invariant: n is the number of the bytes from j on. The
 -- measure is j. n stays below 2 to the 56 before its last turn, since the count is at most 8. Assumes nothing.
-use Rattle.integers.proofs.Basics.{◌≡◌, sym, ap, subst, ℕ, suc, ◌+◌, ◌*◌, ◌-◌, ◌≤◌, ◌<◌, arith, needs, get_or}
+use Rattle.integers.proofs.Basics.{◌≡◌, sym, ap, subst, ℕ, suc, ◌+◌, ◌*◌, ◌-◌, ◌≤◌, ◌<◌, arith, rules, get_or}
 use mathlib.Core.List.{List}
 use Prim.Native.Nat.{◌^◌}
 use Rattle.numbers.specs.Numbers.{little_endian}
@@ -13,10 +13,10 @@ record Joined (l : List ℕ) (at count n j : ℕ) : Type 0 where
   within : j ≤ count
   number : n ≡ little_endian (count - j) l (at + j)
 
-abbrev invariant-loop : tie.invariant-loop
+abbrev invariant-loop : tie.invariant-loop-j
 invariant-loop bytes at count n₀ j₀ n j = Joined bytes at count n j
 
-abbrev decreases-loop : tie.decreases-loop
+abbrev decreases-loop : tie.decreases-loop-j
 decreases-loop bytes at count n₀ j₀ n j = j
 
 joined-none : (l : List ℕ) (at count : ℕ) → Joined l at count 0 count
@@ -53,31 +53,31 @@ module _ {l : List ℕ} {at count n j : ℕ} (joined : Joined l at count n j) (m
   joined_small : AllBytes l → count ≤ 8 → n < 2 ^ 56
   joined_small b h = omega (arith, little_endian-lt-of-le (count - j) 7 l (at + j) b (omega arith))
 
-loop-holds : tie.Need-loop-init invariant-loop decreases-loop
+loop-holds : tie.Need-loop-j-init invariant-loop decreases-loop
 loop-holds c = joined-none _ _ _
 
-small : (c : tie.In-loop invariant-loop decreases-loop) → c.before.loop.n < 2 ^ 56
-small c = joined_small c.before.loop.invariant c.loop-test.true c.before.before.shared-slice-known.given c.before.before.before.requires
+small : (c : tie.In-loop-j invariant-loop decreases-loop) → c.loop-j.n < 2 ^ 56
+small c = joined_small c.loop-j.invariant c.loop-j-test.true c.shared_slice_known-1.given c.requires
 
-mul-n : tie.Need-overflow-mul-n invariant-loop decreases-loop
+mul-n : tie.Need-overflow_mul-n invariant-loop decreases-loop
 mul-n c = omega (arith, small c)
 
 -- whichever byte it is: that it is the right one is settled where the number is
 byte-below : (l : List ℕ) → AllBytes l → (k : ℕ) → get_or l k 0 < 256
 byte-below l bytes k = omega (arith, bytes k)
 
-add-n : tie.Need-overflow-add-n invariant-loop decreases-loop
+add-n : tie.Need-overflow_add-n invariant-loop decreases-loop
 add-n c =
-    let byte = byte-below c.before.before.before.before.args.bytes.now c.before.before.before.shared-slice-known.given _ in
+    let byte = byte-below c.args.bytes.now c.shared_slice_known-1.given _ in
     omega (arith, small c.before, subst (λ (b : ℕ). b < 256) (sym c.byte_at.ensures) byte)
 
-loop-again : tie.Need-loop-preserved invariant-loop decreases-loop
-loop-again c = joined-more c.before.before.loop.invariant c.before.loop-test.true c.byte_at.ensures
+loop-again : tie.Need-loop-j-preserved invariant-loop decreases-loop
+loop-again c = joined-more c.loop-j.invariant c.loop-j-test.true c.byte_at.ensures
 
 returns : tie.Need-returns invariant-loop decreases-loop
 returns c =
-    let a = c.before.before.before.args in
-    joined-all a.bytes.now a.at a.count c.before.loop.n c.before.loop.j c.before.loop.invariant c.loop-test.false
+    let a = c.args in
+    joined-all a.bytes.now a.at a.count c.loop-j.n c.loop-j.j c.loop-j.invariant c.loop-j-test.false
 
 pub unsigned_at_spec : {M : Type 1} → statement M
 unsigned_at_spec =
@@ -87,10 +87,10 @@ unsigned_at_spec =
     decreases-loop
     loop-holds
     mul-n
-    (λ c. search needs)
-    (λ c κs. search needs)
+    (λ c. search rules)
+    (λ c κs. search rules)
     add-n
-    (λ c. search needs)
+    (λ c. search rules)
     (λ c. omega arith)
     loop-again
     returns)
