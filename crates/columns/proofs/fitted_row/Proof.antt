@@ -1,5 +1,5 @@
 -- `columns::fitted_row` meets its contract, value by value. Assumes nothing.
-use Rattle.integers.proofs.Basics.{◌≡◌, refl, ap₂, ℕ, needs}
+use Rattle.integers.proofs.Basics.{◌≡◌, refl, ap₂, ℕ, rules}
 use mathlib.Core.List.{List}
 use lib.Ieee.{Float}
 use Rattle.coefficients.specs.declared.rows.FittedRow.{FittedRow}
@@ -15,24 +15,24 @@ row_is e f = ap₂ (λ (n : ℕ) (l : List Float). row_of n l) e f
 
 returns : tie.Need-returns
 returns c =
-    row_is c.before.before.before.before.before.before.first_byte.ensures
-    (more c.before.before.before.before.before.fitted-at.ensures
-    (more c.before.before.before.before.fitted-at2.ensures
-    (more c.before.before.before.fitted-at3.ensures
-    (more c.before.before.fitted-at4.ensures
-    (more c.before.fitted-at5.ensures
-    (more c.fitted-at6.ensures
+    row_is c.first_byte-number.ensures
+    (more c.fitted_at-a.ensures
+    (more c.fitted_at-b.ensures
+    (more c.fitted_at-c.ensures
+    (more c.fitted_at-d.ensures
+    (more c.fitted_at-e.ensures
+    (more c.fitted_at-f.ensures
     refl))))))
 
 pub fitted_row_spec : {M : Type 1} → statement M
 fitted_row_spec =
     tie.close
     (tie.spec
-    (λ c κs. search needs)
-    (λ c κs. search needs)
-    (λ c κs. search needs)
-    (λ c κs. search needs)
-    (λ c κs. search needs)
-    (λ c κs. search needs)
-    (λ c κs. search needs)
+    (λ c κs. search rules)
+    (λ c κs. search rules)
+    (λ c κs. search rules)
+    (λ c κs. search rules)
+    (λ c κs. search rules)
+    (λ c κs. search rules)
+    (λ c κs. search rules)
     returns)

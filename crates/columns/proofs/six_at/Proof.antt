@@ -1,5 +1,5 @@
 -- `columns::six_at` meets its contract, number by number. Assumes nothing.
-use Rattle.integers.proofs.Basics.{refl, ◌∙◌, needs, to_z-of_z}
+use Rattle.integers.proofs.Basics.{refl, ◌∙◌, rules, w32, to_z-of_z}
 use Rattle.columns.specs.Columns.{six_at}
 use Rattle.columns.proofs.Lists.{more}
 use Rattle.columns.proofs.six_at.Statement.{statement}
@@ -9,27 +9,27 @@ returns : tie.Need-returns
 unfolding six_at
 returns c =
     more
-    (to_z-of_z (record { sfits = c.before.before.before.before.before.entry_at.type-inv }) ∙ c.before.before.before.before.before.entry_at.ensures)
+    (to_z-of_z {w = w32} (record { sfits = c.entry_at-a.type_inv }) ∙ c.entry_at-a.ensures)
     (more
-    (to_z-of_z (record { sfits = c.before.before.before.before.entry-at2.type-inv }) ∙ c.before.before.before.before.entry-at2.ensures)
+    (to_z-of_z {w = w32} (record { sfits = c.entry_at-b.type_inv }) ∙ c.entry_at-b.ensures)
     (more
-    (to_z-of_z (record { sfits = c.before.before.before.entry-at3.type-inv }) ∙ c.before.before.before.entry-at3.ensures)
+    (to_z-of_z {w = w32} (record { sfits = c.entry_at-c.type_inv }) ∙ c.entry_at-c.ensures)
     (more
-    (to_z-of_z (record { sfits = c.before.before.entry-at4.type-inv }) ∙ c.before.before.entry-at4.ensures)
+    (to_z-of_z {w = w32} (record { sfits = c.entry_at-d.type_inv }) ∙ c.entry_at-d.ensures)
     (more
-    (to_z-of_z (record { sfits = c.before.entry-at5.type-inv }) ∙ c.before.entry-at5.ensures)
+    (to_z-of_z {w = w32} (record { sfits = c.entry_at-e.type_inv }) ∙ c.entry_at-e.ensures)
     (more
-    (to_z-of_z (record { sfits = c.entry-at6.type-inv }) ∙ c.entry-at6.ensures)
+    (to_z-of_z {w = w32} (record { sfits = c.entry_at-f.type_inv }) ∙ c.entry_at-f.ensures)
     refl)))))
 
 pub six_at_spec : {M : Type 1} → statement M
 six_at_spec =
     tie.close
     (tie.spec
-    (λ c κs. search needs)
-    (λ c κs. search needs)
-    (λ c κs. search needs)
-    (λ c κs. search needs)
-    (λ c κs. search needs)
-    (λ c κs. search needs)
+    (λ c κs. search rules)
+    (λ c κs. search rules)
+    (λ c κs. search rules)
+    (λ c κs. search rules)
+    (λ c κs. search rules)
+    (λ c κs. search rules)
     returns)

@@ -1,6 +1,6 @@
 -- `listing::put_listing` meets its contract: the first line, the directions and the guards, one behind the other, and the rooms that
 -- they were given add up. Assumes nothing.
-use Rattle.integers.proofs.Basics.{◌≡◌, refl, sym, ◌∙◌, true, ℕ, ◌+◌, ◌≤◌, arith, add-one, needs, length, ℤ}
+use Rattle.integers.proofs.Basics.{◌≡◌, refl, sym, ◌∙◌, true, ℕ, ◌+◌, ◌≤◌, arith, add-one, rules, length, ℤ}
 use mathlib.Core.List.{List, ◌++◌}
 use lib.ListN.{take}
 use lib.Seq.{length-take-le}
@@ -25,55 +25,55 @@ within m ok row h = omega (arith, steps-most m ok, h)
 long : (m : Model) → accepted m ≡ true → (row : List ℤ) → 257 ≡ length row → length (first m row) ≡ m.steps + 1
 long m ok row h = length-take-le (m.steps + 1) row (within m ok row h)
 
-add-size : tie.Need-overflow-add-size
-add-size c = omega (arith, steps-most c.before.before.args.model c.before.before.requires.0)
+add-size : tie.Need-overflow_add-size
+add-size c = omega (arith, steps-most c.args.model c.requires.0)
 
-array-borrow-prefix-bounds : tie.Need-array-borrow-prefix-bounds
-array-borrow-prefix-bounds c = within c.before.before.before.before.before.before.before.before.before.before.args.model c.before.before.before.before.before.before.before.before.before.before.requires.0 c.before.before.before.before.before.before.before.row.result c.before.before.before.before.before.before.before.row.ensures
+array-borrow-prefix-bounds : tie.Need-slice_bounds-bounds-end
+array-borrow-prefix-bounds c = within c.args.model c.requires.0 c.row-bounds.result c.row-bounds.ensures
 
-slice-aggregate-put-directions : tie.Need-slice-aggregate-put-directions
-slice-aggregate-put-directions c = sym (long c.before.before.before.before.before.before.before.before.before.before.before.args.model c.before.before.before.before.before.before.before.before.before.before.before.requires.0 c.before.before.before.before.before.before.before.before.row.result c.before.before.before.before.before.before.before.before.row.ensures)
+slice-aggregate-put-directions : tie.Need-slice_bounds-put_directions-end
+slice-aggregate-put-directions c = sym (long c.args.model c.requires.0 c.row-bounds.result c.row-bounds.ensures)
 
-array-borrow-prefix-slacks : tie.Need-array-borrow-prefix-slacks
-array-borrow-prefix-slacks c = within c.before.before.before.before.before.before.before.before.before.before.before.args.model c.before.before.before.before.before.before.before.before.before.before.before.requires.0 c.before.before.before.before.before.before.before.row2.result c.before.before.before.before.before.before.before.row2.ensures
+array-borrow-prefix-slacks : tie.Need-slice_bounds-slacks-end
+array-borrow-prefix-slacks c = within c.args.model c.requires.0 c.row-slacks.result c.row-slacks.ensures
 
-slice-aggregate-put-directions-2 : tie.Need-slice-aggregate-put-directions-2
-slice-aggregate-put-directions-2 c = sym (long c.before.before.before.before.before.before.before.before.before.before.before.before.args.model c.before.before.before.before.before.before.before.before.before.before.before.before.requires.0 c.before.before.before.before.before.before.before.before.row2.result c.before.before.before.before.before.before.before.before.row2.ensures)
+slice-aggregate-put-directions-2 : tie.Need-slice_bounds-put_directions-end-2
+slice-aggregate-put-directions-2 c = sym (long c.args.model c.requires.0 c.row-slacks.result c.row-slacks.ensures)
 
 -- the first line
-module _ (c : tie.After-put-line) where
+module _ (c : tie.After-put_line-end) where
   abbrev start : tie.Start
-  start = c.before.before.before.before.before.before.before.before
+  start = c.before.before.before.before.before.before.before.before.before.before
 
   abbrev model : Model
   model = start.args.model
 
   ok : accepted model ≡ true
-  ok = start.pre.0
+  ok = start.requires.0
 
-  head : Put 48 0 (line (word "model ") model.n (word " ") model.steps) start.args.out.now c.put-line.new.0 c.put-line.result
-  head = c.put-line.ensures.fits (omega (arith, start.pre.1))
+  head : Put 48 0 (line (word "model ") model.n (word " ") model.steps) start.args.out.now c.put_line-end.new.out c.put_line-end.result
+  head = c.put_line-end.ensures.fits (omega (arith, start.requires.1))
 
-put-directions-requires : tie.Need-put-directions-requires
+put-directions-requires : tie.Need-put_directions-end-requires
 put-directions-requires c κs =
     let w = c.before.before.before.before.before.before.before in
     let m = model w in (
       record {
         accepts = ok w;
         inside = (directions-range m (ok w)).0;
-        bounds-long = long m (ok w) c.before.before.before.before.before.before.before.before.before.before.before.before.row.result c.before.before.before.before.before.before.before.before.before.before.before.before.row.ensures ∙ add-one m.steps;
-        slacks-long = long m (ok w) c.before.before.before.before.before.before.before.before.before.before.before.row2.result c.before.before.before.before.before.before.before.before.before.before.before.row2.ensures ∙ add-one m.steps;
+        bounds-long = long m (ok w) c.row-bounds.result c.row-bounds.ensures ∙ add-one m.steps;
+        slacks-long = long m (ok w) c.row-slacks.result c.row-slacks.ensures ∙ add-one m.steps;
       },
       refl,
       refl,
       omega (arith, put-length (head w), put-near (head w), (start w).requires.1, (directions-range m (ok w)).1),
     )
 
-put-guards-requires : tie.Need-put-guards-requires
+put-guards-requires : tie.Need-put_guards-requires
 put-guards-requires c κs =
     let w = c.before.before.before.before.before.before.before.before.before.before.before.before.before.before.before in
     let m = model w in
-    let done = c.before.before.before.before.before.before.before.put-directions.ensures in (
+    let done = c.put_directions-end.ensures in (
       done.cases-noted,
       done.steps-noted,
       omega (arith, put-length done.lines, put-near done.lines, put-length (head w), put-near (head w), (start w).requires.1, (directions-range m (ok w)).1, (model-facts m (ok w)).guards-most),
@@ -88,23 +88,23 @@ returns : tie.Need-returns
 returns c =
     let w = c.before.before.before.before.before.before.before.before.before.before.before.before.before.before.before.before.before.before in
     let m = model w in
-    listed m (omega (arith, (directions-range m (ok w)).1, (model-facts m (ok w)).guards-most)) (put_then (put_then (head w) c.before.before.before.before.before.before.before.before.before.before.put-directions.ensures.lines) c.before.before.put-guards.ensures)
+    listed m (omega (arith, (directions-range m (ok w)).1, (model-facts m (ok w)).guards-most)) (put_then (put_then (head w) c.put_directions-end.ensures.lines) c.put_guards.ensures)
 
 pub put_listing_spec : {M : Type 1} → statement M
 put_listing_spec =
     tie.close
     (tie.spec
     add-size
-    (λ c κs. search needs)
-    (λ c κs. search needs)
-    (λ c. search needs)
-    (λ c. search needs)
-    (λ c κs. search needs)
+    (λ c κs. search rules)
+    (λ c κs. search rules)
+    (λ c. search rules)
+    (λ c. search rules)
+    (λ c κs. search rules)
     array-borrow-prefix-bounds
     slice-aggregate-put-directions
     array-borrow-prefix-slacks
     slice-aggregate-put-directions-2
     put-directions-requires
     put-guards-requires
-    (λ c. search needs)
+    (λ c. search rules)
     returns)

@@ -1,5 +1,5 @@
 -- `pepperscarp::pepperscarp_write` meets its contract, by that of `rewrite`, whose figure is small. Assumes nothing.
-use Rattle.integers.proofs.Basics.{◌≡◌, sym, ap, subst, ◌∙◌, ℕ, ◌<◌, needs}
+use Rattle.integers.proofs.Basics.{◌≡◌, sym, ap, subst, ◌∙◌, ℕ, ◌<◌, rules}
 use mathlib.Core.List.{List}
 use Rattle.writer.specs.declared.Rewritten.{Rewritten}
 use Rattle.writer.specs.Answers.{rewritten_figure, Rewrites}
@@ -15,10 +15,10 @@ reply file b {c = c} r p =
 
 rewritten-requires : tie.Need-rewritten-requires
 rewritten-requires c κs =
-    subst (λ (a : Rewritten). rewritten_figure a < figure_limit) (sym c.before.before.rewrite.ensures.answer) (rewritten-small _ _)
+    subst (λ (a : Rewritten). rewritten_figure a < figure_limit) (sym c.rewrite-answer.ensures.answer) (rewritten-small _ _)
 
 returns : tie.Need-returns
-returns c = reply _ _ c.before.before.before.rewrite.ensures c.rewritten.ensures
+returns c = reply _ _ c.rewrite-answer.ensures c.rewritten.ensures
 
 pub pepperscarp_write_spec : {M : Type 1} → statement M
-pepperscarp_write_spec = tie.close (tie.spec (λ c κs. search needs) rewritten-requires (λ c. search needs) returns)
+pepperscarp_write_spec = tie.close (tie.spec (λ c κs. search rules) rewritten-requires (λ c. search rules) returns)

@@ -13,47 +13,47 @@ record DividedSoFar (n rest k : ℕ) : Type 0 where
   digits : Digits n rest t
   count : k ≡ suc (length t)
 
-abbrev invariant-loop : tie.invariant-loop
+abbrev invariant-loop : tie.invariant-loop-rest
 invariant-loop n rest₀ k₀ rest k = DividedSoFar n rest k
 
-abbrev decreases-loop : tie.decreases-loop
+abbrev decreases-loop : tie.decreases-loop-rest
 decreases-loop n rest₀ k₀ rest k = rest
 
-loop-holds : tie.Need-loop-init invariant-loop decreases-loop
+loop-holds : tie.Need-loop-rest-init invariant-loop decreases-loop
 loop-holds c = record { t = []; digits = digits-none c.args.n c.ranges.n.fits; count = refl }
 
-add-k : tie.Need-overflow-add-k invariant-loop decreases-loop
+add-k : tie.Need-overflow_add-k invariant-loop decreases-loop
 add-k c =
-    let so = c.before.loop.invariant in
-    omega (arith, so.count, digits-left _ _ _ so.digits, length-decimal c.before.before.args.n)
+    let so = c.loop-rest.invariant in
+    omega (arith, so.count, digits-left _ _ _ so.digits, length-decimal c.args.n)
 
-loop-again : tie.Need-loop-preserved invariant-loop decreases-loop
+loop-again : tie.Need-loop-rest-preserved invariant-loop decreases-loop
 loop-again c =
-    let so = c.before.loop.invariant in
-    let rest = c.before.loop.rest in
+    let so = c.loop-rest.invariant in
+    let rest = c.loop-rest.rest in
     record {
       t = digit (rest % 100 / 10) ∷ digit (rest % 100 % 10) ∷ so.t;
-      digits = digits-pair c.before.before.args.n rest so.t c.loop-test.true so.digits;
+      digits = digits-pair c.args.n rest so.t c.loop-rest-test.true so.digits;
       count = omega (arith, so.count);
     }
 
-add-result : tie.Need-overflow-add-result invariant-loop decreases-loop
+add-result : tie.Need-overflow_add-result invariant-loop decreases-loop
 add-result c =
-    let so = c.before.before.loop.invariant in
-    omega (arith, so.count, digits-left _ _ _ so.digits, length-decimal c.before.before.before.args.n)
+    let so = c.loop-rest.invariant in
+    omega (arith, so.count, digits-left _ _ _ so.digits, length-decimal c.args.n)
 
-returns : tie.Need-returns invariant-loop decreases-loop
+returns : tie.Need-returns-then-rest-ge10 invariant-loop decreases-loop
 returns c =
     let l = c.before.before in
-    let so = l.loop.invariant in
-    let all = ap length (digits-all-two l.before.args.n l.loop.rest so.t c.if1.true c.before.loop-test.false so.digits) in
+    let so = l.loop-rest.invariant in
+    let all = ap length (digits-all-two l.args.n l.loop-rest.rest so.t c.if-rest-ge10.true c.loop-rest-test.false so.digits) in
     omega (arith, so.count, all)
 
-returns-2 : tie.Need-returns-2 invariant-loop decreases-loop
+returns-2 : tie.Need-returns invariant-loop decreases-loop
 returns-2 c =
     let l = c.before.before in
-    let so = l.loop.invariant in
-    let all = ap length (digits-all l.before.args.n l.loop.rest so.t c.if1.false so.digits) in
+    let so = l.loop-rest.invariant in
+    let all = ap length (digits-all l.args.n l.loop-rest.rest so.t c.if-rest-ge10.false so.digits) in
     omega (arith, so.count, all)
 
 pub places_spec : {M : Type 1} → statement M

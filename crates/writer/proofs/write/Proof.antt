@@ -1,6 +1,6 @@
 -- `writer::write` meets its contract: the two tests are made in order, and where both pass the file is put, which `ReadBack` says is read
 -- as the model. That the model is a stored one is known by its type. Assumes nothing.
-use Rattle.integers.proofs.Basics.{◌≡◌, sym, ◌∙◌, arith, needs}
+use Rattle.integers.proofs.Basics.{◌≡◌, sym, ◌∙◌, arith, rules}
 use mathlib.Core.Bool.{true}
 use borrow.Author.Tests.{not-true, not-false}
 use Rattle.reachability.specs.Limits.{accepted}
@@ -9,36 +9,36 @@ use Rattle.writer.proofs.Answering.{writes-invalid, writes_short, writes-all}
 use Rattle.writer.proofs.write.Statement.{statement}
 use Rattle.writer.proofs.write.Tie as tie
 
-returns : tie.Need-returns
-returns c = writes-invalid _ _ (sym c.before.accepts.ensures ∙ not-true _ c.if1.true)
+returns : tie.Need-returns-then-not-accepts
+returns c = writes-invalid _ _ (sym c.accepts.ensures ∙ c.if-not-accepts.true)
 
 -- the model is accepted
-ok : (c : tie.Else1) → accepted c.before.before.before.args.model ≡ true
-ok c = sym c.before.accepts.ensures ∙ not-false _ c.if1.false
+ok : (c : tie.Else-not-accepts) → accepted c.args.model ≡ true
+ok c = sym c.accepts.ensures ∙ c.if-not-accepts.false
 
-size-of-requires : tie.Need-size-of-requires
+size-of-requires : tie.Need-size_of-size-requires
 size-of-requires c κs = ok c
 
-returns-2 : tie.Need-returns-2
-returns-2 c = writes_short _ _ (ok c.before.before) (omega (arith, c.if2.true, c.before.type_size.ensures))
+returns-2 : tie.Need-returns-then-out-size
+returns-2 c = writes_short _ _ (ok c.before.before) (omega (arith, c.if-out-size.true, c.size_of-size.ensures))
 
-put-model-requires : tie.Need-put-model-requires
-put-model-requires c κs = (ok c.before.before.before, omega (arith, c.before.if2.false, c.before.before.type_size.ensures))
+put-model-requires : tie.Need-put_model-requires
+put-model-requires c κs = (ok c.before.before.before, omega (arith, c.if-out-size.false, c.size_of-size.ensures))
 
-returns-3 : tie.Need-returns-3
+returns-3 : tie.Need-returns
 returns-3 c =
     let put = c.before.before in
     let tests = put.before.before in
-    writes-all _ _ (stored-model _ tests.before.before.before.before.before.well-formed.0) (ok tests.before.before) (omega (arith, tests.if2.false, tests.before.type_size.ensures)) put.put-model.ensures
+    writes-all _ _ (stored-model _ tests.well_formed.0) (ok tests.before.before) (omega (arith, tests.if-out-size.false, tests.size_of-size.ensures)) put.put_model.ensures
 
 pub write_spec : {M : Type 1} → statement M
 write_spec =
     tie.close
     (tie.spec
-    (λ c κs. search needs)
+    (λ c κs. search rules)
     returns
     size-of-requires
     returns-2
     put-model-requires
-    (λ c. search needs)
+    (λ c. search rules)
     returns-3)

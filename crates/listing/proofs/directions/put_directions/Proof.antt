@@ -21,14 +21,14 @@ record DirectionsPut (m : Model) (at : ℕ) (out₀ : List ℕ) (bounds slacks :
   steps-noted : Noted m d step_of steps
   lines : Put (d * 16758) at (each d (direction_text m)) out₀ out end
 
-abbrev invariant-loop : tie.invariant-loop
+abbrev invariant-loop : tie.invariant-loop-d
 invariant-loop model bounds₀ slacks₀ cases₀ steps₀ out₀ at end₀ d₀ bounds slacks cases steps out end d =
     DirectionsPut model at out₀ bounds slacks cases steps out end d
 
-abbrev decreases-loop : tie.decreases-loop
+abbrev decreases-loop : tie.decreases-loop-d
 decreases-loop model bounds₀ slacks₀ cases₀ steps₀ out₀ at end₀ d₀ bounds slacks cases steps out end d = model.questions.directions - d
 
-loop-holds : tie.Need-loop-init invariant-loop decreases-loop
+loop-holds : tie.Need-loop-d-init invariant-loop decreases-loop
 loop-holds c =
     let start = c.before in
     let a = start.args in
@@ -41,10 +41,10 @@ loop-holds c =
       lines = put-none 0 a.at a.out.now (omega (arith, start.requires.3));
     }
 
-put-direction-requires : tie.Need-put-direction-requires invariant-loop decreases-loop
+put-direction-requires : tie.Need-put_direction-end-requires invariant-loop decreases-loop
 put-direction-requires c κs =
-    let so = c.before.before.before.before.before.before.before.loop.invariant in
-    let inside = c.before.before.before.before.before.if1.true in
+    let so = c.loop-d.invariant in
+    let inside = c.loop-d-test.true in
     let start = c.before.before.before.before.before.before.before.before.before in (
       record { accepts = start.requires.0.accepts; inside = inside; bounds-long = so.bounds-long; slacks-long = so.slacks-long },
       so.cases-noted.long,
@@ -52,43 +52,43 @@ put-direction-requires c κs =
       omega (arith, put-length so.lines, put-near so.lines, start.requires.3, inside),
     )
 
-add-d : tie.Need-overflow-add-d invariant-loop decreases-loop
-add-d c = omega (arith, (directions-range c.before.before.before.before.before.before.before.before.before.before.before.before.before.before.args.model c.before.before.before.before.before.before.before.before.before.before.before.before.before.before.requires.0.accepts).1, c.before.before.before.before.before.before.before.before.before.before.if1.true)
+add-d : tie.Need-overflow_add-d invariant-loop decreases-loop
+add-d c = omega (arith, (directions-range c.args.model c.requires.0.accepts).1, c.loop-d-test.true)
 
-loop-less : tie.Need-loop-smaller invariant-loop decreases-loop
-loop-less c = omega (arith, c.before.before.before.before.before.before.before.before.before.before.if1.true)
+loop-less : tie.Need-loop-d-smaller invariant-loop decreases-loop
+loop-less c = omega (arith, c.loop-d-test.true)
 
-loop-again : tie.Need-loop-preserved invariant-loop decreases-loop
+loop-again : tie.Need-loop-d-preserved invariant-loop decreases-loop
 loop-again c =
-    let so = c.before.before.before.before.before.before.before.before.before.before.before.before.loop.invariant in
-    let l = c.before.before.before.before.before.before.before.before.before.before.before.before.loop in
-    let done = c.before.before.before.before.put-direction in
-    let a = c.before.before.before.before.before.before.before.before.before.before.before.before.before.before.args in
+    let so = c.loop-d.invariant in
+    let l = c.loop-d in
+    let done = c.put_direction-end in
+    let a = c.args in
     record {
-      passed = omega (arith, c.before.before.before.before.before.before.before.before.before.before.if1.true);
+      passed = omega (arith, c.loop-d-test.true);
       bounds-long = done.auto.1.1.0 ∙ so.bounds-long;
       slacks-long = done.auto.1.1.1.0 ∙ so.slacks-long;
       cases-noted = noted_more a.model case_of l.d l.cases _ so.cases-noted done.ensures.cases-noted;
       steps-noted = noted_more a.model step_of l.d l.steps _ so.steps-noted done.ensures.steps-noted;
-      lines = subst (λ (j : ℕ). Put (j * 16758) a.at (each j (direction_text a.model)) a.out.now done.new.1.1.1.1.1.1.0 done.result) (sym (add-one l.d)) (put-most (suc l.d * 16758) (omega arith) (put_then so.lines done.ensures.lines));
+      lines = subst (λ (j : ℕ). Put (j * 16758) a.at (each j (direction_text a.model)) a.out.now done.new.out done.result) (sym (add-one l.d)) (put-most (suc l.d * 16758) (omega arith) (put_then so.lines done.ensures.lines));
     }
 
 same_length : tie.Need-same-length invariant-loop decreases-loop
-same_length c = c.before.before.loop.invariant.bounds-long ∙ sym c.before.before.before.before.requires.0.bounds-long
+same_length c = c.before.before.loop-d.invariant.bounds-long ∙ sym c.before.before.before.before.requires.0.bounds-long
 
 same-length-2 : tie.Need-same-length-2 invariant-loop decreases-loop
-same-length-2 c = c.before.before.loop.invariant.slacks-long ∙ sym c.before.before.before.before.requires.0.slacks-long
+same-length-2 c = c.before.before.loop-d.invariant.slacks-long ∙ sym c.before.before.before.before.requires.0.slacks-long
 
 same-length-3 : tie.Need-same-length-3 invariant-loop decreases-loop
-same-length-3 c = put-length c.before.before.loop.invariant.lines
+same-length-3 c = put-length c.before.before.loop-d.invariant.lines
 
 returns : tie.Need-returns invariant-loop decreases-loop
 returns c =
-    let so = c.before.before.loop.invariant in
-    let l = c.before.before.loop in
-    let a = c.before.before.before.before.args in
-    let ok = c.before.before.before.before.requires.0.accepts in
-    let all : l.d ≡ a.model.questions.directions = omega (arith, so.passed, c.if1.false) in
+    let so = c.loop-d.invariant in
+    let l = c.loop-d in
+    let a = c.args in
+    let ok = c.requires.0.accepts in
+    let all : l.d ≡ a.model.questions.directions = omega (arith, so.passed, c.loop-d-test.false) in
     record {
       lines = subst (λ (j : ℕ). Put (j * 16758) a.at (each j (direction_text a.model)) a.out.now l.out l.end) all so.lines;
       cases-noted = noted-all a.model case_of l.cases ok (subst (λ (j : ℕ). Noted a.model j case_of l.cases) all so.cases-noted);

@@ -1,5 +1,5 @@
 -- `pepperscarp::packing::limited` meets its contract, by the answer's cases. Assumes nothing.
-use Rattle.integers.proofs.Basics.{sym, ap, subst, ◌∙◌, ◌<◌, needs}
+use Rattle.integers.proofs.Basics.{sym, ap, subst, ◌∙◌, ◌<◌, rules}
 use Rattle.calm.specs.Answers.{limited_figure}
 use Rattle.calm.specs.declared.Limited.{Limited}
 use Rattle.pepperscarp.specs.Packing.{limited_packed, figure_limit}
@@ -7,32 +7,32 @@ use Rattle.pepperscarp.proofs.packing.limited.Statement.{statement}
 use Rattle.pepperscarp.proofs.packing.limited.Tie as tie
 
 pack-requires : tie.Need-pack-requires
-pack-requires c κs = subst (λ (a : Limited). limited_figure a < figure_limit) c.before.answer.given.1 c.before.before.before.requires
+pack-requires c κs = subst (λ (a : Limited). limited_figure a < figure_limit) c.in-Limit.is c.requires
 
-returns : tie.Need-returns
-returns c = c.pack.ensures ∙ sym (ap limited_packed c.before.before.answer.given.1)
+returns : tie.Need-returns-in-Limit
+returns c = c.pack.ensures ∙ sym (ap limited_packed c.in-Limit.is)
 
-returns-2 : tie.Need-returns-2
-returns-2 c = c.pack2.ensures ∙ sym (ap limited_packed c.before.enum_told.given.1)
+returns-2 : tie.Need-returns-in-Invalid
+returns-2 c = c.pack-in-Invalid.ensures ∙ sym (ap limited_packed c.in-Invalid.is)
 
-returns-3 : tie.Need-returns-3
-returns-3 c = c.pack3.ensures ∙ sym (ap limited_packed c.before.enum-told2.given.1)
+returns-3 : tie.Need-returns-in-NotCalm
+returns-3 c = c.pack-in-NotCalm.ensures ∙ sym (ap limited_packed c.in-NotCalm.is)
 
-returns-4 : tie.Need-returns-4
-returns-4 c = c.pack4.ensures ∙ sym (ap limited_packed c.before.enum-told3.given.1)
+returns-4 : tie.Need-returns-in-NoStep
+returns-4 c = c.pack-in-NoStep.ensures ∙ sym (ap limited_packed c.in-NoStep.is)
 
 pub limited_spec : {M : Type 1} → statement M
 limited_spec =
     tie.close
     (tie.spec
-    (λ c. search needs)
+    (λ c. search rules)
     pack-requires
-    (λ c. search needs)
-    (λ c κs. search needs)
-    (λ c. search needs)
-    (λ c κs. search needs)
-    (λ c. search needs)
-    (λ c κs. search needs)
+    (λ c. search rules)
+    (λ c κs. search rules)
+    (λ c. search rules)
+    (λ c κs. search rules)
+    (λ c. search rules)
+    (λ c κs. search rules)
     returns
     returns-2
     returns-3

@@ -1,6 +1,6 @@
 -- `reader::take::point_number` meets its contract: the corners and the reach are 6, the sum with the drift is 17, and a sum within its
 -- limit leaves nothing to say of the reach. Assumes nothing.
-use Rattle.integers.proofs.Basics.{◌≡◌, refl, sym, ap, ap₂, ◌∙◌, Bool, true, false, ℕ, ℤ, needs}
+use Rattle.integers.proofs.Basics.{◌≡◌, refl, sym, ap, ap₂, ◌∙◌, Bool, true, false, ℕ, ℤ, rules}
 use mathlib.Core.Bool.{not, ◌&&◌, ◌||◌}
 use mathlib.Core.List.{List}
 use borrow.Author.Tests.{not-true, not-false}
@@ -28,62 +28,62 @@ unfolding number_by
 by-corners input true enters = refl
 by-corners input false enters = refl
 
-returns : tie.Need-returns
+returns : tie.Need-returns-then-not-corners_ok
 returns c =
-    let a = c.before.before.before.before.args in
-    sym (by_tests a.input a.n a.point a.set a.drift.now refl (sym c.before.corners-ok.ensures ∙ not-true _ c.if1.true) refl refl ∙ by-corners a.input _ _)
+    let a = c.args in
+    sym (by_tests a.input a.n a.point a.set a.drift.now refl (sym c.corners_ok.ensures ∙ c.if-not-corners_ok.true) refl refl ∙ by-corners a.input _ _)
 
 -- the corners have passed
-module _ (c : tie.Else1) where
+module _ (c : tie.Else-not-corners_ok) where
   abbrev start : tie.Start
   start = c.before.before.before.before
 
   number : {i r e : Bool} → start.args.input ≡ i → reach_within start.args.set.shape start.args.set.count start.args.set.points ≡ r → entering_within start.args.set.shape start.args.set.count start.args.set.points start.args.drift.now ≡ e → number_by i true r e ≡ point_number_of start.args.input start.args.n start.args.point start.args.set start.args.drift.now
   number p u w =
       let a = start.args in
-      sym (by_tests a.input a.n a.point a.set a.drift.now p (sym c.before.corners-ok.ensures ∙ not-false _ c.if1.false) u w)
+      sym (by_tests a.input a.n a.point a.set a.drift.now p (sym c.corners_ok.ensures ∙ c.if-not-corners_ok.false) u w)
 
-returns-2 : tie.Need-returns-2
+returns-2 : tie.Need-returns-then-entering_within
 unfolding number_by
 returns-2 c =
     let at-input = c.before.before.before in
-    let enters = sym c.before.entering-within.ensures ∙ c.if3.true in
+    let enters = sym c.entering_within.ensures ∙ c.if-entering_within.true in
     let a = (start at-input.before).args in
-    number at-input.before at-input.if2.true (within-alone a.set.shape a.set.count a.set.points a.drift.now enters) enters
+    number at-input.before at-input.if-input.true (within-alone a.set.shape a.set.count a.set.points a.drift.now enters) enters
 
-returns-3 : tie.Need-returns-3
+returns-3 : tie.Need-returns-then-own
 unfolding number_by
 returns-3 c =
     let at_sum = c.before.before.before in
     let at-input = at_sum.before.before.before in
-    number at-input.before at-input.if2.true (sym c.before.reach-within.ensures ∙ c.if4.true) (sym at_sum.before.entering-within.ensures ∙ at_sum.if3.false)
+    number at-input.before at-input.if-input.true (sym c.reach_within-own.ensures ∙ c.if-own.true) (sym at_sum.entering_within.ensures ∙ at_sum.if-entering_within.false)
 
-returns-4 : tie.Need-returns-4
+returns-4 : tie.Need-returns-else-own
 unfolding number_by
 returns-4 c =
     let at_sum = c.before.before.before in
     let at-input = at_sum.before.before.before in
-    number at-input.before at-input.if2.true (sym c.before.reach-within.ensures ∙ c.if4.false) (sym at_sum.before.entering-within.ensures ∙ at_sum.if3.false)
+    number at-input.before at-input.if-input.true (sym c.reach_within-own.ensures ∙ c.if-own.false) (sym at_sum.entering_within.ensures ∙ at_sum.if-entering_within.false)
 
-returns-5 : tie.Need-returns-5
+returns-5 : tie.Need-returns-then-reach_within
 unfolding number_by
-returns-5 c = number c.before.before.before.before c.before.before.before.if2.false (sym c.before.reach-within2.ensures ∙ c.if5.true) refl
+returns-5 c = number c.before.before.before.before c.if-input.false (sym c.reach_within.ensures ∙ c.if-reach_within.true) refl
 
-returns-6 : tie.Need-returns-6
+returns-6 : tie.Need-returns-else-reach_within
 unfolding number_by
-returns-6 c = number c.before.before.before.before c.before.before.before.if2.false (sym c.before.reach-within2.ensures ∙ c.if5.false) refl
+returns-6 c = number c.before.before.before.before c.if-input.false (sym c.reach_within.ensures ∙ c.if-reach_within.false) refl
 
 pub point_number_spec : {M : Type 1} → statement M
 point_number_spec =
     tie.close
     (tie.spec
-    (λ c κs. search needs)
+    (λ c κs. search rules)
     returns
-    (λ c κs. search needs)
+    (λ c κs. search rules)
     returns-2
-    (λ c κs. search needs)
+    (λ c κs. search rules)
     returns-3
     returns-4
-    (λ c κs. search needs)
+    (λ c κs. search rules)
     returns-5
     returns-6)

@@ -1,5 +1,5 @@
 -- `reader::take::take_drift` meets its contract. Assumes nothing.
-use Rattle.integers.proofs.Basics.{sym, ap, ◌∙◌, ℤ, arith, needs}
+use Rattle.integers.proofs.Basics.{sym, ap, ◌∙◌, ℤ, arith, rules}
 use mathlib.Core.List.{List}
 use borrow.Author.Tests.{not-true, not-false}
 use Rattle.reachability.specs.Sets.{reach_limit}
@@ -9,19 +9,19 @@ use Rattle.reader.proofs.take.Taking.{taken_as, takes-refused, takes-passed}
 use Rattle.reader.proofs.take.take_drift.Statement.{statement}
 use Rattle.reader.proofs.take.take_drift.Tie as tie
 
-returns : tie.Need-returns
+returns : tie.Need-returns-then-not-all_between
 unfolding drift_ok
 returns c =
-    takes-refused 17 (ap (within reach_limit) (sym c.before.before.before.six-at.ensures) ∙ sym c.before.all-between.ensures ∙ not-true _ c.if1.true) (omega arith)
+    takes-refused 17 (ap (within reach_limit) (sym c.six_at-drift.ensures) ∙ sym c.all_between.ensures ∙ c.if-not-all_between.true) (omega arith)
 
-returns-2 : tie.Need-returns-2
+returns-2 : tie.Need-returns
 unfolding drift_ok with_drift
 returns-2 c =
     let at-six = c.before.before.before.before in
-    let a = at-six.before.before.args in
-    takes-passed 17 (ap (within reach_limit) (sym at-six.six-at.ensures) ∙ sym c.before.before.all-between.ensures ∙ not-false _ c.before.if1.false)
-    (ap (λ (six : List ℤ). taken_as (state_of a.layout.place a.state.rows (set_drift a.state.model six))) at-six.six-at.ensures)
+    let a = at-six.args in
+    takes-passed 17 (ap (within reach_limit) (sym at-six.six_at-drift.ensures) ∙ sym c.all_between.ensures ∙ c.if-not-all_between.false)
+    (ap (λ (six : List ℤ). taken_as (state_of a.layout.place a.state.rows (set_drift a.state.model six))) at-six.six_at-drift.ensures)
 
 pub take_drift_spec : {M : Type 1} → statement M
 take_drift_spec =
-    tie.close (tie.spec (λ c κs. search needs) (λ c. search needs) (λ c κs. search needs) returns returns-2)
+    tie.close (tie.spec (λ c κs. search rules) (λ c. search rules) (λ c κs. search rules) returns returns-2)

@@ -17,10 +17,10 @@ record Passed (at count n : ℕ) (b c : List ℕ) (rest j : ℕ) : Type 0 where
   left : rest ≡ shifted j n
   put : Put j at (bytes_of j n) b c (at + j)
 
-abbrev invariant-loop : tie.invariant-loop
+abbrev invariant-loop : tie.invariant-loop-j
 invariant-loop out₀ at count n rest₀ j₀ out rest j = Passed at count n out₀ out rest j
 
-abbrev decreases-loop : tie.decreases-loop
+abbrev decreases-loop : tie.decreases-loop-j
 decreases-loop out₀ at count n rest₀ j₀ out rest j = count - j
 
 passed_none : (at count n : ℕ) (b : List ℕ) → at ≤ length b → Passed at count n b b n 0
@@ -43,28 +43,28 @@ passed-more {at} {count} {n} {b} {c} {rest} {j} p more room =
     ends : at + j + 1 ≡ at + (j + 1)
     ends = omega arith
 
-loop-holds : tie.Need-loop-init invariant-loop decreases-loop
+loop-holds : tie.Need-loop-j-init invariant-loop decreases-loop
 loop-holds c =
     let a = c.args in
     passed_none a.at a.count a.n a.out.now (omega (arith, c.requires))
 
-loop-again : tie.Need-loop-preserved invariant-loop decreases-loop
+loop-again : tie.Need-loop-j-preserved invariant-loop decreases-loop
 loop-again c =
-    let l = c.before.loop in
-    passed-more l.invariant (omega (arith, c.loop-test.true)) c.before.before.requires
+    let l = c.loop-j in
+    passed-more l.invariant (omega (arith, c.loop-j-test.true)) c.requires
 
 returns : tie.Need-returns invariant-loop decreases-loop
 returns c =
-    let a = c.before.before.args in
-    let l = c.before.loop in
-    let all : l.j ≡ a.count = omega (arith, l.invariant.within, c.loop-test.false) in
+    let a = c.args in
+    let l = c.loop-j in
+    let all : l.j ≡ a.count = omega (arith, l.invariant.within, c.loop-j-test.false) in
     subst (λ (k : ℕ). Put k a.at (bytes_of k a.n) a.out.now l.out (a.at + k)) all l.invariant.put
 
-slice-write-out : tie.Need-slice-write-out invariant-loop decreases-loop
-slice-write-out c = omega (arith, put-length c.before.loop.invariant.put, c.before.before.requires, c.loop-test.true)
+slice-write-out : tie.Need-bounds-out-at invariant-loop decreases-loop
+slice-write-out c = omega (arith, put-length c.loop-j.invariant.put, c.requires, c.loop-j-test.true)
 
 same_length : tie.Need-same-length invariant-loop decreases-loop
-same_length c = put-length c.before.loop.invariant.put
+same_length c = put-length c.before.loop-j.invariant.put
 
 pub put_number_spec : {M : Type 1} → statement M
 put_number_spec =

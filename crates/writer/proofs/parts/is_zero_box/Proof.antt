@@ -1,5 +1,5 @@
 -- `writer::parts::is_zero_box` meets its contract: each arm is the definition's case. Assumes nothing.
-use Rattle.integers.proofs.Basics.{◌≡◌, sym, ap, ◌∙◌, arith, needs}
+use Rattle.integers.proofs.Basics.{◌≡◌, sym, ap, ◌∙◌, arith, rules}
 use mathlib.Core.Bool.{◌&&◌}
 use borrow.Author.Tests.{eq-eqb, ne_eqb}
 use lib.Dec.{eqb}
@@ -16,34 +16,34 @@ of-shape : (s : Set) (shape : Shape) → s.shape ≡ shape → is_box shape && (
 unfolding is_zero_box
 of-shape s shape e = ap (λ (x : Shape). is_box x && (eqb s.count 2 && zero_outside 0 0 s.points)) (sym e)
 
-returns : tie.Need-returns
+returns : tie.Need-returns-then-set-eq2
 returns c =
-    let set = c.before.before.before.before.before.before.before.args.set in
-    let two = eq-eqb set.count 2 (omega (arith, c.if1.true)) in
-    let outside : c.before.before.before.before.zero-outside.result ≡ zero_outside 0 0 set.points = c.before.before.before.before.zero-outside.ensures in
-    outside ∙ sym (and-skip (zero_outside 0 0 set.points) two) ∙ of-shape set _ c.before.before.enum_told.given.1
+    let set = c.args.set in
+    let two = eq-eqb set.count 2 (omega (arith, c.if-set-eq2.true)) in
+    let outside : c.zero_outside-zero.result ≡ zero_outside 0 0 set.points = c.zero_outside-zero.ensures in
+    outside ∙ sym (and-skip (zero_outside 0 0 set.points) two) ∙ of-shape set _ c.in-Box.is
 
-returns-2 : tie.Need-returns-2
+returns-2 : tie.Need-returns-else-set-eq2
 returns-2 c =
-    let set = c.before.before.before.before.before.before.before.args.set in
-    let other = ne_eqb set.count 2 (omega (arith, c.if1.false)) in
-    other ∙ sym (and-stop (zero_outside 0 0 set.points) other) ∙ of-shape set _ c.before.before.enum_told.given.1
+    let set = c.args.set in
+    let other = ne_eqb set.count 2 (omega (arith, c.if-set-eq2.false)) in
+    other ∙ sym (and-stop (zero_outside 0 0 set.points) other) ∙ of-shape set _ c.in-Box.is
 
-returns-3 : tie.Need-returns-3
-returns-3 c = of-shape c.before.before.before.before.before.args.set _ c.enum-told2.given.1
+returns-3 : tie.Need-returns-in-Zonotope
+returns-3 c = of-shape c.args.set _ c.in-Zonotope.is
 
-returns-4 : tie.Need-returns-4
-returns-4 c = of-shape c.before.before.before.before.before.args.set _ c.enum-told3.given.1
+returns-4 : tie.Need-returns-in-Vertices
+returns-4 c = of-shape c.args.set _ c.in-Vertices.is
 
 pub is_zero_box_spec : {M : Type 1} → statement M
 is_zero_box_spec =
     tie.close
     (tie.spec
-    (λ c. search needs)
-    (λ c κs. search needs)
-    (λ c. search needs)
-    (λ c. search needs)
-    (λ c. search needs)
+    (λ c. search rules)
+    (λ c κs. search rules)
+    (λ c. search rules)
+    (λ c. search rules)
+    (λ c. search rules)
     returns
     returns-2
     returns-3

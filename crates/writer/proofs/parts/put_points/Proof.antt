@@ -1,5 +1,5 @@
 -- `writer::parts::put_points` meets its contract: each arm is the definition's case. Assumes nothing.
-use Rattle.integers.proofs.Basics.{◌≡◌, sym, ap, ap₂, ◌∙◌, ℕ, ◌+◌, ◌*◌, ◌≤◌, arith, needs, length}
+use Rattle.integers.proofs.Basics.{◌≡◌, sym, ap, ap₂, ◌∙◌, ℕ, ◌+◌, ◌*◌, ◌≤◌, arith, rules, length}
 use mathlib.Core.List.{List}
 use Rattle.reachability.specs.declared.sets.Shape.{Shape}
 use Rattle.reachability.specs.declared.sets.Shape.TheVariants.{Box, Zonotope, Vertices}
@@ -14,57 +14,57 @@ records : (c : tie.Start) (shape : Shape) → c.args.set.shape ≡ shape → {fi
 records c shape e first-is other-is p =
     put_is _ (ap₂ (λ (f o : ℕ). vector_records f o c.args.count c.args.set.points) (first-is ∙ ap (first_kind c.args.part) (sym e)) (other-is ∙ ap (other_kind c.args.part) (sym e))) p
 
-returns : tie.Need-returns
+returns : tie.Need-returns-in-Box
 returns c =
     let at_told = c.before.before.before.before.before in
-    records at_told.before.before.before.before Box at_told.enum_told.given.1 (omega arith) (omega arith) c.before.before.put-vectors.ensures
+    records at_told.before.before.before Box at_told.in-Box.is (omega arith) (omega arith) c.put_vectors.ensures
 
-returns-2 : tie.Need-returns-2
+returns-2 : tie.Need-returns-in-Zonotope
 returns-2 c =
     let at_told = c.before.before.before.before.before in
-    records at_told.before.before.before.before Zonotope at_told.enum-told2.given.1 (omega arith) (omega arith) c.before.before.put-vectors2.ensures
+    records at_told.before.before.before Zonotope at_told.in-Zonotope.is (omega arith) (omega arith) c.put_vectors-in-Zonotope.ensures
 
-returns-3 : tie.Need-returns-3
+returns-3 : tie.Need-returns-in-Vertices
 returns-3 c =
     let at_told = c.before.before.before.before.before in
-    records at_told.before.before.before.before Vertices at_told.enum-told3.given.1 (omega arith) (omega arith) c.before.before.put-vectors3.ensures
+    records at_told.before.before.before Vertices at_told.in-Vertices.is (omega arith) (omega arith) c.put_vectors-in-Vertices.ensures
 
 -- there is room, and there are so many points
 fits : (c : tie.Start) → (c.args.at + 25 * c.args.count ≤ length c.args.out.now) × (6 * c.args.count ≤ length c.args.set.points)
 fits c =
-    let long : length c.args.set.points ≡ 96 = search (needs, c.well-formed.1.1.1.0) in
+    let long : length c.args.set.points ≡ 96 = search (rules, c.well_formed.1.1.1.0) in
     (c.requires.2, omega (arith, long, c.requires.1))
 
-put-vectors-requires : tie.Need-put-vectors-requires
-put-vectors-requires c κs = fits c.before.before.before.before.before.before
+put-vectors-requires : tie.Need-put_vectors-requires
+put-vectors-requires c κs = fits c.before.before.before.before.before
 
-put-vectors-requires-2 : tie.Need-put-vectors-requires-2
-put-vectors-requires-2 c κs = fits c.before.before.before.before.before.before
+put-vectors-requires-2 : tie.Need-put_vectors-requires-in-Zonotope
+put-vectors-requires-2 c κs = fits c.before.before.before.before.before
 
-put-vectors-requires-3 : tie.Need-put-vectors-requires-3
-put-vectors-requires-3 c κs = fits c.before.before.before.before.before.before
+put-vectors-requires-3 : tie.Need-put_vectors-requires-in-Vertices
+put-vectors-requires-3 c κs = fits c.before.before.before.before.before
 
 pub put_points_spec : {M : Type 1} → statement M
 put_points_spec =
     tie.close
     (tie.spec
-    (λ c. search needs)
-    (λ c. search needs)
-    (λ c. search needs)
+    (λ c. search rules)
+    (λ c. search rules)
+    (λ c. search rules)
     put-vectors-requires
-    (λ c. search needs)
-    (λ c. search needs)
-    (λ c. search needs)
-    (λ c. search needs)
+    (λ c. search rules)
+    (λ c. search rules)
+    (λ c. search rules)
+    (λ c. search rules)
     put-vectors-requires-2
-    (λ c. search needs)
-    (λ c. search needs)
-    (λ c. search needs)
-    (λ c. search needs)
+    (λ c. search rules)
+    (λ c. search rules)
+    (λ c. search rules)
+    (λ c. search rules)
     put-vectors-requires-3
-    (λ c. search needs)
+    (λ c. search rules)
     returns
-    (λ c. search needs)
+    (λ c. search rules)
     returns-2
-    (λ c. search needs)
+    (λ c. search rules)
     returns-3)
