@@ -40,7 +40,6 @@ put_signed_spec =
     (tie.spec
     (λ c κs. search rules)
     returns
-    (λ c. search rules)
     (λ c κs. search rules)
     (λ c κs. search rules)
     (λ c κs. search rules)
