@@ -15,7 +15,7 @@ use Rattle.reachability.proofs.model.Lengths.{IsModel, lengths}
 use Rattle.writer.specs.OneForm.{Stored}
 
 -- each element of an array of i64, as a struct's field has them, fits
-elements-fit : (xs : List ℤ) (us : List Val) → shadow (each ℤ (SInt w64).own_val (map (λ (z : ℤ). z) xs) us) → (k : ℕ) → SFits w64 (get_or xs k (pos 0))
+elements-fit : (xs : List ℤ) (us : List Val) → shadow (each ℤ (SInt w64).own_val xs us) → (k : ℕ) → SFits w64 (get_or xs k (pos 0))
 elements-fit [] us s k = record { sfits = omega arith }
 elements-fit (x ∷ xs) [] s k = absurd s
 elements-fit (x ∷ xs) (u ∷ us) s zero = record { sfits = s.0.1 }

@@ -14,15 +14,15 @@ use Rattle.writer.proofs.rewrite.Statement.{statement}
 use Rattle.writer.proofs.rewrite.Tie as tie
 
 -- from the reading and the answer to the model, as the code has them
-by : (file b : List ℕ) {c : List ℕ} (reading : Reading) {w : Written} {a : Rewritten} → reading ≡ read_model file → reading.in-Refused ≡ Read → Writes reading.model b w c → of_written w ≡ a → Rewrites file b a c
+by : (file b : List ℕ) {c : List ℕ} (reading : Reading) {w : Written} {a : Rewritten} → reading ≡ read_model file → reading.status ≡ Read → Writes reading.model b w c → of_written w ≡ a → Rewrites file b a c
 by file b {c} reading {w} e status writes is =
     subst (λ (x : Rewritten). Rewrites file b x c) is
-    (rewrites-read file b (sym (ap (λ (r : Reading). r.in-Refused) e) ∙ status) (subst (λ (r : Reading). Writes r.model b w c) e writes))
+    (rewrites-read file b (sym (ap (λ (r : Reading). r.status) e) ∙ status) (subst (λ (r : Reading). Writes r.model b w c) e writes))
 
 returns : tie.Need-returns-in-Refused
 returns c =
     let reading = c.before in
-    rewrites-refused _ _ _ _ (sym (ap (λ (r : Reading). r.in-Refused) reading.read-reading.ensures.answer) ∙ c.in-Refused.is)
+    rewrites-refused _ _ _ _ (sym (ap (λ (r : Reading). r.status) reading.read-reading.ensures.answer) ∙ c.in-Refused.is)
 
 returns-2 : tie.Need-returns-in-Length
 returns-2 c =

@@ -13,6 +13,8 @@ use Rattle.stepping.proofs.refusals.zero_around.Lts.{}
 use Rattle.stepping.proofs.refusals.zero_around.Lts.{}
 use Rattle.stepping.proofs.refusals.zero_around.Lts.{}
 use Rattle.stepping.proofs.refusals.zero_around.Lts.{}
+use Rattle.stepping.proofs.refusals.zero_around.Lts.{}
+use Rattle.stepping.proofs.refusals.zero_around.Lts.{}
 use Rattle.stepping.proofs.refusals.zero_around.Tie as tie
 
 abbrev row_at : ℕ → List ℤ → ℕ → Bool

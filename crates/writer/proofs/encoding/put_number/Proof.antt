@@ -63,7 +63,7 @@ returns c =
 slice-write-out : tie.Need-bounds-out-at invariant-loop decreases-loop
 slice-write-out c = omega (arith, put-length c.loop-j.invariant.put, c.requires, c.loop-j-test.true)
 
-same_length : tie.Need-same-length invariant-loop decreases-loop
+same_length : tie.Need-shape_of-out invariant-loop decreases-loop
 same_length c = put-length c.before.loop-j.invariant.put
 
 pub put_number_spec : {M : Type 1} → statement M

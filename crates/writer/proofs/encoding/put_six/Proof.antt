@@ -56,7 +56,7 @@ put-number-requires c κs =
     let so = c.loop-i.invariant in
     omega (arith, put-length so.1, put-near so.1, c.requires.0, c.loop-i-test.true)
 
-same_length : tie.Need-same-length invariant-loop decreases-loop
+same_length : tie.Need-shape_of-out invariant-loop decreases-loop
 same_length c = put-length c.before.loop-i.invariant.1
 
 returns : tie.Need-returns invariant-loop decreases-loop

@@ -49,7 +49,7 @@ loop-again c =
 put-number-requires : tie.Need-put_number-end-requires invariant-loop decreases-loop
 put-number-requires c κs = simp length-set (omega (arith, room c.before.before.before.before.before))
 
-same_length : tie.Need-same-length invariant-loop decreases-loop
+same_length : tie.Need-shape_of-out invariant-loop decreases-loop
 same_length c = put-length c.before.loop-g.invariant.1
 
 returns : tie.Need-returns invariant-loop decreases-loop

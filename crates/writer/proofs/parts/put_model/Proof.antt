@@ -92,7 +92,7 @@ module _ (c : tie.After-put_vectors-end) where
   start-drift = start-rows at_rows
 
   drift-put : Put (drift-end (model start-drift)) 0 (to-drift (model start-drift)) start-drift.args.out.now c.put_vectors-end.new.out c.put_vectors-end.result
-  drift-put = put_then (rows-put at_rows) (subst (λ (k : ℕ). Put (25 * k) at_rows.put_rows-end.result (vector_records 0x05 0x05 k (model start-drift).drift) at_rows.put_rows-end.last.0 c.put_vectors-end.new.out c.put_vectors-end.result) c.drift_count.ensures c.put_vectors-end.ensures)
+  drift-put = put_then (rows-put at_rows) (subst (λ (k : ℕ). Put (25 * k) at_rows.put_rows-end.result (vector_records 0x05 0x05 k (model start-drift).drift) at_rows.put_rows-end.new.out c.put_vectors-end.new.out c.put_vectors-end.result) c.drift_count.ensures c.put_vectors-end.ensures)
 
 module _ (c : tie.After-put_points-end) where
   abbrev at-drift : tie.After-put_vectors-end
@@ -103,7 +103,7 @@ module _ (c : tie.After-put_points-end) where
 
   initial-put : Put (initial-end (model start-initial)) 0 (to-initial (model start-initial)) start-initial.args.out.now c.put_points-end.new.out c.put_points-end.result
   initial-put =
-      let part : Put (25 * (model start-initial).initial.count) at-drift.put_vectors-end.result (initial_records (model start-initial).initial) at-drift.put_vectors-end.last.0 c.put_points-end.new.out c.put_points-end.result = c.put_points-end.ensures in
+      let part : Put (25 * (model start-initial).initial.count) at-drift.put_vectors-end.result (initial_records (model start-initial).initial) at-drift.put_vectors-end.new.out c.put_points-end.new.out c.put_points-end.result = c.put_points-end.ensures in
       put_then (drift-put at-drift) part
 
 module _ (c : tie.After-put_points-end-2) where
@@ -114,7 +114,7 @@ module _ (c : tie.After-put_points-end-2) where
   start-input = start-initial at-initial
 
   input-put : Put (input-end (model start-input)) 0 (to-input (model start-input)) start-input.args.out.now c.put_points-end-2.new.out c.put_points-end-2.result
-  input-put = put_then (initial-put at-initial) (subst (λ (k : ℕ). Put (25 * k) at-initial.put_points-end.result (point_records 0x20 (model start-input).input k) at-initial.put_points-end.last.0 c.put_points-end-2.new.out c.put_points-end-2.result) c.input_count.ensures c.put_points-end-2.ensures)
+  input-put = put_then (initial-put at-initial) (subst (λ (k : ℕ). Put (25 * k) at-initial.put_points-end.result (point_records 0x20 (model start-input).input k) at-initial.put_points-end.new.out c.put_points-end-2.new.out c.put_points-end-2.result) c.input_count.ensures c.put_points-end-2.ensures)
 
 module _ (c : tie.After-put_vectors-end-2) where
   abbrev at-input : tie.After-put_points-end-2
@@ -126,7 +126,7 @@ module _ (c : tie.After-put_vectors-end-2) where
   directions-put : Put (directions-end (model start-directions)) 0 (to-directions (model start-directions)) start-directions.args.out.now c.put_vectors-end-2.new.out c.put_vectors-end-2.result
   directions-put =
       let asked = (model start-directions).questions in
-      let part : Put (25 * asked.directions) at-input.put_points-end-2.result (direction_records asked.directions asked.entries) at-input.put_points-end-2.last.0 c.put_vectors-end-2.new.out c.put_vectors-end-2.result = c.put_vectors-end-2.ensures in
+      let part : Put (25 * asked.directions) at-input.put_points-end-2.result (direction_records asked.directions asked.entries) at-input.put_points-end-2.new.out c.put_vectors-end-2.new.out c.put_vectors-end-2.result = c.put_vectors-end-2.ensures in
       put_then (input-put at-input) part
 
 module _ (c : tie.After-put_guards-end) where
@@ -139,7 +139,7 @@ module _ (c : tie.After-put_guards-end) where
   guards-put : Put (guards-end (model start-guards)) 0 (to-guards (model start-guards)) start-guards.args.out.now c.put_guards-end.new.out c.put_guards-end.result
   guards-put =
       let asked = (model start-guards).questions in
-      let part : Put (10 * asked.guards) at-directions.put_vectors-end-2.result (guard_records asked.guards asked.watched asked.levels) at-directions.put_vectors-end-2.last.0 c.put_guards-end.new.out c.put_guards-end.result = c.put_guards-end.ensures in
+      let part : Put (10 * asked.guards) at-directions.put_vectors-end-2.result (guard_records asked.guards asked.watched asked.levels) at-directions.put_vectors-end-2.new.out c.put_guards-end.new.out c.put_guards-end.result = c.put_guards-end.ensures in
       put_then (directions-put at-directions) part
 
   -- the last byte is inside
@@ -176,7 +176,7 @@ put-vectors-requires : tie.Need-put_vectors-end-requires
 put-vectors-requires c κs =
     let b = c.before.before.before.before.before.before.before in
     let s = start-rows b in
-    let long = (lengths (model s) s.good.1.0).drift in
+    let long = (lengths (model s) s.well_formed.1.0).drift in
     (omega (arith, put-near (rows-put b), put-length (rows-put b), room s, c.drift_count.ensures), omega (arith, long, (few s).drift, c.drift_count.ensures))
 
 put-points-requires : tie.Need-put_points-end-requires
@@ -194,14 +194,14 @@ put-points-requires-2 c κs =
 slice-aggregate-put-vectors-2 : tie.Need-slice_bounds-put_vectors-end-2
 slice-aggregate-put-vectors-2 c =
     let s = start-input c.before.before.before.before.before in
-    let known = (lengths (model s) s.good.1.0).questions.entries in
+    let known = (lengths (model s) s.well_formed.1.0).questions.entries in
     search (rules, known)
 
 put-vectors-requires-2 : tie.Need-put_vectors-end-requires-2
 put-vectors-requires-2 c κs =
     let b = c.before.before.before.before.before in
     let s = start-input b in
-    let long = (lengths (model s) s.good.1.0).questions.entries in
+    let long = (lengths (model s) s.well_formed.1.0).questions.entries in
     (omega (arith, put-near (input-put b), put-length (input-put b), room s), omega (arith, long, (few s).directions))
 
 put-guards-requires : tie.Need-put_guards-end-requires
@@ -216,7 +216,7 @@ slice-write-out-3 c = inside c.before.before
 add-result : tie.Need-overflow_add-result
 add-result c = omega (arith, put-near (guards-put c.before.before), few (start-guards c.before.before))
 
-same_length : tie.Need-same-length
+same_length : tie.Need-shape_of-out
 same_length c = put-length (last-put c.before.before _ (omega arith))
 
 pub put_model_spec : {M : Type 1} → statement M

@@ -36,9 +36,9 @@ loop-again c =
 
 put-six-requires : tie.Need-put_six-end-requires invariant-loop decreases-loop
 put-six-requires c κs =
-    (simp length-set (omega (arith, room c.before.before)), omega (arith, c.put_six-arg-in-loop-p-1.given.0, c.requires.0, c.loop-p-test.true))
+    (simp length-set (omega (arith, room c.before.before)), omega (arith, c.put_six-arg-in-loop-p-1.given, c.requires.0, c.loop-p-test.true))
 
-same_length : tie.Need-same-length invariant-loop decreases-loop
+same_length : tie.Need-shape_of-out invariant-loop decreases-loop
 same_length c = put-length c.before.loop-p.invariant.1
 
 returns : tie.Need-returns invariant-loop decreases-loop

@@ -47,7 +47,7 @@ put-six-requires : tie.Need-put_six-end-requires invariant-loop decreases-loop
 put-six-requires c κs =
     (simp length-set (omega (arith, room c.before.before)), omega (arith, c.requires.1, c.loop-k-test.true))
 
-same_length : tie.Need-same-length invariant-loop decreases-loop
+same_length : tie.Need-shape_of-out invariant-loop decreases-loop
 same_length c = put-length c.before.loop-k.invariant.1
 
 returns : tie.Need-returns invariant-loop decreases-loop
