@@ -97,8 +97,6 @@ put_listing_spec =
     add-size
     (λ c κs. search rules)
     (λ c κs. search rules)
-    (λ c. search rules)
-    (λ c. search rules)
     (λ c κs. search rules)
     array-borrow-prefix-bounds
     slice-aggregate-put-directions

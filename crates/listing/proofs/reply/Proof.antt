@@ -33,8 +33,6 @@ reply_spec =
     put-listing-requires
     (λ c. search rules)
     (λ c. search rules)
-    (λ c. search rules)
-    (λ c. search rules)
     (λ c κs. search rules)
     (λ c. search rules)
     returns-2

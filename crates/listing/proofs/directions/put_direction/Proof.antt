@@ -34,10 +34,10 @@ module _ (c : tie.After-sweep-swept) where
   left = c.sweep-swept.ensures
 
   b-long : length b ≡ suc m.steps
-  b-long = c.sweep-swept.auto.1.1.0 ∙ ask.bounds-long
+  b-long = c.sweep-swept.auto.bounds ∙ ask.bounds-long
 
   s-long : length s ≡ suc m.steps
-  s-long = c.sweep-swept.auto.1.1.1.0 ∙ ask.slacks-long
+  s-long = c.sweep-swept.auto.slacks ∙ ask.slacks-long
 
 note-requires : tie.Need-note-requires
 note-requires c κs =

@@ -66,21 +66,21 @@ loop-again c =
     let a = c.args in
     record {
       passed = omega (arith, c.loop-d-test.true);
-      bounds-long = done.auto.1.1.0 ∙ so.bounds-long;
-      slacks-long = done.auto.1.1.1.0 ∙ so.slacks-long;
+      bounds-long = done.auto.bounds ∙ so.bounds-long;
+      slacks-long = done.auto.slacks ∙ so.slacks-long;
       cases-noted = noted_more a.model case_of l.d l.cases _ so.cases-noted done.ensures.cases-noted;
       steps-noted = noted_more a.model step_of l.d l.steps _ so.steps-noted done.ensures.steps-noted;
       lines = subst (λ (j : ℕ). Put (j * 16758) a.at (each j (direction_text a.model)) a.out.now done.new.out done.result) (sym (add-one l.d)) (put-most (suc l.d * 16758) (omega arith) (put_then so.lines done.ensures.lines));
     }
 
-same_length : tie.Need-same-length invariant-loop decreases-loop
-same_length c = c.before.before.loop-d.invariant.bounds-long ∙ sym c.before.before.before.before.requires.0.bounds-long
+same_length : tie.Need-shape_of-bounds invariant-loop decreases-loop
+same_length c = c.loop-d.invariant.bounds-long ∙ sym c.requires.0.bounds-long
 
-same-length-2 : tie.Need-same-length-2 invariant-loop decreases-loop
-same-length-2 c = c.before.before.loop-d.invariant.slacks-long ∙ sym c.before.before.before.before.requires.0.slacks-long
+same-length-2 : tie.Need-shape_of-slacks invariant-loop decreases-loop
+same-length-2 c = c.loop-d.invariant.slacks-long ∙ sym c.requires.0.slacks-long
 
-same-length-3 : tie.Need-same-length-3 invariant-loop decreases-loop
-same-length-3 c = put-length c.before.before.loop-d.invariant.lines
+same-length-3 : tie.Need-shape_of-out invariant-loop decreases-loop
+same-length-3 c = put-length c.loop-d.invariant.lines
 
 returns : tie.Need-returns invariant-loop decreases-loop
 returns c =

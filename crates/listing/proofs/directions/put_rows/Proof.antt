@@ -53,7 +53,7 @@ loop-again c =
       subst (λ (j : ℕ). Put (j * 65) a.at (rows a.bounds.now a.slacks.now j) a.out.now c.put_row-end.new.out c.put_row-end.result) (sym (add-one k)) (put-most (suc k * 65) (omega arith) (put_then l.loop-k.invariant.1 (put_is _ row_is row))),
     )
 
-same_length : tie.Need-same-length invariant-loop decreases-loop
+same_length : tie.Need-shape_of-out invariant-loop decreases-loop
 same_length c = put-length c.before.loop-k.invariant.1
 
 returns : tie.Need-returns invariant-loop decreases-loop

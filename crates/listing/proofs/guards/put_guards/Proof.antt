@@ -52,7 +52,7 @@ loop-again c =
       subst (λ (j : ℕ). Put (j * 56) a.at (each j (guard_text m)) a.out.now c.put_guard-end.new.out c.put_guard-end.result) (sym (add-one g)) (put-most (suc g * 56) (omega arith) (put_then l.loop-g.invariant.1 (put_is _ text-is c.put_guard-end.ensures))),
     )
 
-same_length : tie.Need-same-length invariant-loop decreases-loop
+same_length : tie.Need-shape_of-out invariant-loop decreases-loop
 same_length c = put-length c.before.before.loop-g.invariant.1
 
 returns : tie.Need-returns invariant-loop decreases-loop
