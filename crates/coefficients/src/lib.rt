@@ -92,6 +92,7 @@ fn fitted_entry(x: f64) -> EntryAnswer
 }
 
 // Routines 18. The stored entry of a scaled or a fitted one, or the number that its row is refused by.
+#[inline(never)]
 pub fn entry_of(coefficient: Coefficient) -> EntryAnswer
     ensures { result ≡ entry_of coefficient }
 {

@@ -1,5 +1,5 @@
 // The C interface: one step, and the sweep, the judge, the listing and the rewriting of a model file, and how large its slacks can be.
-// Each function is exported under its own name, keeps nothing, and has no `requires`: any values get their reply.
+// Each function keeps nothing, and has no `requires`: any values get their reply. `pepperscarp_c` exports each under its own name.
 //
 // An answer of every function but the listing is one number: number + 256 × verdict + 65,536 × figure. The number is the refusal's, 0
 // where nothing is refused. On a refusal the lent memory is as it was.
@@ -20,8 +20,7 @@ use writer::rewrite;
 
 // C interface 2. One step of r and e. The figure is the growth sum of what it left. The only refusal is 11, as `stepping::step` has
 // it.
-#[unsafe(no_mangle)]
-pub extern "C" fn pepperscarp_step(
+pub fn pepperscarp_step(
     n: usize,
     matrix: &[i32; 36],
     r: &mut [i64; 6],
@@ -36,8 +35,7 @@ pub extern "C" fn pepperscarp_step(
 // C interface 3, 5 and 7. The sweep of direction number `direction` of the file's model. The figure is the spare figure.
 // Refusals: 1 to 10 or 15 to 17 with the offset as the figure, where the file is refused; 12 and 13; 14 with the first step with
 // growth as the figure.
-#[unsafe(no_mangle)]
-pub extern "C" fn pepperscarp_sweep(
+pub fn pepperscarp_sweep(
     file: &[u8],
     direction: usize,
     bounds: &mut [i64],
@@ -59,8 +57,7 @@ pub extern "C" fn pepperscarp_sweep(
 
 // C interface 4, 5 and 7. The judge of guard number `guard` of the file's model: verdict 1 HIT or 2 UNKNOWN with its step as the
 // figure, or 3 CLEAR; the sweep of the guard's direction is left in the lists. Refusals as for the sweep.
-#[unsafe(no_mangle)]
-pub extern "C" fn pepperscarp_judge(
+pub fn pepperscarp_judge(
     file: &[u8],
     guard: usize,
     bounds: &mut [i64],
@@ -82,8 +79,7 @@ pub extern "C" fn pepperscarp_judge(
 
 // C interface 6. The text that the program `envelope` writes for the file, at the start of `out`, and how many bytes it has. The
 // answer is 0, and nothing is written, where `out` has fewer than 270,000 bytes; every text fits in so many.
-#[unsafe(no_mangle)]
-pub extern "C" fn pepperscarp_listing(file: &[u8], out: &mut [u8]) -> usize
+pub fn pepperscarp_listing(file: &[u8], out: &mut [u8]) -> usize
     ensures { ReplyLeaves file.now out.old out.new result }
 {
     reply(file, out)
@@ -91,8 +87,7 @@ pub extern "C" fn pepperscarp_listing(file: &[u8], out: &mut [u8]) -> usize
 
 // C interface 9. The file of the file's model, at the start of `out`; the figure is its length. Refusals: 1 to 10 or 15 to 17 with the
 // offset as the figure, where the file is refused; 22 where `out` is shorter than what would be written.
-#[unsafe(no_mangle)]
-pub extern "C" fn pepperscarp_write(file: &[u8], out: &mut [u8]) -> u64
+pub fn pepperscarp_write(file: &[u8], out: &mut [u8]) -> u64
     ensures { WriteReply file.now out.old result out.new }
 {
     let answer = rewrite(file, out);
@@ -101,8 +96,7 @@ pub extern "C" fn pepperscarp_write(file: &[u8], out: &mut [u8]) -> u64
 
 // C interface 5 and 10. Whether the file's model is calm: the figure is 1 where it is, and 0 where it is not. Refusals: 1 to 10 or 15 to
 // 17 with the offset as the figure, where the file is refused.
-#[unsafe(no_mangle)]
-pub extern "C" fn pepperscarp_calm(file: &[u8]) -> u64
+pub fn pepperscarp_calm(file: &[u8]) -> u64
     ensures { CalmReply file.now result }
 {
     let reading = read(file);
@@ -119,8 +113,7 @@ pub extern "C" fn pepperscarp_calm(file: &[u8]) -> u64
 
 // C interface 5 and 11. What no slack of the file's model is above at a step: the figure is the limit. Refusals: those of the file; 26
 // where its model is not calm; 27 where it has no such step.
-#[unsafe(no_mangle)]
-pub extern "C" fn pepperscarp_slack_limit(file: &[u8], step: usize) -> u64
+pub fn pepperscarp_slack_limit(file: &[u8], step: usize) -> u64
     ensures { LimitReply file.now step result }
 {
     let reading = read(file);
@@ -137,8 +130,7 @@ pub extern "C" fn pepperscarp_slack_limit(file: &[u8], step: usize) -> u64
 
 // C interface 5 and 12. Up to which step the limit stays at or below the slack: the figure is the step. Refusals: those of the file; 26
 // where its model is not calm; 28 where the limit of step 0 is above the slack.
-#[unsafe(no_mangle)]
-pub extern "C" fn pepperscarp_steps_within(file: &[u8], slack: u64) -> u64
+pub fn pepperscarp_steps_within(file: &[u8], slack: u64) -> u64
     ensures { WithinReply file.now slack result }
 {
     let reading = read(file);
