@@ -1,7 +1,6 @@
 -- `arrays::zero_outside` meets its contract: the test holds of every element passed. The measure is what is left of the slice.
 -- Assumes nothing.
 use Rattle.integers.proofs.Basics.{◌≡◌, sym, ap, ◌∙◌, Bool, ℕ, ◌-◌, arith, rules, length, ℤ, w32}
-use borrow.Author.Tests.{not-true, not-false}
 use mathlib.Core.List.{List}
 use Rattle.integers.specs.Sums.{vector}
 use Rattle.integers.proofs.EarlyReturn.{PassedSoFar, passed_none, passed-more, passed-fails, passed-all}

@@ -2,7 +2,6 @@
 -- six. Assumes nothing.
 use Rattle.integers.proofs.Basics.{◌≡◌, sym, ap, ◌∙◌, Bool, ℕ, ◌-◌, arith, rules, ℤ, w64}
 use mathlib.Core.List.{List}
-use borrow.Author.Tests.{not-true, not-false}
 use Rattle.integers.specs.Sums.{vector}
 use Rattle.integers.proofs.EarlyReturn.{PassedSoFar, passed_none, passed-more, passed-fails, passed-all}
 use Rattle.integers.proofs.Machine.{read-given}

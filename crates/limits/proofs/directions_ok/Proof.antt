@@ -3,7 +3,7 @@
 use Rattle.integers.proofs.Basics.{◌≡◌, sym, ap, ◌∙◌, Bool, true, false, ℕ, ◌-◌, ◌≤◌, ◌<◌, arith, rules, ℤ}
 use mathlib.Core.Bool.{not}
 use mathlib.Core.List.{List}
-use borrow.Author.Tests.{lt-leb, le-leb, not-true, not-false}
+use borrow.Author.Tests.{lt-leb, le-leb}
 use lib.Dec.{leb}
 use lib.IntN.{pos, neg_ℤ}
 use Rattle.integers.proofs.EarlyReturn.{PassedSoFar, passed_none, passed-more, passed-all}

@@ -2,7 +2,7 @@
 -- sixteen. Assumes nothing.
 use Rattle.integers.proofs.Basics.{◌≡◌, sym, ap, ◌∙◌, Bool, ℕ, ◌-◌, arith, rules, get_or, ℤ, w64}
 use mathlib.Core.List.{List}
-use borrow.Author.Tests.{lt-leb, le-leb, not-true, not-false}
+use borrow.Author.Tests.{lt-leb, le-leb}
 use Rattle.integers.specs.Sums.{vector}
 use Rattle.integers.proofs.EarlyReturn.{PassedSoFar, passed_none, passed-more, passed-fails, passed-all}
 use Rattle.integers.proofs.Machine.{read-given}

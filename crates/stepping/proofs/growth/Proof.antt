@@ -1,7 +1,7 @@
 -- `stepping::growth` meets its contract, test by test; the largest sum of six is that of n. Assumes nothing.
 use Rattle.integers.proofs.Basics.{◌≡◌, sym, ap, ◌∙◌, true, ℕ, arith, rules, ℤ}
 use mathlib.Core.List.{List}
-use borrow.Author.Tests.{le-leb, lt-leb, leb-true, not-true, not-false}
+use borrow.Author.Tests.{le-leb, lt-leb, leb-true}
 use lib.Dec.{leb}
 use Rattle.integers.specs.Sums.{vector, magnitudes}
 use Rattle.stepping.specs.Limits.{growth_limit}

@@ -4,7 +4,7 @@ use Rattle.integers.proofs.Basics.{◌≡◌, refl, sym, ap, ap₂, subst, ◌�
 use mathlib.Core.Bool.{cond, ◌&&◌, ◌||◌}
 use mathlib.Core.List.{List}
 use Prim.Native.Nat.{◌/◌, ◌%◌}
-use borrow.Author.Tests.{lt-ltb, le-ltb, not-true, not-false}
+use borrow.Author.Tests.{lt-ltb, le-ltb}
 use lib.Dec.{ltb, eqb}
 use Rattle.integers.specs.Sums.{vector, matrix as matrix_of}
 use Rattle.integers.proofs.Sums.{all_below-intro, all_below-at, all_below-some, all_below-fails}

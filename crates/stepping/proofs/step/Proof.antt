@@ -3,7 +3,6 @@
 use Rattle.integers.proofs.Basics.{◌≡◌, refl, sym, ap, ap₂, subst, ◌∙◌, Bool, true, false, ℕ, ◌≤◌, rules, ℤ, pos}
 use mathlib.Core.Bool.{◌&&◌}
 use mathlib.Core.List.{List}
-use borrow.Author.Tests.{not-true, not-false}
 use lib.Dec.{T}
 use lib.IntN.{neg_ℤ}
 use Rattle.integers.specs.Sums.{vector, magnitudes}

@@ -2,7 +2,7 @@
 -- of six. Assumes nothing.
 use Rattle.integers.proofs.Basics.{◌≡◌, sym, ap₂, ◌∙◌, Bool, ℕ, ◌+◌, ◌-◌, arith, rules, ℤ, nat_abs, w32}
 use mathlib.Core.List.{List}
-use borrow.Author.Tests.{lt-leb, le-leb, not-true, not-false}
+use borrow.Author.Tests.{lt-leb, le-leb}
 use lib.Dec.{leb}
 use Rattle.integers.specs.Sums.{vector}
 use Rattle.integers.proofs.Machine.{read-given}

@@ -1,7 +1,7 @@
 -- `reachability::model::accepts` meets its contract, test by test. Assumes nothing.
 use Rattle.integers.proofs.Basics.{◌≡◌, sym, ap, ap₂, ◌∙◌, Bool, true, rules}
 use mathlib.Core.Bool.{◌&&◌}
-use borrow.Author.Tests.{le-leb, not-true, not-false}
+use borrow.Author.Tests.{le-leb}
 use Rattle.integers.proofs.Booleans.{and-true, and-skip, and-stop}
 use Rattle.stepping.specs.Refusals.{dimension_ok}
 use Rattle.arrays.specs.Tests.{zero_outside}

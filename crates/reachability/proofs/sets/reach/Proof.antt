@@ -1,7 +1,6 @@
 -- `reachability::sets::reach` meets its contract. Assumes nothing.
 use Rattle.integers.proofs.Basics.{◌≡◌, sym, ap, ◌∙◌, Bool, true, rules, pos}
 use mathlib.Core.Bool.{cond, ◌&&◌}
-use borrow.Author.Tests.{not-true, not-false}
 use Rattle.integers.proofs.Booleans.{and-true}
 use Rattle.stepping.specs.Refusals.{dimension_ok}
 use Rattle.integers.specs.Sums.{tabulate}

@@ -3,7 +3,6 @@
 use Rattle.integers.proofs.Basics.{◌≡◌, refl, sym, ap, ◌∙◌, Bool, true, false, ℕ, ℤ, arith, rules, w64}
 use mathlib.Core.Bool.{◌&&◌}
 use mathlib.Core.List.{List}
-use borrow.Author.Tests.{not-true, not-false}
 use Rattle.integers.specs.Sums.{vector}
 use Rattle.integers.proofs.Machine.{read-given}
 use Rattle.integers.proofs.Booleans.{and-true, number-cond}

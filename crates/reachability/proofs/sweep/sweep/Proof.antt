@@ -2,7 +2,6 @@
 -- nothing has copied the rows, which are accurate. Assumes nothing.
 use Rattle.integers.proofs.Basics.{◌≡◌, refl, sym, ap, subst, ◌∙◌, true, ℕ, suc, ◌+◌, ◌≤◌, ◌<◌, arith, rules, length, ℤ}
 use mathlib.Core.List.{List}
-use borrow.Author.Tests.{not-true, not-false}
 use Rattle.integers.specs.Sums.{max_ℕ}
 use Rattle.stepping.specs.Limits.{growth_limit}
 use Rattle.stepping.specs.Recurrence.{spare}

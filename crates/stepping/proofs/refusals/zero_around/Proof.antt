@@ -3,7 +3,7 @@
 use Rattle.integers.proofs.Basics.{◌≡◌, sym, ap, ◌∙◌, Bool, ℕ, ◌-◌, arith, rules, ℤ}
 use mathlib.Core.Bool.{cond}
 use mathlib.Core.List.{List}
-use borrow.Author.Tests.{lt-ltb, le-ltb, not-true, not-false}
+use borrow.Author.Tests.{lt-ltb, le-ltb}
 use Rattle.integers.proofs.EarlyReturn.{PassedSoFar, passed_none, passed-more, passed-fails, passed-all}
 use Rattle.stepping.specs.Inner.{zeros_from, row_zero}
 use Rattle.stepping.proofs.refusals.zero_around.Statement.{statement}

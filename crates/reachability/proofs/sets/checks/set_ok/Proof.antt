@@ -1,7 +1,7 @@
 -- `reachability::sets::checks::set_ok` meets its contract, test by test. Assumes nothing.
 use Rattle.integers.proofs.Basics.{◌≡◌, sym, ap, ap₂, ◌∙◌, true, ℕ, rules}
 use mathlib.Core.Bool.{◌&&◌}
-use borrow.Author.Tests.{lt-leb, le-leb, not-true, not-false}
+use borrow.Author.Tests.{lt-leb, le-leb}
 use lib.Dec.{leb}
 use Rattle.arrays.specs.Tests.{zero_outside}
 use Rattle.integers.proofs.Booleans.{and-skip}
