@@ -20,12 +20,7 @@ use writer::rewrite;
 
 // C interface 2. One step of r and e. The figure is the growth sum of what it left. The only refusal is 11, as `stepping::step` has
 // it.
-pub fn pepperscarp_step(
-    n: usize,
-    matrix: &[i32; 36],
-    r: &mut [i64; 6],
-    e: &mut [i64; 6],
-) -> u64
+pub fn pepperscarp_step(n: usize, matrix: &[i32; 36], r: &mut [i64; 6], e: &mut [i64; 6]) -> u64
     ensures { StepReply n matrix.now r.old e.old result r.new e.new }
 {
     let answer = step(n, matrix, r, e);
@@ -57,12 +52,7 @@ pub fn pepperscarp_sweep(
 
 // C interface 4, 5 and 7. The judge of guard number `guard` of the file's model: verdict 1 HIT or 2 UNKNOWN with its step as the
 // figure, or 3 CLEAR; the sweep of the guard's direction is left in the lists. Refusals as for the sweep.
-pub fn pepperscarp_judge(
-    file: &[u8],
-    guard: usize,
-    bounds: &mut [i64],
-    slacks: &mut [i64],
-) -> u64
+pub fn pepperscarp_judge(file: &[u8], guard: usize, bounds: &mut [i64], slacks: &mut [i64]) -> u64
     ensures { JudgeReply file.now guard bounds.old slacks.old result bounds.new slacks.new }
 {
     let reading = read(file);

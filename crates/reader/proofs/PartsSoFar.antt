@@ -9,7 +9,7 @@ use native.Mathlib.Decide.{dec_lt}
 use native.Mathlib.Omega.{arith}
 use borrow.Author.Tests.{le-leb, eq-eqb, eqb-true, leb-true, ltb-true, ltb-false}
 use lib.Dec.{leb, ltb}
-use lib.ListN.{length, set, get_or-eq_default}
+use lib.ListN.{length, get_or-eq_default}
 use lib.IntN.{ℤ, pos, nat_abs}
 use Rattle.integers.specs.Sums.{vector, tabulate}
 use Rattle.integers.proofs.Sums.{all_below-intro}

@@ -1,6 +1,6 @@
 -- A model that a function is given is a stored one: its type says so. `c.good.0` of a function whose first parameter is a model serves.
 -- Assumes nothing.
-use mathlib.Core.List.{List, [], ◌∷◌, map}
+use mathlib.Core.List.{List, [], ◌∷◌}
 use Prim.Native.Nat.{ℕ, zero, suc}
 use native.Mathlib.Omega.{arith}
 use lib.IntN.{ℤ, pos}

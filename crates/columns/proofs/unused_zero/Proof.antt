@@ -3,7 +3,7 @@
 use Rattle.integers.proofs.Basics.{◌≡◌, sym, ap, ◌∙◌, Bool, true, ℕ, ◌-◌, ◌≤◌, ◌<◌, arith}
 use mathlib.Core.Bool.{◌||◌}
 use borrow.Author.Count.{below_more}
-use borrow.Author.Tests.{lt-ltb, ne_eqb, not-true, not-false}
+use borrow.Author.Tests.{lt-ltb, ne_eqb}
 use lib.Dec.{ltb}
 use Rattle.integers.specs.Sums.{all_below}
 use Rattle.integers.proofs.Booleans.{or-true}

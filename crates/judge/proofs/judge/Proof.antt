@@ -2,7 +2,6 @@
 -- answer and lists settle the judge's. Assumes nothing.
 use Rattle.integers.proofs.Basics.{◌≡◌, refl, sym, ap, ◌∙◌, true, ℕ, ◌<◌, arith, rules, get_or, ℤ, w64}
 use mathlib.Core.List.{List}
-use borrow.Author.Tests.{not-true, not-false}
 use Rattle.integers.specs.Sums.{vector}
 use Rattle.integers.proofs.Machine.{read-given}
 use Rattle.reachability.specs.Limits.{accepted}

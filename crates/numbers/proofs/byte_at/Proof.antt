@@ -1,5 +1,5 @@
 -- `numbers::byte_at` meets its contract: past the end `get_or` is 0. Assumes nothing.
-use Rattle.integers.proofs.Basics.{sym, ◌+◌, arith, rules}
+use Rattle.integers.proofs.Basics.{sym, arith, rules}
 use lib.ListN.{get_or-eq_default}
 use Rattle.numbers.proofs.byte_at.Statement.{statement}
 use Rattle.numbers.proofs.byte_at.Tie as tie

@@ -2,7 +2,6 @@
 -- as the model. That the model is a stored one is known by its type. Assumes nothing.
 use Rattle.integers.proofs.Basics.{◌≡◌, sym, ◌∙◌, arith, rules}
 use mathlib.Core.Bool.{true}
-use borrow.Author.Tests.{not-true, not-false}
 use Rattle.reachability.specs.Limits.{accepted}
 use Rattle.writer.proofs.StoredModels.{stored-model}
 use Rattle.writer.proofs.Answering.{writes-invalid, writes_short, writes-all}

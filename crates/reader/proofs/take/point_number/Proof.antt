@@ -3,7 +3,6 @@
 use Rattle.integers.proofs.Basics.{◌≡◌, refl, sym, ap, ap₂, ◌∙◌, Bool, true, false, ℕ, ℤ, rules}
 use mathlib.Core.Bool.{not, ◌&&◌, ◌||◌}
 use mathlib.Core.List.{List}
-use borrow.Author.Tests.{not-true, not-false}
 use Rattle.arrays.specs.Tests.{first_of}
 use Rattle.records.specs.declared.kinds.Point.{Point}
 use Rattle.reachability.specs.declared.sets.Set.{Set}

@@ -1,6 +1,5 @@
 -- `reader::take::take_direction` meets its contract: the entries first, then that not all are zero. Assumes nothing.
 use Rattle.integers.proofs.Basics.{◌+◌, ℤ, ◌≡◌, refl, sym, ap, ap₂, ◌∙◌, true, ℕ, arith, rules}
-use borrow.Author.Tests.{not-true, not-false}
 use mathlib.Core.Bool.{not}
 use mathlib.Core.List.{List}
 use Rattle.integers.specs.Sums.{all_below}

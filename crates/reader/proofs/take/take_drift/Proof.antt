@@ -1,7 +1,6 @@
 -- `reader::take::take_drift` meets its contract. Assumes nothing.
 use Rattle.integers.proofs.Basics.{sym, ap, ◌∙◌, ℤ, arith, rules}
 use mathlib.Core.List.{List}
-use borrow.Author.Tests.{not-true, not-false}
 use Rattle.reachability.specs.Sets.{reach_limit}
 use Rattle.reader.specs.Models.{set_drift, state_of, with_drift}
 use Rattle.reader.specs.Values.{within, drift_ok}
