@@ -8,6 +8,9 @@ ghost use Rattle.judge.specs.Answers.{list_answer};
 use limits::LONGEST_LIST;
 use reachability::verdicts::Judged;
 
+// Refusals 13. The fewest elements of a list of bounds or slacks, since K is at least 1.
+const SHORTEST_LIST: usize = 2;
+
 // Verdicts 1. A value is above the level. No other function compares with a level.
 fn reaches_level(level: i64, value: i64) -> bool
     ensures { result ≡ reaches level value }
@@ -68,7 +71,7 @@ pub(crate) fn verdict_of(level: i64, bounds: &[i64], slacks: &[i64]) -> Judged
     if slacks.len() != size {
         return Judged::WrongLength;
     }
-    if size < 2 {
+    if size < SHORTEST_LIST {
         return Judged::WrongLength;
     }
     if LONGEST_LIST < size {

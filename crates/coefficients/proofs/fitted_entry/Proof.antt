@@ -15,8 +15,6 @@ use Rattle.coefficients.specs.Inner.{InRange, magnitude_entry}
 use Rattle.coefficients.proofs.Fitting.{absolute_of, Checked, checked, two_is, refused-bits, accepted-bits, nat_abs-signed, fitted_entry-within}
 use Rattle.coefficients.proofs.fitted_entry.Statement.{statement}
 use Rattle.coefficients.proofs.fitted_entry.Lts.{else-x, then-x}
-use Rattle.coefficients.proofs.fitted_entry.Lts.{}
-use Rattle.coefficients.proofs.fitted_entry.Lts.{}
 use Rattle.coefficients.proofs.fitted_entry.Tie as tie
 
 -- where the magnitude has been taken

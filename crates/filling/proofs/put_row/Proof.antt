@@ -5,8 +5,6 @@ use Rattle.integers.proofs.Machine.{read-given}
 use Rattle.filling.proofs.PutRow.{RowSoFar, put_row-beyond, row_more, row-beyond, row-length, row_done}
 use Rattle.filling.proofs.put_row.Statement.{statement}
 use Rattle.filling.proofs.put_row.Lts.{else-at-xs, then-at-xs}
-use Rattle.filling.proofs.put_row.Lts.{}
-use Rattle.filling.proofs.put_row.Lts.{}
 use Rattle.filling.proofs.put_row.Tie as tie
 
 abbrev invariant-loop : tie.invariant-loop-i

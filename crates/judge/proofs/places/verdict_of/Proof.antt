@@ -35,8 +35,8 @@ module _ (c : tie.Start) where
 returns : tie.Need-returns-then-slacks-size
 returns c = refused c.before (lists-apart _ _ c.if-slacks-size.true)
 
-returns-2 : tie.Need-returns-then-size-lt2
-returns-2 c = refused c.before.before (lists-short (n c.before.before) (length c.args.slacks.now) (omega (arith, c.if-size-lt2.true)))
+returns-2 : tie.Need-returns-then-size-lt-SHORTEST_LIST
+returns-2 c = refused c.before.before (lists-short (n c.before.before) (length c.args.slacks.now) (omega (arith, c.if-size-lt-SHORTEST_LIST.true)))
 
 returns-3 : tie.Need-returns-then-size-gt-LONGEST_LIST
 returns-3 c = refused c.before.before.before (lists-long _ _ c.if-size-gt-LONGEST_LIST.true)
@@ -47,7 +47,7 @@ module _ (c : tie.After-first_hit-h) where
   at = c.before.before.before.before
 
   fit : lists_ok (n at) (length at.args.slacks.now) ≡ true
-  fit = lists-ok _ _ c.if-slacks-size.false c.if-size-lt2.false c.if-size-gt-LONGEST_LIST.false
+  fit = lists-ok _ _ c.if-slacks-size.false c.if-size-lt-SHORTEST_LIST.false c.if-size-gt-LONGEST_LIST.false
 
   hit-is : c.first_hit-h.result ≡ first_place (n at) (hit_at at.args.level (b at) (s at))
   hit-is = c.first_hit-h.ensures ∙ ap (λ (z : ℤ). first_place (n at) (hit_at z (b at) (s at))) (to_z-of_z at.ranges.level)

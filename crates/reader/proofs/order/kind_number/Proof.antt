@@ -10,8 +10,6 @@ use Rattle.reader.specs.Refusals.{one_too_many}
 use Rattle.reader.proofs.order.KindNumbers.{kind_number-first}
 use Rattle.reader.proofs.order.kind_number.Statement.{statement}
 use Rattle.reader.proofs.order.kind_number.Lts.{else-may_follow, else-most-count, then-may_follow, then-most-count}
-use Rattle.reader.proofs.order.kind_number.Lts.{}
-use Rattle.reader.proofs.order.kind_number.Lts.{}
 use Rattle.reader.proofs.order.kind_number.Tie as tie
 
 -- where the tests have met

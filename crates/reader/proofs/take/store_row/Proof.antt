@@ -18,8 +18,6 @@ use Rattle.arrays.proofs.FirstOf.{first_of-zero}
 use Rattle.reader.proofs.take.Taking.{taken_as, takes-stopped, takes-stored}
 use Rattle.reader.proofs.take.store_row.Statement.{statement}
 use Rattle.reader.proofs.take.store_row.Lts.{else-row-rows, then-row-rows}
-use Rattle.reader.proofs.take.store_row.Lts.{}
-use Rattle.reader.proofs.take.store_row.Lts.{}
 use Rattle.reader.proofs.take.store_row.Tie as tie
 
 -- behind the two numbers

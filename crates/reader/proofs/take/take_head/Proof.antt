@@ -6,8 +6,6 @@ use Rattle.reader.specs.Values.{head_values_ok, head_ok}
 use Rattle.reader.proofs.take.Taking.{taken_as, takes-refused, takes-passed}
 use Rattle.reader.proofs.take.take_head.Statement.{statement}
 use Rattle.reader.proofs.take.take_head.Lts.{else-said-eq0, then-said-eq0}
-use Rattle.reader.proofs.take.take_head.Lts.{}
-use Rattle.reader.proofs.take.take_head.Lts.{}
 use Rattle.reader.proofs.take.take_head.Tie as tie
 
 -- the head's values as read

@@ -8,13 +8,6 @@ use Rattle.integers.proofs.EarlyReturn.{PassedSoFar, passed_none, passed-more, p
 use Rattle.stepping.specs.Inner.{zeros_from, row_zero}
 use Rattle.stepping.proofs.refusals.zero_around.Statement.{statement}
 use Rattle.stepping.proofs.refusals.zero_around.Lts.{else-p-n, then-p-n}
-use Rattle.stepping.proofs.refusals.zero_around.Lts.{}
-use Rattle.stepping.proofs.refusals.zero_around.Lts.{}
-use Rattle.stepping.proofs.refusals.zero_around.Lts.{}
-use Rattle.stepping.proofs.refusals.zero_around.Lts.{}
-use Rattle.stepping.proofs.refusals.zero_around.Lts.{}
-use Rattle.stepping.proofs.refusals.zero_around.Lts.{}
-use Rattle.stepping.proofs.refusals.zero_around.Lts.{}
 use Rattle.stepping.proofs.refusals.zero_around.Tie as tie
 
 abbrev row_at : ℕ → List ℤ → ℕ → Bool
