@@ -69,9 +69,8 @@ pub fn read(row: &[u8], cells: &mut [i64; 258]) {
     let mut size: u64 = 0;
     let mut negative = false;
     let mut before = b' ';
-    let mut k: usize = 0;
-    while k < row.len() {
-        let b = row[k];
+    for letter in row {
+        let b = *letter;
         let next = cell_after(at, before, b);
         if next != at {
             size = 0;
@@ -82,7 +81,6 @@ pub fn read(row: &[u8], cells: &mut [i64; 258]) {
         negative = negative | (b == b'-');
         cells[at as usize] = signed(negative, size);
         before = b;
-        k += 1;
     }
 }
 

@@ -1,46 +1,35 @@
-// Writing to standard output.
-use libc::STDOUT_FILENO;
+// Writing to standard output. Each function answers with the error of the first write that fails.
+use std::io;
 
 // A space and a natural number.
-pub fn natural(x: u64) {
-    io::write_all(STDOUT_FILENO, b" ");
-    io::print_decimal(STDOUT_FILENO, x);
+pub fn natural(rt: &impl Print, x: u64) -> io::Result<()> {
+    print!(rt; " {x}")
 }
 
-pub fn number(x: i64) {
-    let size = arrays::magnitude(x);
-    if x < 0 {
-        io::write_all(STDOUT_FILENO, b" -");
-        io::print_decimal(STDOUT_FILENO, size);
-    } else {
-        natural(size);
-    }
+pub fn number(rt: &impl Print, x: i64) -> io::Result<()> {
+    print!(rt; " {x}")
 }
 
 // The numbers of a list, or the first `most`.
-pub fn list(xs: &[i64], most: usize) {
-    let mut k: usize = 0;
-    while k < xs.len() {
-        if k == most {
-            break;
-        }
-        number(xs[k]);
-        k += 1;
+pub fn list(rt: &impl Print, xs: &[i64], most: usize) -> io::Result<()> {
+    for x in xs.iter().take(most) {
+        number(rt, *x)?;
     }
+    Ok(())
 }
 
 // The first two numbers of six.
-pub fn pair(xs: [i64; 6]) {
-    number(xs[0]);
-    number(xs[1]);
+pub fn pair(rt: &impl Print, xs: [i64; 6]) -> io::Result<()> {
+    number(rt, xs[0])?;
+    number(rt, xs[1])
 }
 
 // A number and a figure.
-pub fn answer(number: u64, figure: u64) {
-    natural(number);
-    natural(figure);
+pub fn answer(rt: &impl Print, number: u64, figure: u64) -> io::Result<()> {
+    natural(rt, number)?;
+    natural(rt, figure)
 }
 
-pub fn end() {
-    io::write_all(STDOUT_FILENO, b"\n");
+pub fn end(rt: &impl Print) -> io::Result<()> {
+    println!(rt)
 }

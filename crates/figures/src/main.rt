@@ -10,50 +10,46 @@ mod sweeps;
 mod walks;
 
 use cells::{letter, output};
-use libc::STDOUT_FILENO;
+use std::{env, io};
 
 // Runs the routine that a row names, by its first two letters. A row of -1 tells that there is none.
-fn ask(first: u8, second: u8, cells: &[i64; 258]) {
+fn ask(rt: &impl Print, first: u8, second: u8, cells: &[i64; 258]) -> io::Result<()> {
     match first {
-        b'w' => walks::walk(cells),
-        b'l' => walks::last(cells),
-        b'g' => walks::growth(cells),
-        b'r' => sets::reach(cells),
-        b'j' | b'v' => sweeps::run(first, cells),
+        b'w' => walks::walk(rt, cells),
+        b'l' => walks::last(rt, cells),
+        b'g' => walks::growth(rt, cells),
+        b'r' => sets::reach(rt, cells),
+        b'j' | b'v' => sweeps::run(rt, first, cells),
         b's' => match second {
-            b't' => walks::step(cells),
-            b'p' => walks::spare(cells),
-            b'u' => sets::support(cells),
-            b'w' => sweeps::run(first, cells),
-            _ => output::number(-1),
+            b't' => walks::step(rt, cells),
+            b'p' => walks::spare(rt, cells),
+            b'u' => sets::support(rt, cells),
+            b'w' => sweeps::run(rt, first, cells),
+            _ => output::number(rt, -1),
         },
-        _ => output::number(-1),
+        _ => output::number(rt, -1),
     }
 }
 
-fn run(row: &[u8]) {
+fn run(rt: &impl Print, row: &[u8]) -> io::Result<()> {
     let mut cells = cells::list_of(0);
     cells::read(row, &mut cells);
-    ask(letter(row, 1), letter(row, 2), &cells);
-    output::end();
+    ask(rt, letter(row, 1), letter(row, 2), &cells)?;
+    output::end(rt)
 }
 
 // A row that starts with # is a comment, with a space a case, and any other a heading.
-fn run_argument(i: usize) {
-    let mut row = io::buffer();
-    let length = os::arg(i, &mut row);
-    match letter(&row[..length], 0) {
-        b'#' => {}
-        b' ' => run(&row[..length]),
-        _ => {
-            io::write_all(STDOUT_FILENO, &row[..length]);
-            output::end();
-        }
+fn run_argument(rt: &impl Print, row: &str) -> io::Result<()> {
+    match letter(row.as_bytes(), 0) {
+        b'#' => Ok(()),
+        b' ' => run(rt, row.as_bytes()),
+        _ => println!(rt; "{row}"),
     }
 }
 
-fn main() {
-    for i in 1..os::arg_count() {
-        run_argument(i);
+fn main(rt: HostRuntime) -> io::Result<()> {
+    for row in env::args(&rt)?.skip(1) {
+        run_argument(&rt, row.as_str())?;
     }
+    Ok(())
 }

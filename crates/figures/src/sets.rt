@@ -3,6 +3,7 @@ use crate::walks::six_of;
 use cells::output::{answer, natural, number, pair};
 use cells::{count, entry};
 use reachability::sets::{Set, Shape, Supported};
+use std::io;
 
 fn shape_of(number: usize) -> Shape {
     match number {
@@ -15,10 +16,8 @@ fn shape_of(number: usize) -> Shape {
 // The first two coordinates of the first three points.
 fn points_of(cells: &[i64; 258], section: u8) -> [i32; 96] {
     let mut points = [0i32; 96];
-    let mut k: u8 = 0;
-    while k < 6 {
+    for k in 0..6u8 {
         points[(k / 2 * 6 + k % 2) as usize] = entry(cells, section % 128 + 3 + k);
-        k += 1;
     }
     points
 }
@@ -33,21 +32,21 @@ pub fn set_of(cells: &[i64; 258], section: u8) -> Set {
 }
 
 // The number and the support.
-pub fn support(cells: &[i64; 258]) {
+pub fn support(rt: &impl Print, cells: &[i64; 258]) -> io::Result<()> {
     let r = six_of(cells, 0x21);
     match reachability::sets::support(count(cells, 0x02), set_of(cells, 0x30), &r) {
         Supported::Value(v) => {
-            natural(0);
-            number(v);
+            natural(rt, 0)?;
+            number(rt, v)
         }
-        Supported::Refused => answer(11, 0),
+        Supported::Refused => answer(rt, 11, 0),
     }
 }
 
 // The number, and the reach in the first two coordinates.
-pub fn reach(cells: &[i64; 258]) {
+pub fn reach(rt: &impl Print, cells: &[i64; 258]) -> io::Result<()> {
     let a = reachability::sets::reach(count(cells, 0x02), set_of(cells, 0x30));
     let reaches = a.reaches;
-    natural(a.number as u64);
-    pair(reaches);
+    natural(rt, a.number as u64)?;
+    pair(rt, reaches)
 }

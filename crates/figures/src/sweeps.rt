@@ -7,6 +7,7 @@ use reachability::model::{Model, Questions};
 use reachability::motion::Motion;
 use reachability::sweep::Swept;
 use reachability::verdicts::Judged;
+use std::io;
 
 // What the first guard watches.
 fn watched_of(cells: &[i64; 258]) -> [usize; 16] {
@@ -59,65 +60,72 @@ fn model_of(cells: &[i64; 258]) -> Model {
     }
 }
 
-fn told(number: u64, verdict: u64, figure: u64) {
-    natural(number);
-    answer(verdict, figure);
+fn told(rt: &impl Print, number: u64, verdict: u64, figure: u64) -> io::Result<()> {
+    natural(rt, number)?;
+    answer(rt, verdict, figure)
 }
 
 // The number, no verdict, and the spare figure or the step.
-fn swept(a: Swept) {
+fn swept(rt: &impl Print, a: Swept) -> io::Result<()> {
     match a {
-        Swept::Spare(h) => told(0, 0, h as u64),
-        Swept::Invalid => told(11, 0, 0),
-        Swept::NoDirection => told(12, 0, 0),
-        Swept::WrongLength => told(13, 0, 0),
-        Swept::Growth(k) => told(14, 0, k as u64),
+        Swept::Spare(h) => told(rt, 0, 0, h as u64),
+        Swept::Invalid => told(rt, 11, 0, 0),
+        Swept::NoDirection => told(rt, 12, 0, 0),
+        Swept::WrongLength => told(rt, 13, 0, 0),
+        Swept::Growth(k) => told(rt, 14, 0, k as u64),
     }
 }
 
 // The number, the verdict (0 none, 1 HIT, 2 UNKNOWN, 3 CLEAR), and the step.
-fn judged(a: Judged) {
+fn judged(rt: &impl Print, a: Judged) -> io::Result<()> {
     match a {
-        Judged::Hit(k) => told(0, 1, k as u64),
-        Judged::Unknown(k) => told(0, 2, k as u64),
-        Judged::Clear => told(0, 3, 0),
-        Judged::Invalid => told(11, 0, 0),
-        Judged::NoGuard => told(12, 0, 0),
-        Judged::WrongLength => told(13, 0, 0),
-        Judged::Growth(k) => told(14, 0, k as u64),
+        Judged::Hit(k) => told(rt, 0, 1, k as u64),
+        Judged::Unknown(k) => told(rt, 0, 2, k as u64),
+        Judged::Clear => told(rt, 0, 3, 0),
+        Judged::Invalid => told(rt, 11, 0, 0),
+        Judged::NoGuard => told(rt, 12, 0, 0),
+        Judged::WrongLength => told(rt, 13, 0, 0),
+        Judged::Growth(k) => told(rt, 14, 0, k as u64),
     }
 }
 
 // The lengths of the lists, and the first twelve numbers of each.
-fn lists(bounds: &[i64], slacks: &[i64]) {
-    answer(bounds.len() as u64, slacks.len() as u64);
-    list(bounds, 12);
-    list(slacks, 12);
+fn lists(rt: &impl Print, bounds: &[i64], slacks: &[i64]) -> io::Result<()> {
+    answer(rt, bounds.len() as u64, slacks.len() as u64)?;
+    list(rt, bounds, 12)?;
+    list(rt, slacks, 12)
 }
 
 // The answer of a sweep, of a judge, or of a verdict by lists that no sweep filled; then the lists as they are left.
-fn lend(routine: u8, cells: &[i64; 258], bounds: &mut [i64], slacks: &mut [i64]) {
+fn lend(
+    rt: &impl Print,
+    routine: u8,
+    cells: &[i64; 258],
+    bounds: &mut [i64],
+    slacks: &mut [i64],
+) -> io::Result<()> {
     match routine {
         b's' => {
-            swept(reachability::sweep::sweep(model_of(cells), count(cells, 0x61), bounds, slacks));
-            return lists(bounds, slacks);
+            let a = reachability::sweep::sweep(model_of(cells), count(cells, 0x61), bounds, slacks);
+            swept(rt, a)?;
         }
         b'j' => {
-            judged(judge::judge(model_of(cells), count(cells, 0x61), bounds, slacks));
-            return lists(bounds, slacks);
+            let a = judge::judge(model_of(cells), count(cells, 0x61), bounds, slacks);
+            judged(rt, a)?;
         }
-        _ => {
-            judged(judge::verdict(Swept::Spare(0), cells[0x53], bounds, slacks));
-            return lists(bounds, slacks);
-        }
+        _ => judged(
+            rt,
+            judge::verdict(Swept::Spare(0), cells[0x53], bounds, slacks),
+        )?,
     }
+    lists(rt, bounds, slacks)
 }
 
 // The same by lists with 7 in each bound and 9 in each slack.
-pub fn run(routine: u8, cells: &[i64; 258]) {
+pub fn run(rt: &impl Print, routine: u8, cells: &[i64; 258]) -> io::Result<()> {
     let mut bounds = list_of(7);
     let mut slacks = list_of(9);
     let b = length_of(count(cells, 0x62), &bounds);
     let s = length_of(count(cells, 0x63), &slacks);
-    lend(routine, cells, &mut bounds[..b], &mut slacks[..s]);
+    lend(rt, routine, cells, &mut bounds[..b], &mut slacks[..s])
 }

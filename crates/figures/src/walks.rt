@@ -1,6 +1,7 @@
 // The stepping arithmetic: working directions step by step, growth, spare, and the refusals of `step`.
 use cells::output::{answer, natural, number, pair};
 use cells::{count, entry};
+use std::io;
 use stepping::{GROWTH_LIMIT, Spare, Stepped, sum_of};
 
 // The matrix of a row: the first two entries of its first two rows.
@@ -19,15 +20,15 @@ pub fn six_of(cells: &[i64; 258], at: u8) -> [i64; 6] {
 }
 
 // The spare figure, or the given number and figure where there is none.
-fn spare_or(most: u64, number: u64, figure: u64) {
+fn spare_or(rt: &impl Print, most: u64, number: u64, figure: u64) -> io::Result<()> {
     match stepping::spare_bits(most) {
-        Spare::Bits(h) => answer(0, h as u64),
-        Spare::NoSpare => answer(number, figure),
+        Spare::Bits(h) => answer(rt, 0, h as u64),
+        Spare::NoSpare => answer(rt, number, figure),
     }
 }
 
-pub fn spare(cells: &[i64; 258]) {
-    spare_or(arrays::magnitude(cells[0x02]), 11, 0);
+pub fn spare(rt: &impl Print, cells: &[i64; 258]) -> io::Result<()> {
+    spare_or(rt, arrays::magnitude(cells[0x02]), 11, 0)
 }
 
 // How a walk ends: its last step, the growth sum there, and the largest growth sum of its steps.
@@ -48,16 +49,18 @@ fn walked(
 ) -> Ending {
     let mut sum = sum_of(stepping::growth(n, r, e));
     let mut most = sum;
-    let mut k: usize = 0;
-    while k < steps {
+    for k in 0..steps {
         if GROWTH_LIMIT < sum {
-            break;
+            return Ending { step: k, sum, most };
         }
         sum = sum_of(stepping::step(n, matrix, r, e));
         most = arrays::larger(most, sum);
-        k += 1;
     }
-    Ending { step: k, sum, most }
+    Ending {
+        step: steps,
+        sum,
+        most,
+    }
 }
 
 fn direction_of(cells: &[i64; 258]) -> [i32; 6] {
@@ -73,44 +76,47 @@ fn walk_of(cells: &[i64; 258], r: &mut [i64; 6], e: &mut [i64; 6]) -> Ending {
 }
 
 // The last step, the first two coordinates of r and of e, and the growth sum.
-pub fn walk(cells: &[i64; 258]) {
+pub fn walk(rt: &impl Print, cells: &[i64; 258]) -> io::Result<()> {
     let mut r = [0i64; 6];
     let mut e = [0i64; 6];
     let end = walk_of(cells, &mut r, &mut e);
-    natural(end.step as u64);
-    pair(r);
-    pair(e);
-    natural(end.sum);
+    natural(rt, end.step as u64)?;
+    pair(rt, r)?;
+    pair(rt, e)?;
+    natural(rt, end.sum)
 }
 
 // The number and the spare figure, or 14 and the step of growth.
-pub fn last(cells: &[i64; 258]) {
+pub fn last(rt: &impl Print, cells: &[i64; 258]) -> io::Result<()> {
     let mut r = [0i64; 6];
     let mut e = [0i64; 6];
     let end = walk_of(cells, &mut r, &mut e);
-    spare_or(end.most, 14, end.step as u64);
+    spare_or(rt, end.most, 14, end.step as u64)
 }
 
 // The number and the growth sum.
-fn stepped(a: Stepped) {
+fn stepped(rt: &impl Print, a: Stepped) -> io::Result<()> {
     match a {
-        Stepped::Sum(sum) => answer(0, sum),
-        Stepped::Refused => answer(11, 0),
+        Stepped::Sum(sum) => answer(rt, 0, sum),
+        Stepped::Refused => answer(rt, 11, 0),
     }
 }
 
 // One step: the answer, and what r and e hold after it.
-pub fn step(cells: &[i64; 258]) {
+pub fn step(rt: &impl Print, cells: &[i64; 258]) -> io::Result<()> {
     let matrix = matrix_of(cells);
     let mut r = six_of(cells, 0x21);
     let mut e = six_of(cells, 0x23);
-    stepped(stepping::step(count(cells, 0x02), &matrix, &mut r, &mut e));
-    pair(r);
-    number(e[0]);
+    stepped(
+        rt,
+        stepping::step(count(cells, 0x02), &matrix, &mut r, &mut e),
+    )?;
+    pair(rt, r)?;
+    number(rt, e[0])
 }
 
-pub fn growth(cells: &[i64; 258]) {
+pub fn growth(rt: &impl Print, cells: &[i64; 258]) -> io::Result<()> {
     let r = six_of(cells, 0x21);
     let e = six_of(cells, 0x23);
-    stepped(stepping::growth(count(cells, 0x02), &r, &e));
+    stepped(rt, stepping::growth(count(cells, 0x02), &r, &e))
 }

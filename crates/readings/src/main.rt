@@ -3,56 +3,47 @@
 // tools/readerfiles.py.
 #![tactic(auto)]
 
-use libc::STDOUT_FILENO;
 use reader::{Reading, Status};
+use std::fs::File;
+use std::io::Read;
+use std::rt::Files;
+use std::{env, io};
+use streams::{read_full, tell};
 
-fn word(bytes: &[u8]) {
-    io::write_all(STDOUT_FILENO, bytes);
-}
-
-fn natural(x: usize) {
-    word(b" ");
-    io::print_decimal(STDOUT_FILENO, x as u64);
-}
-
-fn write_reading(reading: Reading) {
+fn write_reading(rt: &impl Print, name: &str, reading: Reading) -> io::Result<()> {
     let status = reading.status;
     match status {
         Status::Read => {
             let model = reading.model;
-            word(b"model");
-            natural(model.n);
-            natural(model.steps);
+            let n = model.n;
+            let steps = model.steps;
+            println!(rt; "{name}: model {n} {steps}")
         }
-        Status::Refused(number, offset) => {
-            word(b"refused");
-            natural(number as usize);
-            word(b" at");
-            natural(offset);
-        }
+        Status::Refused(number, offset) => println!(rt; "{name}: refused {number} at {offset}"),
     }
-    word(b"\n");
 }
 
-// One argument: the file's name, and what the reader answers to its bytes.
-fn read_argument(i: usize) {
-    let mut path = io::buffer();
-    let length = os::arg(i, &mut path);
-    let fd = os::open_read(&path[..length]);
-    if fd < 0 {
-        os::fail(&path[..length]);
-        return;
-    }
-    let mut buffer = io::large_buffer();
-    let got = io::read_full(fd, &mut buffer);
-    libc::close(fd);
-    word(&path[..length]);
-    word(b": ");
-    write_reading(reader::read(&buffer[..got]));
+// What the reader answers to a file's bytes. At most 65,536 are read, more than any accepted file has.
+fn read_file(mut file: impl Read + Drop) -> Reading {
+    let mut buffer = [0u8; 65536];
+    let got = read_full(&mut file, &mut buffer);
+    reader::read(&buffer[..got])
 }
 
-fn main() {
-    for i in 1..os::arg_count() {
-        read_argument(i);
+// One argument: the file's name, and what the reader answers to its bytes. A file that can't be opened is told on standard error.
+fn read_argument(rt: &(impl Files + Print + Eprint + Alloc), name: &str) -> io::Result<()> {
+    match File::open(rt, name) {
+        Ok(file) => write_reading(rt, name, read_file(file)),
+        Err(error) => {
+            tell(rt, name, error);
+            Ok(())
+        }
     }
+}
+
+fn main(rt: HostRuntime) -> io::Result<()> {
+    for name in env::args(&rt)?.skip(1) {
+        read_argument(&rt, name.as_str())?;
+    }
+    Ok(())
 }
