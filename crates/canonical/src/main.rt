@@ -5,15 +5,16 @@
 // one write, or in as few as the system allows; where standard output takes nothing more, the program says so on standard error and stops.
 #![tactic(auto)]
 
-ghost use Rattle.std.specs.Prelude.{◌≡◌, length};
+ghost use Rattle.std.specs.Prelude.{◌≡◌, ℕ, ◌≤◌, List, length, IfOk};
+ghost use Rattle.std.specs.Io.KnownBytes.{Appends, Consumes};
+ghost use Rattle.reader.specs.Reading.{read_model};
+ghost use Rattle.canonical.specs.Canonical.{canonical_bytes};
 
-use libc::{STDERR_FILENO, STDIN_FILENO, STDOUT_FILENO};
-use reader::MOST_READ;
-use text::{LINE_ROOM, put_line};
+use reader::{MOST_READ, Status};
+use std::io;
+use std::io::{Read, Write};
+use streams::{read_full, tell};
 use writer::{LONGEST, Rewritten, rewrite};
-
-// Room for the line of a refusal: its two words beside its numbers.
-const TOLD_ROOM: usize = 12 + LINE_ROOM;
 
 // The bytes of a file. The contract gives the length alone, here and below.
 fn file_space() -> [u8; MOST_READ]
@@ -28,35 +29,38 @@ fn out_space() -> [u8; LONGEST]
     [0u8; LONGEST]
 }
 
-// The line of a refusal (Listing 7), on standard error.
-fn tell(number: u8, offset: usize) {
-    let mut text = [0u8; TOLD_ROOM];
-    let end = put_line(
-        &mut text,
-        0,
-        b"refused ",
-        number as u64,
-        b" at ",
-        offset as u64,
-    );
-    io::write_all(STDERR_FILENO, &text[..end]);
+// Reads a file, writes the file of its model, where it is not refused, and answers whether it is. The contract says of which file, where
+// the bytes that are left to read and those that were written are known.
+fn answer<R: Read, W: Write>(input: &mut R, output: &mut W) -> io::Result<Status>
+    ensures { IfOk result (λ status. (file : List ℕ) × (length file ≤ 2048)
+        × Consumes (R.remaining input.old) (R.remaining input.new) file
+        × Appends (W.contents output.old) (W.contents output.new) (canonical_bytes file)
+        × (status ≡ (read_model file).status)) }
+{
+    let mut file = file_space();
+    let read = read_full(input, &mut file);
+    let mut out = out_space();
+    match rewrite(&file[..read], &mut out) {
+        Rewritten::Length(length) => {
+            output.write_all(&out[..length])?;
+            Ok(Status::Read)
+        }
+        Rewritten::Refused(number, offset) => Ok(Status::Refused(number, offset)),
+        // This never comes: every file that is written has room (`rewrite-fits`).
+        Rewritten::Short => unreachable!(),
+    }
 }
 
-fn main() {
-    let mut file = file_space();
-    let read = io::read_full(STDIN_FILENO, &mut file);
-    let mut out = out_space();
-    let answer = rewrite(&file[..read], &mut out);
-    match answer {
-        Rewritten::Length(length) => {
-            if !io::write_all(STDOUT_FILENO, &out[..length]) {
-                os::fail(b"canonical: standard output");
-            }
-        }
-        Rewritten::Refused(number, offset) => tell(number, offset),
-        // This never comes: every file that is written has room (`rewrite-fits`).
-        Rewritten::Short => {
-            io::write_all(STDERR_FILENO, b"canonical: too little room\n");
-        }
+// The line of a refusal (Listing 7), on standard error. Nothing is left to do where that takes nothing.
+fn tell_refusal(rt: &impl Eprint, number: u8, offset: usize) {
+    let _ = eprintln!(rt; "refused {number} at {offset}");
+}
+
+fn main(rt: HostRuntime) {
+    let answered = answer(&mut rt.stdin(), &mut rt.stdout());
+    match answered {
+        Ok(Status::Read) => {}
+        Ok(Status::Refused(number, offset)) => tell_refusal(&rt, number, offset),
+        Err(error) => tell(&rt, "canonical: standard output", error),
     }
 }
