@@ -1,69 +1,36 @@
--- Figures 1 to 12, 16 to 22, 24 to 27 and 30 to 35, the marked cases (`specs.Cases`), hold, each by computation. Assumes nothing.
-use mathlib.Core.Path.{◌≡◌, refl, sym, ap, ◌∙◌}
-use mathlib.Core.Bool.{Bool, true, cond, ◌&&◌}
-use mathlib.Core.List.{List}
-use Prim.Native.Nat.{ℕ, ◌+◌, ◌*◌}
-use native.Mathlib.Omega.{arith}
-use lib.ListN.{take}
-use lib.Seq.{get_or-take}
-use lib.IntN.{ℤ, pos}
-use Rattle.integers.specs.Sums.{vector, sum, sum_ℕ, max_ℕ, all_below, tabulate}
+-- Figures 1 to 12, 16 to 22, 24 to 27 and 30 to 35, the marked cases (`specs.Cases`), hold: those of judge *Cases* by its theorem, the
+-- others by computation. Assumes nothing.
+use mathlib.Core.Path.{refl}
+use mathlib.Core.List.{List, [], ◌∷◌, ◌++◌}
+use Rattle.integers.specs.Sums.{sum, sum_ℕ, max_ℕ, all_below}
 use Rattle.stepping.specs.Recurrence.{greatest}
-use Rattle.stepping.specs.Refusals.{dimension_ok}
-use Rattle.reachability.specs.Sets.{largest, set_ok, ReachAnswer}
-use Rattle.reachability.specs.OneMore.{OneMore, reach_at}
+use Rattle.reachability.specs.Sets.{largest}
 use Rattle.reachability.specs.Motion.{matrix_at, motion_ok}
 use Rattle.reachability.specs.Recurrence.{walk, first_place}
-use Rattle.reachability.specs.declared.sets.Set.{Set}
-use Rattle.marked.specs.Cases.{none, ◌and◌, AllHold, cases}
+use Rattle.judge.specs.Cases.{All, none, ◌and◌, AllHold, Case, Holds, cases}
+use Rattle.judge.proofs.MarkedCases.{marked as judged-marked}
+use Rattle.marked.specs.Cases.{IsSo, AllSo, sayings_of, cases_of, case33, case34, case35, all_cases}
 
--- What `reach` answers of a set that breaks no rule.
-reached : {n : ℕ} {s : Set} {xs : List ℤ} → dimension_ok n && set_ok n s.shape s.count s.points ≡ true → xs ≡ tabulate 6 (λ i. pos (reach_at s i)) → ReachAnswer n s 0 xs
-reached {n} {s} ok e =
-    record {
-      number_is = sym (ap (λ (b : Bool). cond b 0 11) ok);
-      reaches-are = e ∙ sym (ap (λ (b : Bool). cond b (tabulate 6 (λ i. pos (reach_at s i))) (tabulate 6 (λ i. pos 0))) ok);
-    }
+sayings-so : (c : Case) → All Holds c → All IsSo (sayings_of c)
+sayings-so [] none = none
+sayings-so (s ∷ ss) (h and hs) = h and sayings-so ss hs
 
--- Two sets that begin with the same points.
-grown : {s t : Set} → t.shape ≡ s.shape → t.count ≡ s.count + 1 → take (6 * s.count) t.points ≡ take (6 * s.count) s.points → OneMore s t
-grown {s} {t} shape count same =
-    record {
-      shape_is = shape;
-      count-is = count;
-      points-are = λ k i h l. sym (get_or-take (6 * s.count) t.points (6 * k + i) (pos 0) (omega arith)) ∙ ap (λ (xs : List ℤ). vector xs (6 * k + i)) same ∙ get_or-take (6 * s.count) s.points (6 * k + i) (pos 0) (omega arith);
-    }
+cases-so : (cs : List Case) → AllHold cs → AllSo (cases_of cs)
+cases-so [] none = none
+cases-so (c ∷ cs) (h and hs) = sayings-so c h and cases-so cs hs
 
-pub marked : AllHold cases
+-- What holds of each of two lists holds of each of both.
+joined : {A : Type 0} {P : A → Type 0} (xs ys : List A) → All P xs → All P ys → All P (xs ++ ys)
+joined [] ys none q = q
+joined (x ∷ xs) ys (h and hs) q = h and joined xs ys hs q
+
+calm-so : AllSo (case33 ∷ case34 ∷ case35 ∷ [])
 unfolding sum sum_ℕ max_ℕ all_below greatest largest matrix_at motion_ok walk first_place
-marked =
-    (refl and refl and refl and none)
-    and (refl and none)
-    and (refl and none)
-    and (refl and refl and refl and none)
-    and (refl and refl and refl and refl and refl and refl and refl and none)
-    and (refl and refl and refl and refl and none)
-    and (refl and refl and none)
-    and (refl and refl and none)
-    and (refl and (reached refl refl) and none)
-    and (refl and none)
-    and (refl and none)
-    and (refl and refl and none)
-    and (refl and refl and refl and refl and refl and none)
-    and (refl and refl and refl and refl and refl and refl and none)
-    and (refl and refl and refl and refl and none)
-    and (refl and refl and refl and refl and none)
-    and (refl and refl and refl and refl and none)
-    and ((grown refl refl refl) and refl and (reached refl refl) and refl and (reached refl refl) and none)
-    and ((grown refl refl refl) and refl and (reached refl refl) and refl and (reached refl refl) and none)
-    and (refl and refl and refl and none)
-    and (refl and refl and refl and none)
-    and (refl and refl and refl and none)
-    and (refl and refl and refl and refl and refl and refl and none)
-    and (refl and none)
-    and (refl and refl and refl and refl and refl and refl and none)
-    and (refl and refl and none)
-    and (refl and refl and refl and refl and refl and refl and refl and refl and refl and refl and refl and none)
+calm-so =
+    (refl and refl and refl and refl and refl and refl and refl and refl and refl and refl and refl and none)
     and (refl and refl and refl and refl and refl and refl and refl and refl and refl and refl and refl and refl and none)
     and (refl and refl and refl and refl and refl and refl and none)
     and none
+
+pub marked : AllSo all_cases
+marked = joined (cases_of cases) _ (cases-so cases judged-marked) calm-so
