@@ -3,9 +3,8 @@
 Every number that `./report` prints, in the text, as JSON and as CSV, is held against what the built
 program lists for the multiplied directions, and against exact largest values by corners, as
 fractions: those of the stored matrix (`exact.exact_values`), and here those of the matrix as it is
-written. Sums of columns, limits of slacks and the steps at which they pass a margin are worked out
-here too. A figure that was rounded must be implied by the exact one, and be less than one unit of
-its last decimal away from it. Nothing of the report's own code is used.
+written. A figure that was rounded must be implied by the exact one, and be less than one unit of its
+last decimal away from it. Nothing of the report's own code is used.
 
 In order: running it; what is true of a model; what is printed; the checks of JSON, CSV and text;
 random models.
@@ -26,11 +25,11 @@ import subprocess
 import sys
 import tempfile
 from concurrent.futures import ThreadPoolExecutor
-from dataclasses import dataclass, field, replace
+from dataclasses import dataclass, replace
 from decimal import Decimal
 from fractions import Fraction
 from functools import cache, cached_property
-from operator import add, le, mul, sub
+from operator import add, mul, sub
 from pathlib import Path
 from typing import Any, Callable, Iterable, Iterator, Sequence
 
@@ -43,8 +42,8 @@ import listings  # noqa: E402
 import models  # noqa: E402
 import pack  # noqa: E402
 from layout import (  # noqa: E402
-    MATRIX_UNIT, MAX_DIRECTION_ENTRY, MAX_LEVEL, MIN_LEVEL, Model, Set, ZONOTOPE, encode,
-    fitted_rows_of, float_of, zero_box,
+    MATRIX_UNIT, MAX_DIRECTION_ENTRY, MAX_LEVEL, MIN_LEVEL, Model, encode, fitted_rows_of,
+    float_of, zero_box,
 )
 from listings import CLEAR, GROWTH, HIT, UNKNOWN, Growth, Listing, Verdict  # noqa: E402
 
@@ -52,10 +51,6 @@ TIME_LIMIT = 60  # seconds; a command that has not ended by then hangs
 MOST_COST = 12_000  # of the exact values of a random model
 PACKED_MODELS, TEXTS = 100, 110  # random ones
 AS_WRITTEN = "CLEAR as stored, REACHED as written"
-CALM = ("calm: in each column of the matrix the magnitudes sum to at most 1,"
-        " so no direction can be refused for growth")
-NOT_CALM = ("not calm: in these columns of the matrix the magnitudes sum to more than 1,"
-            " so no limit on the slack is proved")
 # The sign between a value and a level that it reaches (Verdicts 1), and between a value and its
 # bound; first of a direction as it is, then of one that is turned round.
 REACHED_SIGNS, BOUND_SIGNS = "><", "≤≥"
@@ -85,40 +80,6 @@ initial box
   lower 0
   upper 1048576
 direction largest 1
-"""
-# The state stays as it is. Of a set of 1,048,576 the limit of the slack is k + 2 counts at step k.
-HELD = """coordinates value
-steps 9
-scaled 65536
-initial box
-  lower 0
-  upper 1048576
-direction top 1000
-"""
-# A calm model with columns of exactly 1. Without a factor, a limit passes the margin of `near` at
-# step 6 and that of `far` at no step, `open` is UNKNOWN, and the direction `free` has no guard.
-DRIVEN = """coordinates value other
-steps 20
-time 0.5 ms
-row 0.75 ~0.3
-row -0.25 ~-0.7
-drift 40000 -3000
-initial box
-  lower -900000 -300000
-  upper 1000000 400000
-input box
-  lower -20000 0
-  upper 10000 30000
-direction up 1 0
-direction down -1 0
-direction both 3 -2
-direction free 0 1
-unit up mV 16
-unit both A 7
-guard up 1000009 near
-guard up 999000 passed
-guard down 1200000 far
-guard both 3826001 open
 """
 FED = FADING.replace("direction", "input box\nlower 0\nupper 200\ndirection")
 
@@ -227,18 +188,6 @@ def written_matrix(data: bytes, model: Model) -> list[list[Fraction]]:
     return matrix
 
 
-def reaches_of(set_: Set) -> list[int]:
-    """The largest magnitude that a point of a set has in each coordinate."""
-    found = []
-    for first, *others in zip(*set_.points):
-        ends = first, *others
-        if set_.form == ZONOTOPE:
-            more = sum(map(abs, others))
-            ends = first - more, first + more
-        found.append(max(map(abs, ends)))
-    return found
-
-
 @dataclass(frozen=True)
 class Case:
     """A model file, by the name under which it is told, and what is true of it."""
@@ -265,35 +214,6 @@ class Case:
         matrix = written_matrix(self.data, self.model)
         kept = [[Fraction(entry, MATRIX_UNIT) for entry in row] for row in self.model.matrix]
         return None if matrix == kept else largest_values(self.model, matrix)
-
-    @cached_property
-    def columns(self) -> dict[str, int]:
-        """The magnitudes of the entries of each column, summed, in 1/65,536; by coordinate."""
-        found = dict.fromkeys(self.source.coordinates, 0)
-        for entries in self.model.matrix:
-            for name, entry in zip(found, entries, strict=True):
-                found[name] += abs(entry)
-        return found
-
-    @property
-    def above(self) -> dict[str, int]:
-        """The columns that keep the model from being calm."""
-        return {name: total for name, total in self.columns.items() if total > 65_536}
-
-    @property
-    def calm(self) -> bool:
-        return not self.above
-
-    @cached_property
-    def limits(self) -> list[int]:
-        """What no slack of a calm model is above at the steps 0 to K, in counts as swept."""
-        first = sum(reaches_of(self.model.initial))
-        entering = sum(reaches_of(self.model.input)) + sum(map(abs, self.model.drift))
-        found, total = [], 0
-        for step in range(self.model.steps + 1):
-            found.append(math.ceil(Fraction(total + 1, 1_048_576)) + 1)
-            total += first + step * entering
-        return found
 
     @cached_property
     def guard_names(self) -> list[str]:
@@ -387,8 +307,6 @@ class Section:
     heading: re.Match[str]
     tables: list[list[dict[str, str]]]
     rest: list[str]
-    calm: str = ""  # whether it is
-    slacks: list[dict[str, str]] = field(default_factory=list)  # the table below that
 
 
 def sections(text: bytes) -> list[Section]:
@@ -401,9 +319,6 @@ def sections(text: bytes) -> list[Section]:
             found.append(Section(heading[1], heading, [], []))
         elif rows[0].startswith(("guard ", "direction ")):
             found[-1].tables.append(table(rows))
-        elif rows[0].startswith(("calm: ", "not calm: ")):
-            assert not found[-1].calm, rows
-            found[-1].calm, found[-1].slacks = rows[0], table(rows[1:])
         else:
             assert FOOTER.fullmatch("\n".join(rows[-2:])), rows
             found[-1].rest = rows[:-2]
@@ -521,7 +436,6 @@ class Answer:
     case: Case
     factors: list[int]
     plain: bool
-    decimals: dict[int, int] = field(default_factory=dict)  # of the figures of each direction
 
     @cached_property
     def listing(self) -> Listing:
@@ -577,40 +491,6 @@ class Answer:
     def margin(self, guard: int) -> Fraction:
         number, level = self.case.model.guards[guard]
         return Fraction(level, self.case.unit(number)[1]) - max(self.bounds(number))
-
-    def certain(self, guard: int) -> Fraction | None:
-        """By how much a guard is certainly clear, or its level passed; None of UNKNOWN."""
-        number, level = self.case.model.guards[guard]
-        word = self.verdict(guard).word
-        if word == HIT:
-            return max(self.lows(number)) - Fraction(level, self.case.unit(number)[1])
-        return self.margin(guard) if word == CLEAR else None
-
-    def closest(self, number: int) -> int | None:
-        """The first guard of a direction that is UNKNOWN, or else has the smallest margin."""
-        guards = [guard for guard, (on, _) in enumerate(self.case.model.guards) if on == number]
-        margins = [-1 if (margin := self.certain(guard)) is None else margin for guard in guards]
-        return guards[margins.index(min(margins))] if guards else None
-
-    def smallest(self, number: int) -> Fraction | None:
-        """The smallest margin of a direction; None without guards, and if one is UNKNOWN."""
-        guard = self.closest(number)
-        return None if guard is None else self.certain(guard)
-
-    def passing(self, number: int) -> int | None:
-        """The first step at which the slack may pass that: the limit does, and it is not step 0."""
-        margin = self.smallest(number)
-        if margin is None:
-            return None
-        above = [limit > margin * self.scale(number) for limit in self.case.limits]
-        return first_at([False, *above[1:]], bool)
-
-    def limit(self, number: int, decimals: int) -> Fraction:
-        """The limit of the slack at the last step as printed: no printed slack is above it."""
-        one, scale = 10**decimals, self.scale(number)
-        pairs = zip(self.bounds(number), self.lows(number))
-        slacks = [math.ceil(bound * one) - math.floor(low * one) for bound, low in pairs]
-        return Fraction(max(math.ceil(Fraction(one * self.case.limits[-1], scale)), *slacks), one)
 
     @property
     def status(self) -> int:
@@ -680,41 +560,6 @@ def check_written_margin(answer: Answer, guard: int, told: Printed | None) -> No
         must((told < 0) == (answer.reached(number, level) is not None), "reached as written", told)
 
 
-# How slack can grow
-
-
-def check_column(case: Case, name: str, total: Printed, above: Printed, stored: int) -> None:
-    """The sum of a column, by how much it is above 1, and the sum as it is stored."""
-    must(stored == case.columns[name] > 65_536, "stored sum", name, stored)
-    check_rounded_up(total, Fraction(stored, 65_536), "sum", name)
-    check_rounded_up(above, Fraction(stored - 65_536, 65_536), "above 1", name)
-    must(total - 1 == above > 0 and total.decimals == above.decimals == 5, total, above)
-
-
-def check_limit(answer: Answer, number: int, last: Printed | None) -> None:
-    """The limit of the slack at the last step; and that no slack passes the limit of its step."""
-    swept, limits = answer.listing.directions[number], answer.case.limits
-    must(not isinstance(swept, Growth), "a direction of a calm model is refused for growth")
-    must(all(map(le, swept.slacks, limits)), "a slack passes its limit", number)
-    must(last is not None, "no limit", number)
-    must(last.decimals == answer.decimals[number], "decimals", last)
-    must(last == answer.limit(number, last.decimals), "limit of the slack", number, last)
-    must(last >= Fraction(limits[-1], answer.scale(number)), "rounded down", last)
-
-
-def check_smallest(
-    answer: Answer, number: int, margin: Printed | None, guard: int | None, step: int | None
-) -> None:
-    """The smallest margin of a direction, its guard, and from which step the slack may pass it."""
-    must(guard == answer.closest(number), "guard of the smallest margin", guard)
-    smallest = answer.smallest(number)
-    must((margin is None) == (smallest is None), "smallest margin", margin)
-    if margin is not None:
-        must(margin.decimals == answer.decimals[number], "decimals", margin)
-        check_rounded_down(margin, smallest, "smallest margin")
-    must(step == answer.passing(number), "may pass the margin", number, step)
-
-
 # JSON
 
 
@@ -735,23 +580,10 @@ def check_json_written(answer: Answer, number: int, told: dict[str, Any]) -> Non
     most, step = told.pop("most_above_bound"), told.pop("most_above_bound_step")
     if above:
         check_rounded_up(most, max(above.values()), "above")
-        must(step == max(above, key=above.__getitem__), "step above", step)
+        check_rounded_up(most, above[int(step)], "step above", step)
     else:
         must(most is None and step is None, "above nothing")
     must(not told, "more", told)
-
-
-def check_json_slack(answer: Answer, number: int, told: dict[str, Any]) -> None:
-    """How the slack of a direction can grow; of a model that is not calm nothing."""
-    names = ("slack_limit_last", "slack_limit_last_multiplied", "margin_smallest",
-             "margin_smallest_guard", "slack_may_pass_margin_step")
-    last, whole, margin, guard, step = cells = [told.pop(name) for name in names]
-    if not answer.case.calm:
-        must(cells == [None] * 5, "not calm", cells)
-        return
-    must(whole == answer.case.limits[-1], "limit", whole)
-    check_limit(answer, number, last)
-    check_smallest(answer, number, margin, guard, step)
 
 
 def check_json_direction(answer: Answer, told: dict[str, Any]) -> None:
@@ -768,8 +600,6 @@ def check_json_direction(answer: Answer, told: dict[str, Any]) -> None:
     must((written is None) == (case.written is None), "as written")
     if written is not None:
         check_json_written(answer, number, written)
-    answer.decimals |= {number: one.decimals for one in bounds[:1]}
-    check_json_slack(answer, number, told)
     must(not told, "more", told)
     if isinstance(swept, Growth):
         must(growth == swept.step, "growth", growth, swept)
@@ -853,13 +683,6 @@ def check_json_model(case: Case, told: dict[str, Any], plain: bool = False) -> A
     packed = case.data if case.data[:1] == b"\x01" else case.source.data
     must(told.pop("packed_sha256") == hashlib.sha256(packed).hexdigest(), "packed_sha256")
     check_notes(case, told.pop("notes"))
-    must(told.pop("calm") is case.calm, "calm")
-    columns = told.pop("columns_above_one")
-    must([one["coordinate"] for one in columns] == list(case.above), "columns", columns)
-    for one in map(dict, columns):
-        check_column(case, *(one.pop(key) for key in ("coordinate", "sum", "above", "stored_sum")))
-        must(not one, "more", one)
-    COUNTED["calm models" if case.calm else "models that are not calm"] += 1
     for one in directions:
         check_json_direction(answer, dict(one))
     check_order(answer, [check_json_guard(answer, dict(one)) for one in guards])
@@ -942,16 +765,6 @@ def check_csv_row(answer: Answer, row: dict[str, str]) -> int | None:
             check_rounded_up(above, most, "above")
     must(row.pop("time_unit") == (case.source.time or (0, ""))[1], "time unit")
     must(row.pop("message") == "", "message")
-    must(row.pop("calm") == ("yes" if case.calm else "no"), "calm")
-    last, margin = number_or_none("slack_limit_last"), number_or_none("margin_smallest")
-    closest = row.pop("margin_smallest_guard")
-    passing = number_or_none("slack_may_pass_margin_step")
-    if case.calm:
-        check_limit(answer, number, last)
-        guard = case.guard_names.index(closest) if closest else None
-        check_smallest(answer, number, margin, guard, passing)
-    else:
-        must((last, margin, closest, passing) == (None, None, "", None), "not calm", last, margin)
     name = row.pop("guard")
     if not name:
         must(not any(row.values()), "no guard", row)
@@ -1124,61 +937,8 @@ def check_text_written(answer: Answer, cells: dict[str, str]) -> int:
         check_unit(unit, name, figure)
         must(int(count) == len(above) and steps == "step" + "s" * (len(above) > 1), told)
         check_rounded_up(Printed(figure), max(above.values()), told)
-        check_place(case, place, max(above, key=above.__getitem__))
+        check_rounded_up(Printed(figure), above[check_place(case, place)], "step above", told)
     return number
-
-
-def check_text_column(case: Case, cells: dict[str, str]) -> str:
-    """`angle  1.13530  0.13530  74,403/65,536`; the coordinate."""
-    cells, parts = dict(cells), ("sum of magnitudes", "above 1 by")
-    name, (stored,) = cells.pop("column"), matched(rf"({NUMBER})/65,536", cells.pop("stored sum"))
-    total, above = (Printed(matched(rf"({NUMBER})", cells.pop(part))[0]) for part in parts)
-    check_column(case, name, total, above, int(Printed(stored)))
-    must(not cells, "more", cells)
-    return name
-
-
-def check_text_slack(answer: Answer, cells: dict[str, str]) -> int:
-    """`motor  0.00014 °C  0.65818 °C (limit)  none up to step 120`; the direction's number."""
-    case, cells = answer.case, dict(cells)
-    number = case.source.directions.index(cells.pop("direction"))
-    told, place = cells.pop("smallest margin"), cells.pop("may pass it from step")
-    (heading,) = cells
-    check_place(case, matched("slack at most at step (.*)", heading)[0], case.model.steps)
-    figure, unit = matched(rf"({NUMBER}) (\S+)", cells[heading])
-    check_unit(unit, case.unit(number)[0], figure)
-    check_limit(answer, number, Printed(figure))
-    if told == "no guard":
-        must(place == "", "no guard", place)
-        check_smallest(answer, number, None, None, None)
-        return number
-    figure, unit, name = matched(rf"(?:({NUMBER}) (\S+)|UNKNOWN) \((.*)\)", told)
-    margin, step = Printed(figure) if figure else None, None
-    if margin is None:
-        must(place == "open already", "open", place)
-    else:
-        check_unit(unit, case.unit(number)[0], figure)
-        if place != f"none up to step {case.model.steps}":
-            step = check_place(case, place)
-    check_smallest(answer, number, margin, case.guard_names.index(name), step)
-    return number
-
-
-def check_text_calm(answer: Answer, section: Section) -> None:
-    """Whether the model is calm, with its slacks, the smallest margin first; or its columns."""
-    case, numbers = answer.case, range(len(answer.case.model.directions))
-    must(section.calm == (CALM if case.calm else NOT_CALM), section.calm)
-    if not case.calm:
-        names = [check_text_column(case, cells) for cells in section.slacks]
-        must(names == list(case.above), "columns", names)
-        return
-    found = [check_text_slack(answer, cells) for cells in section.slacks]
-    must(sorted(found) == list(numbers), "each direction once", found)
-    margins = [answer.smallest(number) for number in found]
-    free = [answer.closest(number) is None for number in found]
-    keys = [(no_guard, margin is not None, (margin or 0) * answer.scale(number))
-            for no_guard, margin, number in zip(free, margins, found)]
-    must(keys == sorted(keys), "order by margin", keys)
 
 
 def check_text_model(answer: Answer, section: Section) -> None:
@@ -1197,7 +957,6 @@ def check_text_model(answer: Answer, section: Section) -> None:
     for check, cells in zip(checks, tables):
         numbers = [check(answer, one) for one in cells]
         must(sorted(numbers) == list(range(len(model.directions))), "each direction once")
-    check_text_calm(answer, section)
     warnings = [row for row in section.rest if row.startswith("WARNING: ")]
     passed = set()
     if case.written is not None:
@@ -1365,42 +1124,3 @@ def random_cases(seed: int, packed: int, texts: int) -> Iterator[Case]:
         yield Case(f"p{number:03}.bin", encode(model, input_stated=stated, fitted_rows=fitted))
     for number in range(texts):
         yield Case(f"t{number:03}.model", random_text(rng).encode())
-
-
-def near_limits(rng: random.Random, case: Case, number: int) -> int:
-    """A level whose margin is about the limit of a slack at some step, as it is or multiplied."""
-    entries = case.model.directions[number]
-    factor = rng.choice((1, MAX_DIRECTION_ENTRY // max(map(abs, entries))))
-    swept = exact.sweep(case.model, tuple(factor * entry for entry in entries))
-    margin = rng.choice(case.limits[1:]) + rng.choice((-1, 0, 0, 0, 1))
-    lows = map(sub, swept.bounds, swept.slacks)
-    edge = max(swept.bounds) + margin if rng.random() < 0.6 else max(lows) - margin
-    return edge // factor
-
-
-def random_calm_model(rng: random.Random) -> Model:
-    """A calm model whose limits rise by some counts; directions have large and small factors."""
-    while True:
-        model = models.random_model(rng)
-        if exact.check_cost(model) < MOST_COST and model.steps <= 16:
-            case = Case("", encode(model))
-            if case.calm and len(set(case.limits)) > 3:
-                break
-    directions = []
-    for entries in model.directions[:4]:
-        most = MAX_DIRECTION_ENTRY // max(map(abs, entries))
-        times = min(most, rng.choice((1, 1, 250, 333, 500, 501, 1000)))
-        directions.append(tuple(times * entry for entry in entries))
-    return replace(model, directions=tuple(directions), guards=())
-
-
-def random_calm_cases(seed: int, count: int) -> Iterator[Case]:
-    """Calm models with guards whose margins are at and beside the limits of slacks."""
-    rng = random.Random(seed)
-    for number in range(count):
-        model = random_calm_model(rng)
-        case = Case("", encode(model))
-        counts = [rng.choice((0, 1, 1, 1, 3)) for _ in model.directions]
-        on = [one for one, guards in enumerate(counts) for _ in range(guards)]
-        guards = tuple((one, near_limits(rng, case, one)) for one in on)
-        yield Case(f"c{number:03}.bin", encode(replace(model, guards=guards)))

@@ -23,10 +23,6 @@ and rounded outward, so that each follows from a proved one. Where entries were 
 the exact largest values of the matrix as written are told too, with a warning where one passes a
 bound.
 
-The report also says whether the model is calm: whether in each column of the matrix the magnitudes
-of the entries sum to at most 1. If it is, it prints what the slack can be at the last step and from
-which step on it may pass the smallest margin; if not, which columns are above 1, and by how much.
-
 The status is
   0  where every guard is CLEAR,
   1  where a model is refused; standard error says why,

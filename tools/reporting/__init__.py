@@ -2,7 +2,6 @@
 
     program    the proved program: built, and called
     sharpen    the factor of each direction
-    calmness   how slack can grow: columns above 1, or limits and the margins that they pass
     reports    the report of one model: its directions, their decimals, what is most urgent
     batch      many models at once
     changes    what differs between two reports

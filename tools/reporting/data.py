@@ -20,18 +20,12 @@ from inputs import Failed
 from listings import CLEAR, Growth
 from quantities import exactly, told
 
-from .calmness import COLUMN_PLACES, SlackLimit
 from .changes import Change, Changes, DirectionChange, GuardChange
 from .reports import Report, Result
 
 FORMAT = "pepperscarp-report"
 FORMAT_VERSION = 2
 ANSWERED, REFUSED, NOT_RUN = "answered", "refused", "not run"
-# How the slack of a direction can grow.
-SLACK_NAMES = (
-    "slack_limit_last", "slack_limit_last_multiplied", "margin_smallest", "margin_smallest_guard",
-    "slack_may_pass_margin_step",
-)
 
 
 class Numeral(str):
@@ -99,34 +93,6 @@ def written_of(one: Figures, report: Report) -> dict[str, object] | None:
     }
 
 
-def slack_limit_of(slack: SlackLimit | None) -> dict[str, object]:
-    """How the slack of a direction can grow; all None if the model is not calm."""
-    if slack is None:
-        return dict.fromkeys(SLACK_NAMES)
-    guard, places = slack.guard, slack.figures.places
-    values = (
-        numeral(slack.last, places),
-        slack.limits[-1],
-        numeral(slack.margin, places),
-        None if guard is None else guard.number,
-        slack.step,
-    )
-    return dict(zip(SLACK_NAMES, values, strict=True))
-
-
-def columns_of(report: Report) -> list[dict[str, object]]:
-    """The columns whose magnitudes sum to more than 1."""
-    return [
-        {
-            "coordinate": column.coordinate,
-            "sum": numeral(column.total, COLUMN_PLACES),
-            "above": numeral(column.above, COLUMN_PLACES),
-            "stored_sum": column.stored,
-        }
-        for column in report.calmness.above
-    ]
-
-
 def direction_of(one: Figures, report: Report) -> dict[str, object]:
     direction = one.direction
     swept, unit = direction.swept, direction.unit
@@ -144,7 +110,6 @@ def direction_of(one: Figures, report: Report) -> dict[str, object]:
         "as_written": written_of(one, report),
         "bounds": [numeral(one.bound(step), one.places) for step in steps],
         "slacks": [numeral(one.slack(step), one.places) for step in steps],
-        **slack_limit_of(report.calmness.slack_of(one)),
         "proved": None if grown else {
             "spare": swept.spare, "bounds": list(swept.bounds), "slacks": list(swept.slacks)
         },
@@ -195,8 +160,6 @@ def model_of(result: Result) -> dict[str, object]:
         "time_of_step": None if time is None else number(time[0]),
         "time_unit": None if time is None else time[1],
         "plain": result.plain,
-        "calm": result.calmness.calm,
-        "columns_above_one": columns_of(result),
         "notes": pack.notes(result.source),
         "guards": [guard_of(one, guard, result) for one, guard in result.guards],
         "directions": [direction_of(one, result) for one in result.ordered],
@@ -278,8 +241,7 @@ COLUMNS = (
     "model", "result", "direction", "unit", "factor", "bound", "bound_step", "bound_time", "slack",
     "growth_step", "largest_as_written", "above_largest_bound", "most_above_bound", "guard",
     "level", "verdict", "verdict_step", "verdict_time", "margin_least", "margin_most",
-    "margin_as_written", "reached_as_written_step", "clear", "time_unit", "message", "calm",
-    "slack_limit_last", "margin_smallest", "margin_smallest_guard", "slack_may_pass_margin_step",
+    "margin_as_written", "reached_as_written_step", "clear", "time_unit", "message",
 )
 CHANGE_COLUMNS = (
     "direction", "guard", "old_unit", "new_unit", "old_bound", "new_bound", "bound_change",
@@ -304,8 +266,6 @@ def yes_or_no(value: object) -> str | None:
 def direction_cells(one: Figures, report: Report) -> dict[str, object]:
     found = direction_of(one, report)
     peak, written = found["peak"] or {}, found["as_written"] or {}
-    slack = report.calmness.slack_of(one)
-    closest = None if slack is None else slack.guard
     return {
         "model": report.name,
         "result": ANSWERED,
@@ -321,9 +281,6 @@ def direction_cells(one: Figures, report: Report) -> dict[str, object]:
         "above_largest_bound": written.get("above_largest_bound"),
         "most_above_bound": written.get("most_above_bound"),
         "time_unit": None if report.source.time is None else report.source.time[1],
-        "calm": yes_or_no(report.calmness.calm),
-        **slack_limit_of(slack),
-        "margin_smallest_guard": None if closest is None else closest.label,
     }
 
 

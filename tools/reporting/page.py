@@ -53,7 +53,7 @@ dd { margin: 0 0 .2rem; }
   section.model + section.model { break-before: page; }
   h2, h3 { break-after: avoid; }
   figure, table, .warning { break-inside: avoid; }
-  figure.legend, .calm { break-after: avoid; }
+  figure.legend { break-after: avoid; }
   .scroll, pre { overflow: visible; }
   pre { white-space: pre-wrap; font-size: 8pt; }
   table { font-size: 8.5pt; }
@@ -72,14 +72,6 @@ PROVED = (
     "Bounds, slacks and verdicts here are the program's, for each direction and its levels times"
     " the factor that is told. Multiplying leaves the runs as they are; a bound of the multiplied"
     " direction, divided by the factor, bounds the direction itself.",
-    "A model is <b>calm</b> if in each column of its stored matrix the magnitudes of the entries"
-    " sum to at most 1. In a calm model no direction is refused for growth, whatever its factor,"
-    " and no slack at step k is above the limit"
-    " (k&nbsp;×&nbsp;X + k&nbsp;×&nbsp;(k&nbsp;-&nbsp;1)&nbsp;/&nbsp;2&nbsp;×&nbsp;Y + 1)"
-    "&nbsp;/&nbsp;1,048,576, rounded up, plus 1 (laws <code>slack-within</code> and"
-    " <code>multiplied-within</code>). X is the sum of the initial reaches, and Y the sum of the"
-    " input reaches and of the drift's magnitudes. The limit is in counts of the direction times"
-    " its factor.",
 )
 TESTED = (
     "Packing the text, multiplying, dividing by the factor and by the counts of a unit, rounding"
@@ -88,9 +80,6 @@ TESTED = (
     " follows from a proved one.",
     "Values as written are those of the matrix before its entries were rounded to multiples of"
     " 1/65,536. They are exact fractions, told rounded up, and not proved.",
-    "Whether a model is calm, the limit of its slacks and the step from which on a slack may pass a"
-    " margin are computed by the tools, by the proved formula. They are tested, the formula also"
-    " against the proved routines, and not proved.",
 )
 ASSUMED = (
     "The model fits the printer: its sets hold every start and every input, and its matrix, as"
@@ -196,9 +185,6 @@ def section(report: Report, anchor: str) -> str:
         "<h3>The matrix as written</h3>" if report.rounded else "",
         table_of(tables.written(report)),
         bullets(map(escape, pack.notes(report.source))) if pack.notes(report.source) else "",
-        "<h3>How slack can grow</h3>",
-        f'<p class="calm">The model is {escape(words.calmness(report))}.</p>',
-        table_of(tables.calmness(report)),
         "<h3>Charts</h3>",
         pictures(report),
         "<h3>Model</h3>",

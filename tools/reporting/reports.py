@@ -23,7 +23,6 @@ from listings import CLEAR, Growth, Listing, Refusal, Sweep
 from textform import Source
 
 from . import program, sharpen
-from .calmness import Calmness, calmness_of
 
 # The statuses of `report`, and which of several is told: the last of these.
 ALL_CLEAR, NOT_CLEAR = 0, 3
@@ -56,10 +55,6 @@ class Report:
         order = list(dict.fromkeys(one.direction.number for one, _ in self.guards))
         order += [one.number for one in self.directions if one.number not in order]
         return [self.figures[number] for number in order]
-
-    @cached_property
-    def calmness(self) -> Calmness:
-        return calmness_of(self.source, self.ordered)
 
     @property
     def rounded(self) -> bool:

@@ -11,7 +11,6 @@ from listings import Growth
 from quantities import exactly, told
 
 from . import words
-from .calmness import COLUMN_PLACES
 from .changes import Change, Changes, GuardChange
 from .reports import WORST_LAST, Report, Result
 
@@ -76,42 +75,6 @@ def written(report: Report) -> Table:
         ])
     heads = ("direction", "largest as written", "at step", "above its bound")
     return Table(heads, rows, right=(1,))
-
-
-def calmness(report: Report) -> Table:
-    """The slacks of a calm model, the smallest margin first; or the columns that are above 1."""
-    return slack_limits(report) if report.calmness.calm else columns_above(report)
-
-
-def slack_limits(report: Report) -> Table:
-    """A row for each direction: its slack at the last step, and where it may pass its margin."""
-    rows = [
-        [
-            slack.direction.name,
-            words.quantity(slack.last, slack.figures),
-            words.smallest_margin(slack),
-            words.passing(slack, report),
-        ]
-        for slack in report.calmness.slacks
-    ]
-    last = f"slack at most at step {words.at_step(report.source.model.steps, report)}"
-    heads = ("direction", last, "smallest margin", "may pass it from step")
-    return Table(heads, rows, right=(1,))
-
-
-def columns_above(report: Report) -> Table:
-    """A row for each column whose magnitudes sum to more than 1."""
-    rows = [
-        [
-            column.coordinate,
-            told(column.total, COLUMN_PLACES),
-            told(column.above, COLUMN_PLACES),
-            words.stored_sum(column),
-        ]
-        for column in report.calmness.above
-    ]
-    heads = ("column", "sum of magnitudes", "above 1 by", "stored sum")
-    return Table(heads, rows, right=(1, 2, 3))
 
 
 def urgent_first(results: Sequence[Result]) -> list[Result]:

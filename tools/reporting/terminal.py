@@ -59,11 +59,6 @@ def warnings(reports: Sequence[Report]) -> list[str]:
     return found
 
 
-def calmness(report: Report, colours: bool = False) -> list[str]:
-    """Whether the model is calm, and below that in rows what follows or why it isn't."""
-    return ["", words.calmness(report), *lines_of(tables.calmness(report), colours)[1:]]
-
-
 def whole(report: Report, colours: bool = False) -> str:
     """The report of one model."""
     return text([
@@ -71,7 +66,6 @@ def whole(report: Report, colours: bool = False) -> str:
         *lines_of(tables.guards(report), colours),
         *lines_of(tables.directions(report)),
         *lines_of(tables.written(report)),
-        *calmness(report, colours),
         "",
         *warnings([report]),
         *(f"note: {note}" for note in pack.notes(report.source)),

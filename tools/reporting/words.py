@@ -7,11 +7,9 @@ from fractions import Fraction
 from answers import (
     REACHED_AS_WRITTEN, URGENCY, Direction, Figures, Guard, expression, reached_sign,
 )
-from layout import MATRIX_UNIT
 from listings import GROWTH, HIT, UNKNOWN, Growth
 from quantities import about, exactly, told
 
-from .calmness import Column, SlackLimit
 from .reports import Report
 
 MOST_DIGITS = 18  # of a figure before the point; beyond that it is told by its first digits
@@ -19,20 +17,9 @@ MOST_DIGITS = 18  # of a figure before the point; beyond that it is told by its 
 # What a report rests on, as a text ends with it.
 RESTS_ON = (
     "Bounds, slacks and verdicts are the proved program's, for each direction times its factor.",
-    "Scaling, outward rounding, values as written, calmness, slack limits and layout are by tools:"
-    " tested, not proved.",
+    "Scaling, outward rounding, values as written and the layout are by tools: tested, not proved.",
 )
 
-
-# Whether a model is calm, and what follows.
-CALM = (
-    "calm: in each column of the matrix the magnitudes sum to at most 1, so no direction can be"
-    " refused for growth"
-)
-NOT_CALM = (
-    "not calm: in these columns of the matrix the magnitudes sum to more than 1, so no limit on"
-    " the slack is proved"
-)
 
 # The verdict on a guard that the stored matrix leaves clear, and that the one as written reaches.
 NOT_AS_WRITTEN = "CLEAR as stored, REACHED as written"
@@ -182,31 +169,3 @@ def as_written(figures: Figures, guard: Guard) -> str:
     if step is None:
         return f"clear by {written_quantity(margin, figures, up=False)}"
     return f"passed by {written_quantity(-margin, figures)} from step {step}"
-
-
-def calmness(report: Report) -> str:
-    """Whether the model is calm."""
-    return CALM if report.calmness.calm else NOT_CALM
-
-
-def smallest_margin(slack: SlackLimit) -> str:
-    """The smallest margin of a direction with its guard, or an UNKNOWN guard, which has none."""
-    if slack.guard is None:
-        return "no guard"
-    margin = UNKNOWN if slack.margin is None else quantity(slack.margin, slack.figures)
-    return f"{margin} ({slack.guard.label})"
-
-
-def passing(slack: SlackLimit, report: Report) -> str:
-    """From which step on the slack may pass the smallest margin."""
-    if slack.guard is None:
-        return ""
-    if slack.open:
-        return "open already"
-    last = report.source.model.steps
-    return f"none up to step {last}" if slack.step is None else at_step(slack.step, report)
-
-
-def stored_sum(column: Column) -> str:
-    """The sum of a column as it is stored: `74,403/65,536`."""
-    return f"{column.stored:,}/{MATRIX_UNIT:,}"

@@ -32,9 +32,7 @@ from answers import Written as Values
 from inputs import NOT_RUN, REFUSED, Failed, Input
 from layout import MAX_DIRECTION_ENTRY, MAX_DIRECTIONS, MAX_LEVEL, MIN_LEVEL, encode
 from listings import Growth, Refusal, Sweep, Verdict
-from reporting import (
-    batch, calmness, changes, data, page, reports, sharpen, tables, terminal, words,
-)
+from reporting import batch, changes, data, page, reports, sharpen, tables, terminal, words
 from reporting.reports import ALL_CLEAR, NOT_CLEAR
 
 MODEL = """\
@@ -431,215 +429,6 @@ class Written(unittest.TestCase):
         self.assertRegex(told, r"^as written, d passes its largest bound by 808\.\d+ counts;")
 
 
-def matrix(*rows, guards=(), steps=3):
-    """A text of two coordinates with these rows of the matrix, and a direction."""
-    sets = ["initial box", "lower 0 0", "upper 8 8", "direction d 1 0"]
-    return "\n".join(["coordinates a b", f"steps {steps}", *rows, *sets, *guards]) + "\n"
-
-
-class Calm(unittest.TestCase):
-    """How slack can grow: limits and margins of a calm model, or the columns that are above 1."""
-
-    # The state stays as it is, and the limits are 2, 3, 4 and so on.
-    STAYS = {"entry": "1", "upper": 1_048_576, "more": 0, "steps": 9}
-
-    def stays(self, margin, entry=1000, plain=False):
-        """What is found of a direction of that model with a guard that has this margin."""
-        level = entry * 1_048_576 + margin
-        told = report(text(f"direction d {entry}", f"guard d {level} near", **self.STAYS), plain)
-        (one,) = told.calmness.slacks
-        return one
-
-    def test_a_column_of_exactly_1(self):
-        for entry, above in ((65_536, []), (-65_536, []), (65_537, [65_537]), (-65_537, [65_537])):
-            told = report(text("direction d 1").replace("row 0.5", f"scaled {entry}"))
-            self.assertEqual([one.stored for one in told.calmness.above], above)
-            self.assertEqual(told.calmness.calm, not above)
-
-    def test_columns_and_not_rows(self):
-        for rows, names in (
-            (["row 0.5 0.5", "row 0.75 -0.25"], ["a"]), (["row 1 -1", "row 0 0"], []),
-            (["row 0.5 1", "row 0 0.5"], ["b"]), (["row 1 1", "row -1 1"], ["a", "b"]),
-        ):
-            told = report(matrix(*rows))
-            self.assertEqual([one.coordinate for one in told.calmness.above], names)
-            self.assertEqual(len(told.calmness.slacks), 0 if names else 1)
-
-    def test_the_stored_matrix_counts_and_not_the_one_as_written(self):
-        """Twice 0.49999 is below 1, and stored it is 32,767 twice; 0.500004 is stored as 32,768."""
-        for entry, stored in (("~0.49999", 65_534), ("~0.500004", 65_536), ("~0.50001", 65_538)):
-            told = report(matrix(f"row {entry} 0", f"row {entry} 0"))
-            self.assertEqual(exact.column_sums(told.source.model)[0], stored)
-            self.assertEqual(told.calmness.calm, stored <= 65_536)
-
-    def test_a_sum_above_1_is_printed_above_1(self):
-        for stored, total, above in (
-            (65_537, "1.00002", "0.00002"), (65_538, "1.00004", "0.00004"),
-            (74_403, "1.13530", "0.13530"), (131_072, "2.00000", "1.00000"),
-        ):
-            told = report(text("direction d 1").replace("row 0.5", f"scaled {stored}"))
-            row = ["value", total, above, f"{stored:,}/65,536"]
-            self.assertEqual(tables.calmness(told).rows, [row])
-            (found,) = json.loads(data.as_json([told], 0))["models"][0]["columns_above_one"]
-            self.assertEqual(found, {"coordinate": "value", "sum": float(total),
-                                     "above": float(above), "stored_sum": stored})
-
-    def test_limits(self):
-        """k X + k (k - 1) / 2 Y + 1 in 1/1,048,576, rounded up, plus 1."""
-        for upper, more, drift, limits in (
-            (1_048_576, 0, 0, [2, 3, 4, 5, 6]), (0, 1_048_576, 0, [2, 2, 3, 5, 8]),
-            (0, 0, -1_048_576, [2, 2, 3, 5, 8]), (0, 524_288, 524_288, [2, 2, 3, 5, 8]),
-            (1_048_575, 0, 0, [2, 2, 3, 4, 5]), (0, 0, 0, [2, 2, 2, 2, 2]),
-            (1_048_576, 524_288, -524_288, [2, 3, 5, 8, 12]),
-        ):
-            content = text("direction d 1", upper=upper, more=more, steps=4, entry="1")
-            told = report(content.replace("initial", f"drift {drift}\ninitial"))
-            (one,) = told.calmness.slacks
-            self.assertEqual(list(one.limits), limits)
-
-    def test_a_margin_equal_to_the_limit_is_not_passed(self):
-        steps = {0: 1, 1: 1, 2: 1, 3: 2, 4: 3, 9: 8, 10: 9, 11: None, 12: None}
-        for margin, step in steps.items():
-            for sign in (1, -1):  # clear by the margin, and passed by it
-                one = self.stays(sign * margin)
-                word = "HIT" if sign * margin < 0 else "CLEAR"
-                self.assertEqual((one.guard.said.word, one.margin), (word, margin))
-                self.assertEqual(one.step, step)
-
-    def test_the_limit_is_divided_by_the_factor(self):
-        for entry, plain, last, step in (
-            (1000, False, 11, 2), (500, False, 6, 5), (1, False, 1, None), (1, True, 11, 2),
-        ):
-            one = self.stays(3, entry, plain)
-            self.assertEqual((one.limits[-1], one.last, one.step), (11, last, step))
-        level = 3 * 1_048_576
-        told = report(text("direction d 3", f"guard d {level + 1}", "unit d V 1000", **self.STAYS))
-        (one,) = told.calmness.slacks
-        self.assertEqual((one.direction.factor, one.last), (333, Fraction("0.001")))
-        self.assertEqual((one.margin, one.exact_margin), (Fraction("0.001"), 333))
-
-    def test_steps_are_compared_before_rounding(self):
-        """A margin of 4/3 V is printed as less than it is, and a limit of 4/3 V as more."""
-        guard = Guard(0, None, 11, Verdict("CLEAR"))
-        swept = Sweep(0, (7, 7, 7, 7), (0, 0, 0, 0))
-        figures = Figures(Direction(0, "d", (1,), swept, unit=("V", 3), guards=(guard,)))
-        one = calmness.SlackLimit(figures, (2, 3, 4, 5))
-        self.assertLess(one.margin, Fraction(4, 3))
-        self.assertLess(Fraction(4, 3), calmness.SlackLimit(figures, (2, 3, 4)).last)
-        self.assertEqual((one.exact_margin, one.step), (4, 3))
-
-    def test_the_limit_is_not_printed_below_a_slack(self):
-        """A slack of 2/16,000 is printed as 0.00014 and the limit, 0.000125, as that too."""
-        for one in example("receipt").calmness.slacks:
-            self.assertEqual(one.limits[-1], 2)
-            self.assertEqual((one.last, one.figures.largest_slack), (Fraction("0.00014"),) * 2)
-
-    def test_no_slack_is_above_its_limit(self):
-        rng = random.Random(74)
-        seen = 0
-        while seen < 40:
-            model = models.random_model(rng)
-            if exact.check_cost(model) > 60_000 or not exact.calm(model):
-                continue
-            seen += 1
-            told = reports.report_of(Input("file", encode(model)), False, exactly)
-            for one in told.calmness.slacks:
-                swept = one.direction.swept
-                self.assertTrue(all(map(int.__le__, swept.slacks, one.limits)))
-                self.assertLessEqual(Fraction(one.limits[-1], one.direction.factor), one.last)
-                self.assertLessEqual(one.figures.largest_slack, one.last)
-
-    def test_an_unknown_guard_is_open_already(self):
-        rows = "direction d 1", "guard d 2 high", "guard d 1 low"
-        told = report(text(*rows), plain=True)
-        (one,) = told.calmness.slacks
-        self.assertEqual((one.open, one.guard.name), (True, "low"))
-        self.assertEqual((one.margin, one.step), (None, None))
-        self.assertEqual(tables.calmness(told).rows,
-                         [["d", "2 counts", "UNKNOWN (low)", "open already"]])
-        found = json.loads(data.as_json([told], 3))["models"][0]["directions"][0]
-        self.assertEqual([found[name] for name in ("margin_smallest", "margin_smallest_guard",
-                                                   "slack_may_pass_margin_step")], [None, 1, None])
-
-    def test_a_direction_without_a_guard(self):
-        told = report(text("direction d 1"))
-        self.assertEqual(tables.calmness(told).rows, [["d", "0.01 counts", "no guard", ""]])
-        found = json.loads(data.as_json([told], 0))["models"][0]["directions"][0]
-        self.assertEqual(found["slack_limit_last"], 0.01)
-        self.assertEqual(found["slack_limit_last_multiplied"], 2)
-        self.assertIsNone(found["margin_smallest_guard"])
-
-    def test_margins_are_those_of_the_guards(self):
-        """The bound is 10 and the slack 3: 12 is clear by 2, 5 passed by 2 and 8 UNKNOWN."""
-        swept = Sweep(0, (10, 10), (3, 3))
-        for level, margin in ((12, 2), (10, 0), (5, 2), (8, None)):
-            guard = Guard(0, None, level, exact.verdict(swept, level))
-            figures = Figures(Direction(0, "d", (1,), swept, guards=(guard,)))
-            one = calmness.SlackLimit(figures, (2, 3))
-            self.assertEqual((one.margin, one.exact_margin), (margin, margin))
-            if margin is not None:
-                self.assertIn(f" by {margin} count", words.margin(figures, guard))
-
-    def test_the_smallest_margin_of_a_direction(self):
-        """Of clear and of passed guards together; of several the first."""
-        for rows, name in (
-            (["guard d 9 far", "guard d 3 near", "guard d -5 passed"], "near"),
-            (["guard d 9 far", "guard d 1 passed"], "passed"),
-            (["guard d 3 first", "guard d 3 second"], "first"),
-        ):
-            (one,) = report(text("direction d 1", *rows)).calmness.slacks
-            self.assertEqual(one.guard.name, name)
-
-    def test_the_smallest_margin_as_swept_comes_first(self):
-        """1 count times 1,000 is more than 3 counts times 1. Open ones first, unguarded last."""
-        size = 1_048_576
-        rows = ["direction free 2", "direction one 1", "direction all 1000",
-                f"guard one {size + 1}", f"guard all {1000 * size + 3}"]
-        told = report(text(*rows, **self.STAYS))
-        names = [one.direction.name for one in told.calmness.slacks]
-        self.assertEqual(names, ["all", "one", "free"])
-        rows = ["direction free 2", "direction at 2", "direction open 1", "guard at 4",
-                "guard open 1"]
-        told = report(text(*rows), plain=True)
-        names = [one.direction.name for one in told.calmness.slacks]
-        self.assertEqual(names, ["open", "at", "free"])
-
-    def test_times_and_units(self):
-        told = report(text("time 0.5 ms", "direction d 1000", "unit d V 1000",
-                           "guard d 1048576007 near", **self.STAYS))
-        table = tables.calmness(told)
-        heads = ("direction", "slack at most at step 9 (4.5 ms)", "smallest margin",
-                 "may pass it from step")
-        self.assertEqual((table.heads, table.rows),
-                         (heads, [["d", "0.011 V", "0.007 V (near)", "6 (3 ms)"]]))
-
-    def test_the_text(self):
-        for name, first in (("receipt", words.CALM), ("roller", words.NOT_CALM)):
-            told = terminal.whole(example(name))
-            self.assertEqual(told.count(f"\n\n{first}\n"), 1)
-        self.assertRegex(told, r"\nangle +1\.13530 +0\.13530 +74,403/65,536\n"
-                               r"speed +1\.13530 +0\.13530 +74,403/65,536\n\n")
-
-    def test_csv(self):
-        rows = "direction d 1000", "direction e 1", "guard d 1048576007 near", "guard d 0 far"
-        cells = list(csv.DictReader(io.StringIO(data.as_csv([report(text(*rows, **self.STAYS))]))))
-        names = data.COLUMNS[-5:]
-        found = {row["guard"] or row["direction"]: [row[name] for name in names] for row in cells}
-        near = ["yes", "11", "7", "near", "6"]
-        self.assertEqual(found, {"near": near, "far": near, "e": ["yes", "1", "", "", ""]})
-        told = report(text(*rows, **{**self.STAYS, "entry": "1.5"}))
-        for row in csv.DictReader(io.StringIO(data.as_csv([told]))):
-            self.assertEqual([row[name] for name in names], ["no", "", "", "", ""])
-
-    def test_growth_needs_a_model_that_is_not_calm(self):
-        runaway = example("runaway")
-        self.assertFalse(runaway.calmness.calm)
-        found = json.loads(data.as_json([runaway], 3))["models"][0]
-        self.assertEqual([one["coordinate"] for one in found["columns_above_one"]], ["driver"])
-        for one in found["directions"]:
-            self.assertIsNone(one["slack_limit_last"])
-
-
 class Texts(unittest.TestCase):
     """What is told on a terminal."""
 
@@ -939,21 +728,10 @@ class Page(unittest.TestCase):
                      "What is proved", "What is tested", "What is assumed", "-21,515.063 mV",
                      "generator 240 0 240", "passed by 1,284.916 mV", "Warning:",
                      "rail < 22,800 mV", "rail > 24,600 mV", "fades: < 22,800 mV",
-                     REACHED_MEANS, "How slack can grow", "The model is not calm: ",
-                     "1.60001 0.60001 104,858/65,536", "slack-within"):
+                     REACHED_MEANS):
             self.assertIn(part, shown)
         self.assertIn("svg", found.seen)
         self.assertIn("@media print", content)
-
-    def test_how_slack_can_grow(self):
-        for name, sentence in (("receipt", words.CALM), ("roller", words.NOT_CALM)):
-            told = example(name)
-            content = page.page([told])
-            self.assertEqual(content.count("<h3>How slack can grow</h3>"), 1)
-            self.assertEqual(content.count(f">The model is {sentence}.</p>"), 1)
-            for row in tables.calmness(told).rows:
-                cells = re.escape("".join(f"<td>{cell}</td>" for cell in row))
-                self.assertRegex(content, cells.replace("<td>", "<td(?: class=\"right\")?>"))
 
     def test_names_and_texts_are_escaped(self):
         content = text("direction d 1", "guard d 1", "# <script>alert(1)</script> & so on")
