@@ -2,7 +2,7 @@
 """Tell the unused imports of the Rattle files, and the definitions and laws that nothing cites.
 
     unused.py          tell them; status 1 where there are some
-    unused.py --fix    remove the unused imports in place (then run `rt fmt`), and tell the rest
+    unused.py --fix    remove the unused imports in place (then run `rt fmt` in the crates), and tell the rest
 
 An import is used where its name stands in the file, outside the imports; `pub use` passes a name
 on and is always used. A definition, law, type or ruleset of specs/ or proofs/ is cited where
