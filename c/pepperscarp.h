@@ -20,7 +20,7 @@
  * Floating-point exceptions have to be masked, as they are when a program starts: a fitted row may hold NaNs and subnormal
  * numbers. A call may set the sticky exception flags of MXCSR, and changes nothing else there.
  *
- * Another processor. There is no archive for one, and `rt staticlib` makes none. Either take finished tables along: list or sweep
+ * Another processor. There is no archive for one, and `tools/archive` makes none. Either take finished tables along: list or sweep
  * the models on an x86-64 computer. Or run tools/exact.py there, which is slow, and tested and not proved. Or write the step anew
  * from the specification's "Recurrence" and test it against pepperscarp_step on many values. The proofs are about the source of
  * this archive and say nothing of another version.

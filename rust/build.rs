@@ -15,7 +15,7 @@ fn main() {
         fail(&format!("the archive is for x86-64, and this build is for {target}"));
     }
     if !archive.exists() {
-        fail("target/staticlib/libpepperscarp.a is missing: run `rt staticlib pepperscarp` at the root of the repository");
+        fail("target/staticlib/libpepperscarp.a is missing: run tools/archive of the repository");
     }
     println!("cargo:rustc-link-search=native={}", folder.display());
     println!("cargo:rustc-link-lib=static=pepperscarp");

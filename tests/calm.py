@@ -17,7 +17,7 @@ Archive: pepperscarp_calm, pepperscarp_slack_limit and pepperscarp_steps_within,
 program about random models that are calm, almost calm or calm in their rows, about random files of
 every sort and about the files of the reader's tests.
 
-It takes the built program, target/bin/envelope, and the archive of `rt staticlib pepperscarp`,
+It takes the built program, target/bin/envelope, and the archive of `tools/archive`,
 target/staticlib/libpepperscarp.a, or others, and fails if one of them is missing.
 """
 
@@ -643,7 +643,7 @@ def main() -> None:
     if found is None:
         sys.exit(f"{options.program}: not a program that can be run")
     if not os.path.isfile(options.archive):
-        sys.exit(f"{options.archive}: no such file; run `rt staticlib pepperscarp`")
+        sys.exit(f"{options.archive}: no such file; run tools/archive")
     program, archive = found, os.path.abspath(options.archive)
     unittest.main(argv=[sys.argv[0], *rest])
 

@@ -27,16 +27,21 @@ SAMPLE_TEXT = (ROOT / "crates" / "envelope" / "stdout").read_bytes()
 TIME_LIMIT = 20  # seconds; a command that has not ended by then hangs
 # What the commands call, beside the programs.
 COMMANDS = (
-    "awk bash find flock head mkdir mkfifo mktemp od python3 readlink rm sed touch wc".split()
+    "awk bash cp find flock head mkdir mkfifo mktemp mv od python3 readlink rm sed touch wc".split()
 )
 OTHER_FILES = ("reader/specs/Some.antt", "reader/proofs/some/Proof.antt", "reader/must-fail/some.edit")
-# An `rt`. Like the real one it leaves a program alone where its stamp is there.
+# An `rt`. Like the real one it leaves a program alone where it and its stamp are there.
 RT = """#!/usr/bin/env bash
-echo "$*" >> '{notes}/calls'
+name=${{PWD##*/}}
+echo "$* $name" >> '{notes}/calls'
 mkdir '{notes}/busy' || echo two >> '{notes}/overlaps'
-for crate in {crates}; do echo "fn $crate::some: proved"; echo "rt: $crate proved (3 s)"; done
+for crate in {crates}; do
+    echo "fn $crate::some: proved"
+    echo "crate $crate: modules loaded=1 checked=1"
+    echo "logic=proved functions=3 sum=0"
+done >&2
 sleep {seconds}
-[ -e "target/stamp/$2" ] || {{ mkdir -p target/bin && cp '{programs}'/"$2" target/bin/; }}
+[ -e "out/$name" ] && [ -e "out/$name.stamp" ] || {{ mkdir -p out && cp '{programs}'/"$name" out/; }}
 {last}
 status=$?
 rmdir '{notes}/busy'
@@ -124,10 +129,11 @@ class Clone(unittest.TestCase):
         )
 
     def stamp(self) -> None:
-        """Let `rt` leave the program alone."""
-        stamp = self.clone / "target" / "stamp" / self.NAME
-        stamp.parent.mkdir()
-        stamp.touch()
+        """Let `rt` leave the program alone that it has made."""
+        made = self.clone / "crates" / self.NAME / "out"
+        made.mkdir()
+        shutil.copy(PROGRAMS / self.NAME, made)
+        (made / f"{self.NAME}.stamp").touch()
 
     def path(self, without: str = "", more: Sequence[str] = ()) -> str:
         """A PATH with what the commands call and no more."""

@@ -936,10 +936,10 @@ class Build(Command):
         self.assertEqual((done.returncode, done.stdout.count(b"\n")), (0, 2))
         rows = done.stderr.decode().splitlines()
         self.assertRegex(rows[0], "^canonical: proving and building the program; ")
-        self.assertEqual(rows[1:], [f"canonical: proved {crate} (3 s), {place} of {len(self.used)} crates"
+        self.assertEqual(rows[1:], [f"canonical: proved {crate} (3 functions), {place} of {len(self.used)} crates"
                                     for place, crate in enumerate(self.used, 1)])
         self.assert_done(self.run_in("m.bin"), 0, SAMPLE, b"")
-        self.assertEqual((self.notes / "calls").read_text(), "check canonical\n")
+        self.assertEqual((self.notes / "calls").read_text(), "run canonical\n")
 
     def test_rt_is_called_where_a_source_of_the_program_is_newer(self) -> None:
         sources = [self.clone / "crates.txt", *self.clone.glob("crates/reader/*/**/*.antt")]
@@ -985,7 +985,7 @@ class Build(Command):
 
     def test_a_failed_build_is_shown_and_nothing_is_written(self) -> None:
         self.program.unlink()
-        self.rt("(echo 'src/lib.rt:3: error'; exit 1)", crates=[])
+        self.rt("(echo 'src/lib.rt:3: error' >&2; exit 1)", crates=[])
         for _ in range(2):
             done = self.run_in("m.bin", "-o", "out")
             self.assert_told(done, 2, "proving and building", "src/lib.rt:3: error", "could not be built$",
@@ -1019,7 +1019,7 @@ class Build(Command):
             out, err = one.communicate(timeout=TIME_LIMIT)
             self.assertEqual((one.returncode, out), (0, expected), err)
         self.assertEqual(sorted((self.notes / "calls").read_text().split("\n")),
-                         ["", "check canonical", "check envelope"])
+                         ["", "run canonical", "run envelope"])
         self.assertFalse((self.notes / "overlaps").exists())
 
     def test_a_signal_ends_rt_too(self) -> None:

@@ -1205,7 +1205,7 @@ class Clone(Folder):
         return self.report(*words, command=[self.clone / "report"], env={"PATH": path}, **how)
 
     def test_the_program_is_built_where_it_is_missing(self) -> None:
-        self.rt(f"mkdir -p target/bin && cp '{PROGRAM}' target/bin/envelope")
+        self.rt(f"mkdir -p out && cp '{PROGRAM}' out/envelope")
         self.assert_told(self.run_clone("m.model"), 3)
         self.assertEqual(self.calls(), 0)
         self.program.unlink()

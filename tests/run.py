@@ -327,7 +327,7 @@ class Sources(Clone):
                 os.utime(source)
                 self.assert_done(self.run_on(RAIL_BIN), 0, RAIL_TEXT.read_bytes())
                 self.assertEqual(self.calls(), count)
-        self.assertEqual(set((self.notes / "calls").read_text().split("\n")), {"check envelope", ""})
+        self.assertEqual(set((self.notes / "calls").read_text().split("\n")), {"run envelope", ""})
 
     def test_rt_is_called_where_a_source_was_taken_away(self) -> None:
         self.age()
@@ -380,7 +380,7 @@ class Sources(Clone):
 
     def test_a_source_that_was_changed_meanwhile_counts_as_newer(self) -> None:
         self.program.unlink()
-        self.rt("touch crates/text/src/lib.rt && sleep 0.05 && touch target/bin/envelope", seconds=0.05)
+        self.rt("touch ../text/src/lib.rt && sleep 0.05 && touch out/envelope", seconds=0.05)
         self.assertEqual(self.run_on(RAIL_BIN).returncode, 0)
         self.rt()
         self.assertEqual(self.run_on(RAIL_BIN).returncode, 0)
@@ -413,7 +413,7 @@ class Build(Clone):
         rows = self.run_on(RAIL_BIN).stderr.decode().splitlines()
         self.assertRegex(rows[0], "^run: proving and building .* two to three minutes the first time$")
         for place, crate in enumerate(USED, 1):
-            self.assertEqual(rows[place], f"run: proved {crate} (3 s), {place} of {len(USED)} crates")
+            self.assertEqual(rows[place], f"run: proved {crate} (3 functions), {place} of {len(USED)} crates")
         self.assertEqual(len(rows), 1 + len(USED))
 
     def test_it_tells_this_while_it_proves(self) -> None:
@@ -421,29 +421,36 @@ class Build(Clone):
         self.rt(self.pause, crates=["text"])
         started = self.start(RAIL_BIN)
         rows = [started.stderr.readline() for _ in range(2)]
-        self.assertEqual(rows[1], b"run: proved text (3 s), 1 of %d crates\n" % len(USED))
+        self.assertEqual(rows[1], b"run: proved text (3 functions), %d of %d crates\n" % (USED.index("text") + 1, len(USED)))
         self.go_on()
         self.assertEqual(started.communicate(timeout=TIME_LIMIT), (RAIL_TEXT.read_bytes(), b""))
 
     def test_unchanged_crates_are_counted_and_not_told(self) -> None:
+        # `rt` says nothing of text, which is unchanged.
         self.program.unlink()
-        unchanged = "unchanged since it was last proved"
-        rows = f"rt: text proved ({unchanged})", "rt: listing proved (27 s)", "rt: x proved, and its run"
-        self.rt("printf '%s\\n' " + " ".join(f"'{row}'" for row in rows), crates=[])
+        rows = "crate listing: modules loaded=1 checked=1", "logic=proved functions=27 sum=0", "rt: running out/x"
+        self.rt("printf '%s\\n' " + " ".join(f"'{row}'" for row in rows) + " >&2", crates=[])
         self.assertEqual(
             self.run_on(RAIL_BIN).stderr.splitlines()[1:],
-            [b"run: proved listing (27 s), 2 of %d crates" % len(USED)],
+            [b"run: proved listing (27 functions), %d of %d crates" % (USED.index("listing") + 1, len(USED))],
         )
+
+    def test_one_function_is_told_as_one(self) -> None:
+        self.program.unlink()
+        rows = "crate text: modules loaded=1 checked=1", "logic=proved functions=1 sum=0"
+        self.rt("printf '%s\\n' " + " ".join(f"'{row}'" for row in rows) + " >&2", crates=[])
+        self.assertIn(b"\nrun: proved text (1 function), ", self.run_on(RAIL_BIN).stderr)
 
     def test_a_failed_build_is_shown_and_nothing_is_run(self) -> None:
         ran = self.note_runs()
         self.stamp()
-        self.rt("(echo 'src/lib.rt:3: error'; echo 'rt: text NOT PROVED (exit 1, 3 s)' >&2; exit 1)")
+        last = "src/lib.rt:3:1: error: `some`", "fn text::full: not proved", "logic=not-proved functions=2 sum=0"
+        self.rt("(printf '%s\\n' " + " ".join(f"'{row}'" for row in last) + " >&2; exit 1)")
         for _ in range(2):
             done = self.run_on(RAIL_BIN, RAIL)
             self.assert_done(done, 2, b"")
-            for row in (b"fn text::some: proved", b"src/lib.rt:3: error", b"rt: text NOT PROVED (exit 1, 3 s)"):
-                self.assertIn(b"\n" + row + b"\n", done.stderr)
+            for row in ("fn text::some: proved", *last):
+                self.assertIn(b"\n" + row.encode() + b"\n", done.stderr)
             self.assertTrue(done.stderr.endswith(b"\nrun: the program could not be built\n"))
         self.assertFalse(ran.exists())
         self.assertEqual(self.calls(), 2)
@@ -461,7 +468,7 @@ class Build(Clone):
 
     def test_a_build_that_makes_no_program_has_failed(self) -> None:
         self.program.unlink()
-        self.rt("rm target/bin/envelope")
+        self.rt("rm out/envelope")
         done = self.run_on(RAIL_BIN)
         self.assert_done(done, 2, b"")
         self.assertIn(b"has made no", done.stderr)

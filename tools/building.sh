@@ -5,11 +5,13 @@
 #
 # The messages begin with CALLER. The status is 0 where target/bin/PROGRAM is ready, and otherwise 2.
 #
+# `rt run` proves and builds the program as crates/PROGRAM/out/PROGRAM, and tries it on an empty input. Only where all of that goes
+# well the program is copied to target/bin.
+#
 # A command of the shell sources it. Before that it sets `caller`, and `root`, the folder of the repository; then it calls `begin` and
 # `ready PROGRAM`. Where the command itself needs no temporary folder, `heed_signals` takes the place of `begin`.
 #
-# `rt` has no lock of its own; here a second run waits for the first, whichever programs the two build, and then finds its own built,
-# or builds it.
+# A second run waits for the first, whichever programs the two build, and then finds its own built, or builds it.
 program=
 began=  # there from the start of a build to its good end; where a build failed or was ended it stays, and the program isn't trusted
 built=  # the name of the program that is ready
@@ -98,33 +100,34 @@ hold() {
     child=
 }
 
-# progress PROGRAM: reads what `rt` says, keeps it as `said`, and tells of each crate that was proved now.
+# progress PROGRAM: reads what `rt` says, keeps it as `said`, and tells of each crate that was proved now. `rt` says nothing of a
+# crate that has not changed.
 progress() {
-    local row proved=0 count
-    count=$(crates "$1" | wc -l)
+    local row crate= functions names k
+    mapfile -t names < <(crates "$1")
     said=()
     while IFS= read -r row || [ -n "$row" ]; do
         said+=("$row")
-        [[ $row =~ ^rt:\ ([^ ]+)\ proved\ \((.+)\)$ ]] || continue
-        proved=$((proved + 1))
-        case ${BASH_REMATCH[2]} in
-            unchanged*) ;;
-            *) say "proved ${BASH_REMATCH[1]} (${BASH_REMATCH[2]}), $proved of $count crates" ;;
-        esac
+        [[ ! $row =~ ^crate\ ([^ ]+):\  ]] || crate=${BASH_REMATCH[1]}
+        [[ $row =~ ^logic=proved\ functions=([0-9]+)( |$) ]] || continue
+        functions=${BASH_REMATCH[1]}\ functions
+        [ "$functions" != '1 functions' ] || functions='1 function'
+        for k in "${!names[@]}"; do
+            [ "${names[k]}" != "$crate" ] || say "proved $crate ($functions), $((${#names[@]} - k)) of ${#names[@]} crates"
+        done
     done
 }
 
 # build PROGRAM: proves and builds the program. It then is as old as the start of the build, since `rt` leaves a program alone that
 # would not change, and since a source that was changed meanwhile must count as newer.
 build() {
+    local made=$root/crates/$1/out/$1
     make_folder
     say 'proving and building the program; this takes two to three minutes the first time'
-    # `rt` compares sources with what it noted of them, and doesn't see that the program is missing.
-    [ -x "$program" ] || rm -f "$root/target/stamp/$1"
     touch "$began" || fail "$root/target can't be written"
     mkfifo "$work/rows" || fail "the temporary folder ${work%/*} can't be written"
     set -m # a group of its own, so that all of it can be ended
-    (cd "$root" && exec rt check "$1") < /dev/null > "$work/rows" 2>&1 &
+    (cd "$root/crates/$1" && exec rt run) < /dev/null > /dev/null 2> "$work/rows" &
     child=-$!
     set +m
     progress "$1" < "$work/rows"
@@ -134,8 +137,10 @@ build() {
         fail 'the program could not be built'
     fi
     child=
-    [ -x "$program" ] || fail "rt check $1 has made no $program"
-    { touch -r "$began" "$program" && rm "$began"; } || fail "$root/target can't be written"
+    [ -x "$made" ] || fail "rt run in crates/$1 has made no $made"
+    # Never half a program under its name.
+    { mkdir -p "${program%/*}" && cp "$made" "$program.made" && touch -r "$began" "$program.made" \
+        && mv -f "$program.made" "$program" && rm "$began"; } || fail "$root/target can't be written"
 }
 
 # ready PROGRAM: sees to it, once, that a program is built, and leaves its path as `program`.

@@ -19,7 +19,7 @@ TOKEN = re.compile(
       | (?P<name>[^\s(){}.;,@"«»]+)""",
     re.VERBOSE | re.DOTALL,
 )
-PLAIN = re.compile(r"«([^\s_(){}.;,@«»]+)»")
+PLAIN = re.compile(r"«([^\s(){}.;,@«»]+)»")
 
 
 @dataclass(frozen=True)
@@ -33,7 +33,7 @@ class Token:
 
 
 def bare(word: str) -> str:
-    """A name without the marks that it doesn't need: `«x»` is `x`, and `«a_b»` stays."""
+    """A name without the marks that keep it apart from a word of the language: `«x»` is `x`."""
     return PLAIN.sub(r"\1", word) if word.startswith("«") else word
 
 
@@ -51,11 +51,12 @@ def tokens(text: str, start: int = 0) -> list[Token]:
     return found
 
 
+PLACE = "◌"  # of an operand, in the name of an operator
+
+
 def keys(name: str) -> list[str]:
-    """What a use of the name writes: an operator's parts (`+` for `_+_`), or the name itself."""
-    if name.startswith("«"):
-        return [name]
-    return [part for part in name.split("_") if part] or [name]
+    """What a use of the name writes: an operator's parts (`+` for `◌+◌`), or the name itself."""
+    return [part for part in name.split(PLACE) if part] or [name]
 
 
 @dataclass(frozen=True)
@@ -243,7 +244,7 @@ def owner(words: list[Token], found: dict[str, Declaration]) -> Declaration | No
     """The declaration that a clause belongs to: its first name, or the operator before `=`."""
     if words[0].text in found:
         return found[words[0].text]
-    operators = {key: one for name, one in found.items() if "_" in name for key in keys(name)}
+    operators = {key: one for name, one in found.items() if PLACE in name for key in keys(name)}
     for word in words:
         if word.text == "=":
             return None
@@ -256,7 +257,7 @@ def owner(words: list[Token], found: dict[str, Declaration]) -> Declaration | No
 
 CODE = re.compile(
     r"""(?P<skip>//[^\n]* | b?"(?:\\.|[^"\\])*" | b?'(?:\\.[^']*|[^'\\])')
-      | (?P<contract>\b(?:requires|ensures)\s*\{)
+      | (?P<contract>\b(?:(?:requires|ensures)\b\*?\s*\w*|ghost\b[^;{}]*)\s*\{)
       | (?P<word>(?:(?:\.|::)\s*)?[A-Za-z_][A-Za-z0-9_]*)""",
     re.VERBOSE,
 )

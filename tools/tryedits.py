@@ -4,15 +4,17 @@
     edits/try                        all of edits/
     edits/try CRATE.. CRATE/NAME..   those of a crate, or one
     edits/try --gate ..              with the gate's own edits, crates/CRATE/must-fail
-    edits/try --fast ..              in seconds for each, by the edit loop's check (`rt dev`)
+    edits/try --fast ..              each by `rt check` of its crate, with all that the prover says
     edits/try --fits ..              only tell whether each edit fits its file; nothing is proved
 
-The work tree is left alone: edits are tried in a copy, which takes what is proved from target/.
-What the prover said of each is left in target/edits/CRATE/NAME.log. The table tells of each edit
-whether it was refused and what failed first. An error that says only that the proof no longer fits
-the code (a need, a field or a name that is not there) shows nothing, and is NO FACT. The status is
-0 where all were refused for a fact. RT_JOBS says how many are tried at a time. The verdict is that
-of `rt must-fail`, which checks the whole crate for each edit; `--fast` checks what an edit changes.
+The work tree is left alone: edits are tried in a copy, where `rt` begins with what its checks of
+this tree proved. The table tells of each edit whether it was refused and what failed first. An
+error that says only that the proof no longer fits the code (a goal, a field or a name that is not
+there) shows nothing, and is NO FACT, and so is a limit of the prover. The status is 0 where all
+were refused for a fact. The verdict is that of `rt must-fail`, which tells the start of one
+message, tries several at a time (RT_JOBS says how many) and tries again from nothing what is still
+proved. `--fast` goes by the first error of all, and leaves what the prover said of each edit in
+target/edits/CRATE/NAME.log.
 """
 
 from __future__ import annotations
@@ -32,6 +34,7 @@ import files
 ROOT = Path(__file__).resolve().parent.parent
 REFUSED, NOT_REFUSED, NO_FACT, BAD = "refused", "NOT REFUSED", "NO FACT", "BAD EDIT"
 NOT_TRIED = "NOT TRIED"
+LIMIT = 3  # the status of a check that came to a limit of the prover
 
 
 @dataclass(frozen=True)
@@ -52,8 +55,8 @@ class Result:
 
     edit: Edit
     verdict: str
-    seconds: str
     why: str
+    seconds: str = ""  # where `rt check` tried it
 
 
 # ---- the edits
@@ -62,7 +65,7 @@ class Result:
 def crates(root: Path) -> list[str]:
     """The crates, in the order of crates.txt."""
     rows = files.read_bytes(str(root / "crates.txt")).decode("utf-8").splitlines()
-    return [row.partition(":")[0].strip() for row in rows if ":" in row.partition("#")[0]]
+    return [row.partition(":")[0].split()[0] for row in rows if ":" in row.partition("#")[0]]
 
 
 def edits_of(root: Path, gate: bool) -> list[Edit]:
@@ -130,12 +133,13 @@ def misfits(root: Path, edits: list[Edit]) -> list[str]:
 
 # ---- what the prover said
 
-PLACE = r"(?P<file>\S+?):(?P<row>\d+):\d+: "
+PLACE = r"(?P<file>\S+?):(?P<row>\d+):\d+: "  # the file from the crate's folder
 TEXT = r"(?P<text>.*(?:\n  .*)*)"
 ERROR = re.compile(f"^{PLACE}error: {TEXT}", re.MULTILINE)
 NOTE = re.compile(f"^note: {PLACE}{TEXT}", re.MULTILINE)
-NO_FIT = re.compile(r"has no `Need-|has no field `|is not in scope")
-FOLLOWS = "was not admitted"  # said of a name that another one rests on
+NO_FIT = re.compile(r"has no `[^`]*` that can be named|has no field `|is not in scope")
+# Said of a name that another one rests on.
+FOLLOWS = re.compile(r"(?:`[^`]*`: )?\d+ declarations? that depends? on ")
 DIFFER = re.compile(
     r"differ only where one has `(.+?)`\s+\(expected\).*?the other has `(.+?)`\s+\(found\)",
     re.DOTALL,
@@ -148,112 +152,119 @@ def short(text: str, most: int) -> str:
     return text if len(text) <= most else text[: most - 2] + ".."
 
 
-def why(log: str, where: str = "") -> tuple[bool, str]:
-    """Whether a fact failed first, and what. `where` is the folder that the crate stood in."""
-    errors = [error for error in ERROR.finditer(log) if FOLLOWS not in error["text"]]
-    found = next(iter(errors), None) or NOTE.search(log) or ERROR.search(log)
+def why(log: str) -> tuple[bool, str]:
+    """Whether a fact failed first, and what."""
+    errors = [error for error in ERROR.finditer(log) if not FOLLOWS.match(error["text"])]
+    found = next(iter(errors), None) or NOTE.search(log)
     if found is None:
-        return False, "the prover named no place"
-    place = found["file"].removeprefix(where).lstrip("/")
+        found = ERROR.search(log)
+        return False, told_of(found) if found else "the prover named no place"
+    return not NO_FIT.search(found["text"].partition("\n")[0]), told_of(found)
+
+
+def told_of(found: re.Match[str]) -> str:
+    """A message on one row: the function or the file and its row, the subject, what is wrong."""
+    place = found["file"].removeprefix("./")
     said = found["text"]
     subject = re.match(r"`([^`]+)`: ", said)
     message = said[subject.end() :] if subject else said
     differ = DIFFER.search(message)
     if differ:
         message = f"{short(differ[1], 60)} expected, {short(differ[2], 60)} found"
-    owner = re.fullmatch(r"proofs/(.+)/Proof\.antt", place)
+    owner = re.fullmatch(r"proofs/(.+)/(?:Proof|Answers|Invariants)\.antt", place)
     place = owner[1].replace("/", "::") if owner else f"{place}:{found['row']}"
     named = f" `{subject[1]}`" if subject else ""
-    return not NO_FIT.search(said.partition("\n")[0]), f"{place}{named}: {short(message, 150)}"
+    return f"{place}{named}: {short(message, 150)}"
 
 
 TOLD = re.compile(
-    r"^rt: must-fail (\S+): (refused|NOT REFUSED|BAD EDIT)(?:.*?(\d+) s\))?(?:: (.*))?"
+    r"rt: must-fail (?P<edit>\S+)\.edit: (?P<verdict>refused|NOT REFUSED|BAD EDIT|NOT TRIED)"
+    r"(?:, as it must be)?(?: \((?P<only>only [^()]*)\))?(?:: (?P<text>.*))?",
+    re.DOTALL,
 )
 
 
-def results(rows: Iterable[str], edits: list[Edit], copy: Path, logs: Path) -> Iterator[Result]:
+def messages(rows: Iterable[str]) -> Iterator[str]:
+    """What `rt` says, each with the rows below it that are not `rt`'s own."""
+    kept: list[str] = []
+    for row in rows:
+        if row.startswith("rt: ") and kept:
+            yield "\n".join(kept)
+            kept = []
+        kept.append(row.rstrip("\n"))
+    if kept:
+        yield "\n".join(kept)
+
+
+def results(rows: Iterable[str], edits: list[Edit]) -> Iterator[Result]:
     """What came of a crate's edits, from what `rt must-fail` says."""
     left = {str(edit): edit for edit in edits}
-    reason = "`rt must-fail` did not come to it"
-    for row in rows:
-        told = TOLD.match(row)
-        if told is None or told[1] not in left:
-            if "NOT PROVED" in row:
-                reason = row.strip().removeprefix("rt: ")
+    for message in messages(rows):
+        told = TOLD.match(message)
+        if told is None or told["edit"] not in left:
             continue
-        edit = left.pop(told[1])
-        verdict, text = told[2], ""
-        if verdict == BAD:
-            text = told[4] or "it did not reach the prover"
-        elif verdict == REFUSED:
-            where = copy / "target" / "must-fail" / edit.crate / edit.name
-            log = (where / ".log").read_text(encoding="utf-8", errors="replace")
-            verdict, text = refused(edit, log, where, logs)
-        yield Result(edit, verdict, told[3] or "", text)
+        verdict, text = told["verdict"], told["text"] or ""
+        reason = "" if verdict == NOT_REFUSED else short(text, 200)
+        if verdict == REFUSED:
+            fact, reason = why(text)
+            verdict = REFUSED if fact and not told["only"] else NO_FACT
+            reason = f"{reason} ({told['only'].partition(',')[0]})" if told["only"] else reason
+        yield Result(left.pop(told["edit"]), verdict, reason)
     for edit in left.values():
-        yield Result(edit, NOT_TRIED, "", reason)
+        yield Result(edit, NOT_TRIED, "`rt must-fail` did not come to it")
 
 
-def refused(edit: Edit, log: str, where: Path, logs: Path) -> tuple[str, str]:
-    """The verdict on an edit that was refused, and why; what the prover said is kept."""
+def keep(edit: Edit, log: str, logs: Path) -> None:
+    """Keep what the prover said of an edit."""
     kept = logs / edit.crate / f"{edit.name}.log"
     kept.parent.mkdir(parents=True, exist_ok=True)
-    kept.write_text(log.replace(f"{where}/", ""), encoding="utf-8")
-    fact, text = why(log, str(where))
-    return REFUSED if fact else NO_FACT, text
+    kept.write_text(log, encoding="utf-8")
 
 
 # ---- trying
 
 
 def copied(root: Path, copy: Path) -> None:
-    """A copy of the crates without their own edits, and of what target/ holds as proved."""
-    shutil.copy(root / "crates.txt", copy)
-    shutil.copytree(root / "crates", copy / "crates", ignore=shutil.ignore_patterns("must-fail"))
-    for part in ("rlib", "stamp"):
-        if (root / "target" / part).is_dir():
-            shutil.copytree(root / "target" / part, copy / "target" / part)
+    """A copy of the crates, without their own edits. `rt` itself begins with what it proved."""
+    for name in ("crates.txt", "HANDLES"):
+        if (root / name).is_file():
+            shutil.copy(root / name, copy)
+    left_out = shutil.ignore_patterns("must-fail", "out")
+    shutil.copytree(root / "crates", copy / "crates", ignore=left_out)
+
+
+def checked(copy: Path, crate: str) -> tuple[int, str, str]:
+    """The status of a check of a crate, what it said, and its seconds."""
+    start = time.monotonic()
+    joined = {"stdout": subprocess.PIPE, "stderr": subprocess.STDOUT}
+    try:
+        done = subprocess.run(
+            ["rt", "check"], cwd=copy / "crates" / crate, encoding="utf-8", **joined
+        )
+    except OSError as error:
+        raise files.AccessFailure(f"rt cannot be run: {error.strerror}") from None
+    return done.returncode, done.stdout, f"{time.monotonic() - start:.0f}"
 
 
 def tried(root: Path, copy: Path, crate: str, edits: list[Edit]) -> Iterator[Result]:
-    """Try the edits of one crate in the copy, each by a whole check."""
+    """Try the edits of one crate, which is proved, in the copy by `rt must-fail`."""
     folder = copy / "crates" / crate / "must-fail"
     folder.mkdir()
     for edit in edits:
         shutil.copy(edit.path, folder)
-    command = ["rt", "must-fail", crate]
     joined = {"stdout": subprocess.PIPE, "stderr": subprocess.STDOUT}
-    try:
-        process = subprocess.Popen(command, cwd=copy, encoding="utf-8", **joined)
-    except OSError as error:
-        raise files.AccessFailure(f"rt cannot be run: {error.strerror}") from None
-    assert process.stdout is not None
-    with process:
-        yield from results(process.stdout, edits, copy, root / "target" / "edits")
+    done = subprocess.run(["rt", "must-fail", crate], cwd=copy, encoding="utf-8", **joined)
+    yield from results(done.stdout.splitlines(), edits)
     shutil.rmtree(folder)
 
 
-def checked(copy: Path, crate: str) -> tuple[int, str, str]:
-    """The status of the edit loop's check of a crate, what it said, and its seconds."""
-    start = time.monotonic()
-    command = ["rt", "dev", crate]
-    done = subprocess.run(command, cwd=copy, capture_output=True, encoding="utf-8")
-    return done.returncode, done.stdout + done.stderr, f"{time.monotonic() - start:.0f}"
-
-
 def tried_fast(root: Path, copy: Path, crate: str, edits: list[Edit]) -> Iterator[Result]:
-    """Try the edits of one crate in the copy, each by a check of what it changes."""
-    status, said, _ = checked(copy, crate)
-    if status != 0:
-        reason = f"{crate} itself is not proved: {why(said, str(copy))[1]}"
-        yield from (Result(edit, NOT_TRIED, "", reason) for edit in edits)
-        return
+    """Try the edits of one crate, which is proved, in the copy, each by a check of the crate."""
     for edit in edits:
         try:
             texts = applied(copy, edit)
         except files.Failure as failure:
-            yield Result(edit, BAD, "", str(failure))
+            yield Result(edit, BAD, str(failure))
             continue
         before = {path: path.read_text(encoding="utf-8") for path in texts}
         for path, text in texts.items():
@@ -261,11 +272,32 @@ def tried_fast(root: Path, copy: Path, crate: str, edits: list[Edit]) -> Iterato
         status, said, seconds = checked(copy, crate)
         for path, text in before.items():
             path.write_text(text, encoding="utf-8")
-        verdict, text = (NOT_REFUSED, "") if status == 0 else (BAD, "it did not reach the prover")
-        if status == 1 and "\nlogic=not-proved" in said:
-            logs = root / "target" / "edits"
-            verdict, text = refused(edit, said, copy / "crates" / crate, logs)
-        yield Result(edit, verdict, seconds, text)
+        keep(edit, said, root / "target" / "edits")
+        yield Result(edit, *verdict_of(status, said), seconds)
+
+
+def verdict_of(status: int, said: str) -> tuple[str, str]:
+    """The verdict on an edit by what a check of its crate said, and why."""
+    if status == 0:
+        return NOT_REFUSED, ""
+    if status == LIMIT:
+        return NO_FACT, f"{why(said)[1]} (only by a limit of the prover)"
+    if status == 1 and "\nlogic=not-proved" in said:
+        fact, reason = why(said)
+        return REFUSED if fact else NO_FACT, reason
+    return BAD, "it did not reach the prover"
+
+
+def tried_over(
+    root: Path, copy: Path, crate: str, edits: list[Edit], fast: bool
+) -> Iterator[Result]:
+    """Try the edits of one crate, if it is proved without them."""
+    status, said, _ = checked(copy, crate)
+    if status == 0:
+        yield from (tried_fast if fast else tried)(root, copy, crate, edits)
+        return
+    reason = f"{crate} itself is not proved: {why(said)[1]}"
+    yield from (Result(edit, NOT_TRIED, reason) for edit in edits)
 
 
 def told(result: Result) -> str:
@@ -278,7 +310,7 @@ def main() -> int:
     parser = argparse.ArgumentParser(prog="edits/try", description="Try wrong programs.")
     parser.add_argument("words", nargs="*", metavar="CRATE or CRATE/NAME")
     parser.add_argument("--gate", action="store_true", help="with the gate's own edits")
-    parser.add_argument("--fast", action="store_true", help="check only what each edit changes")
+    parser.add_argument("--fast", action="store_true", help="each by a check of its crate")
     parser.add_argument("--fits", action="store_true", help="only whether each fits its file")
     options = parser.parse_args()
     edits = chosen(edits_of(ROOT, options.gate), options.words)
@@ -293,8 +325,8 @@ def main() -> int:
         copy = Path(name)
         copied(ROOT, copy)
         for crate in dict.fromkeys(edit.crate for edit in edits):
-            try_all = tried_fast if options.fast else tried
-            for result in try_all(ROOT, copy, crate, [one for one in edits if one.crate == crate]):
+            own = [edit for edit in edits if edit.crate == crate]
+            for result in tried_over(ROOT, copy, crate, own, options.fast):
                 print(told(result), flush=True)
                 bad += result.verdict != REFUSED
     print(f"{len(edits)} edits, {len(edits) - bad} refused for a fact, {bad} not")

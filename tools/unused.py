@@ -2,13 +2,14 @@
 """Tell the unused imports of the Rattle files, and the definitions and laws that nothing cites.
 
     unused.py          tell them; status 1 where there are some
-    unused.py --fix    remove the unused imports in place (then run `rt fmt`), and tell the rest
+    unused.py --fix    remove the unused imports in place (then run `rt fmt` in the crates), and tell the rest
 
 An import is used where its name stands in the file, outside the imports; `pub use` passes a name
 on and is always used. A definition, law, type or ruleset of specs/ or proofs/ is cited where
-something that is itself cited names it. That begins with what the code's contracts name, the
-`-spec` of each function's proof, the names in backticks in docs/READING.md, and the names in
-tools/unused.txt, which has a reason for each.
+something that is itself cited names it. That begins with what the code's contracts name, what
+proves each function (the `f_spec` of its Proof.antt, the answers of its Answers.antt and
+Invariants.antt), the names in backticks in docs/READING.md, and the names in tools/unused.txt,
+which has a reason for each.
 """
 
 from __future__ import annotations
@@ -28,6 +29,7 @@ from source import Declaration, Import, Item, Reference
 ROOT = Path(__file__).resolve().parent.parent
 READING = "docs/READING.md"
 LIST = "tools/unused.txt"
+PARTS = ("src", "specs", "proofs")  # of a crate; its out/ has copies of these
 Path_ = tuple[str, ...]  # of a module or a name, from its library down
 
 
@@ -98,6 +100,14 @@ class File:
             return item.name in code
         return all(key in antt for key in source.keys(item.name))
 
+    def answers(self) -> Iterator[Declaration]:
+        """Of a function's proof, what answers a goal: it is declared as `goal.` and its own name."""
+        for one in self.declared:
+            for item in (item for brought in self.imports for item in brought.items):
+                goals = Reference(item.name, (one.name,))
+                if item.path[-1] in ("Goals", "Given") and goals in one.uses:
+                    yield one
+
     def row(self, at: int) -> int:
         return self.text.count("\n", 0, at) + 1
 
@@ -127,18 +137,16 @@ class Tree:
 
     def __init__(self, root: Path) -> None:
         self.root = root
-        below = root.glob("crates/*/*/**/*")
-        found = [path for path in below if path.suffix in (".antt", ".rt")]
+        parts = [path for part in PARTS for path in root.glob(f"crates/*/{part}/**/*")]
+        found = [path for path in parts if path.suffix in (".antt", ".rt")]
         self.files = [File(root, path) for path in sorted(found)]
         self.by_name = {file.name: file for file in self.files}
 
     def module(self, path: Path_) -> File | None:
-        """The file of a module, as `Rattle·c.specs.F` or `Rattle·c·proofs.proofs.m.F`."""
-        library = path[0].split("·") if path else []
-        if len(library) < 2 or library[0] != "Rattle" or len(path) < 2:
+        """The file of a module, as `Rattle.c.specs.F` or `Rattle.c.proofs.m.F`."""
+        if len(path) < 4 or path[0] != "Rattle":
             return None
-        below = "/".join(part.strip("«»") for part in path[1:])
-        return self.by_name.get(f"crates/{library[1]}/{below}.antt")
+        return self.by_name.get(f"crates/{'/'.join(map(source.bare, path[1:]))}.antt")
 
     def exported(self, path: Path_, seen: frozenset[Path_] = frozenset()) -> Iterator[Declaration]:
         """What a path from a library to a name stands for.
@@ -198,7 +206,9 @@ class Tree:
                 for use in source.code_of(file.text).contracts:
                     yield from self.resolved(file, use)
             elif file.path.name == "Proof.antt":
-                yield from (one for one in file.declared if one.name.strip("»").endswith("-spec"))
+                yield from (one for one in file.declared if one.name.endswith("_spec"))
+            elif file.path.name in ("Answers.antt", "Invariants.antt"):
+                yield from file.answers()
 
     def named(self, names: Set[str]) -> Iterator[Declaration]:
         for file in self.files:

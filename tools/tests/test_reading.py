@@ -16,6 +16,7 @@ import helpers
 
 import source
 import tryedits
+import unused
 
 ROOT = Path(helpers.TOOLS).parent
 QUOTED = re.compile(r"`([^`\n]+)`")
@@ -71,7 +72,7 @@ class Things:
         self.names = {*KEPT, *self.crates, *self.classes}
         self.names |= {path.name for path in root.glob("crates/*/std*")}
         self.specs = {}
-        for path in root.glob("crates/*/*/**/*.antt"):
+        for path in (one for part in unused.PARTS for one in root.glob(f"crates/*/{part}/**/*.antt")):
             text = path.read_text(encoding="utf-8")
             declared = {name for one in source.declarations(text) for name in (one.name, *one.also)}
             declared |= set(re.findall(r"^ +(?:pub )?([^\s:]+) :", text, re.M))

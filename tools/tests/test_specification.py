@@ -4,6 +4,7 @@ A clause is cited by its heading and its number, also in a row of several: `Sets
 7`, `Accuracy 2 to 7`. Definitions, public functions, edits and decisions cite theirs.
 """
 
+import os
 import re
 import unittest
 from pathlib import Path
@@ -38,11 +39,12 @@ def cited(text, headings):
 
 def texts(root):
     """The texts of a repository that are written by hand, with their names."""
-    for path in sorted(root.rglob("*")):
-        name = path.relative_to(root).as_posix()
-        inside = not name.startswith((".git/", "target/")) and "/target/" not in name
-        if inside and path.is_file() and (path.suffix in TEXTS or name in OTHERS):
-            yield name, path.read_text(encoding="utf-8")
+    for folder, below, names in os.walk(root):
+        below[:] = sorted({*below} - {".git", "target", "out"})
+        for path in (Path(folder, name) for name in sorted(names)):
+            name = path.relative_to(root).as_posix()
+            if path.is_file() and (path.suffix in TEXTS or name in OTHERS):
+                yield name, path.read_text(encoding="utf-8")
 
 
 def first_cells(text):
@@ -161,7 +163,7 @@ class Copies(unittest.TestCase):
         "README.md": r"\b0 stands for (\d+)\b",
         "examples/README.md": r"says 0, which stands for (\d+)\.",
         "examples/receipt.model": r"says 0, which stands for (\d+) steps",
-        "crates/reader/specs/Models.antt": r"^usualSteps = (\d+)$",
+        "crates/reader/specs/Models.antt": r"^usual_steps = (\d+)$",
         "c/pepperscarp.h": r"^#define PEPPERSCARP_STEPS_DEFAULT (\d+)$",
         "rust/src/lib.rs": r"^pub const DEFAULT_STEPS: usize = (\d+);$",
         "rust/support/src/specification.rs": r"if steps == 0 \{ (\d+) \} else .* // File 4$",

@@ -9,70 +9,78 @@ import files
 import tryedits
 from tryedits import Edit, Result
 
-WHERE = "/tmp/edits-x/target/must-fail/c/n"
+# What the prover says, from the crate's folder.
+DIFFERS = (
+    "./proofs/sets/fraction/Proof.antt:72:10: error: `returns-4`: as printed, the two types first"
+    " differ where one has `fraction c.args.x` (expected), and the other has `cond` (found)\n"
+    "  computed as far as they go, the two types differ only where one has `0` (expected) and the"
+    " other has `1` (found)\n"
+    "./proofs/sets/fraction/Proof.antt:74:5: error: 1 declaration that depends on `returns-4`,"
+    " which was rejected, was not checked: fraction_spec\n"
+    "fn c::sets::fraction: not proved\n"
+)
 
-DIFFERS = f"""{WHERE}/proofs/sets/fraction/Proof.antt:41:10: error: `returns-4`: the two types
-  first differ where one has `fraction (c .x)` (expected), and the other has `cond` (found)
-  as far as they go, the two types differ only where one has `0` (expected) and the other has `1`
-  (found)
-{WHERE}/proofs/sets/fraction/Proof.antt:44:92: error: `fraction-spec`: `returns-4` was not admitted
-fn c::sets::fraction: not proved
-"""
+NEED = "module `Rattle.c.proofs.f.Tie` has no `Need-returns-then-x-eq0` that can be named from here"
+NEED += " (did you mean `Need-returns-then-x-ne0`?)"
+NO_NEED = f"./proofs/f/Proof.antt:34:11: error: `returns`: `tie.Need-returns-then-x-eq0`: {NEED}\n"
 
-NEED = "module `f.Tie` has no `Need-rem-if3` that can be named from here"
-NO_NEED = f"{WHERE}/proofs/f/Proof.antt:30:11: error: `rem-if3`: `tie.Need-rem-if3`: {NEED}\n"
+FIELD = "record `Rattle.c.proofs.f.Lts.Else-x-ne0` has no field `if-x-eq0` (nearest: .if-x-ne0)"
+NO_FIELD = f"./proofs/f/Proof.antt:38:69: error: `returns-2`: {FIELD}\n"
 
-FIELD = "record `f.Lts.Then3` has no field `if2`"
-NO_FIELD = f"{WHERE}/proofs/f/Proof.antt:28:60: error: `returns-2`: {FIELD}\n"
+NO_NAME = "specs/Tests.antt:13:22: error: `between`: `lt_z` is not in scope: add it\n"
 
-NO_NAME = f"{WHERE}/specs/Tests.antt:13:22: error: `between`: `ltZ` is not in scope: add it\n"
+FOLLOWS = "1 declaration that depends on `returns`, which was rejected, was not checked: f_spec"
+FOLLOWS = f"./proofs/f/Proof.antt:74:5: error: {FOLLOWS}\n"
 
-ENSURES = "it is not proved that what the function ensures holds when it returns (`returns`)"
+ENSURES = "it is not proved that what the function ensures holds when it returns (`returns-then-a-b`)"
 SEARCHED = f"""fn c::is_between: proved
-note: {WHERE}/src/lib.rt:21:1: {ENSURES}
-note: what antt said of a `search`: {WHERE}/src/lib.rt:21:8: `returns`: `search`: no proof
-fn c::larger: no proof: expected `larger-spec`
+note: src/lib.rt:24:1: {ENSURES}
+note: to see how far a `search` got, write `search rules` in place of that hole in the function's file
+fn c::larger: no proof: expected answers in ./proofs/larger/Answers.antt
 """
 
-LAW = f"{WHERE}/proofs/Laws.antt:53:72: error: `between-small`: `omega`: it does not follow\n"
+LAW = "./proofs/Laws.antt:53:72: error: `between-small`: `omega`: the goal does not follow\n"
+ANSWER = "./proofs/sets/f/Answers.antt:9:3: error: `loop-i-preserved`: `omega`: the goal does not follow\n"
 
 
 class Reasons(unittest.TestCase):
-    def why(self, log):
-        return tryedits.why(log, WHERE)
-
     def test_types_that_differ(self):
         expected = "sets::fraction `returns-4`: 0 expected, 1 found"
-        self.assertEqual(self.why(DIFFERS), (True, expected))
+        self.assertEqual(tryedits.why(DIFFERS), (True, expected))
 
     def test_a_need_a_field_or_a_name_that_is_not_there_is_no_fact(self):
         for log in (NO_NEED, NO_FIELD, NO_NAME):
-            self.assertFalse(self.why(log)[0], log)
-        self.assertEqual(self.why(NO_FIELD)[1], f"f `returns-2`: {FIELD}")
+            self.assertFalse(tryedits.why(log)[0], log)
+        self.assertEqual(tryedits.why(NO_FIELD)[1], f"f `returns-2`: {FIELD}")
 
     def test_only_the_first_error_counts(self):
-        self.assertTrue(self.why(LAW + NO_NEED)[0])
-        self.assertFalse(self.why(NO_NEED + LAW)[0])
+        self.assertTrue(tryedits.why(LAW + NO_NEED)[0])
+        self.assertFalse(tryedits.why(NO_NEED + LAW)[0])
 
     def test_a_function_without_a_proof_file(self):
-        self.assertEqual(self.why(SEARCHED), (True, f"src/lib.rt:21: {ENSURES}"))
+        self.assertEqual(tryedits.why(SEARCHED), (True, f"src/lib.rt:24: {ENSURES}"))
 
     def test_what_only_follows_is_not_told(self):
-        follows = f"{WHERE}/proofs/f/Proof.antt:84:5: error: `f-spec`: `close` was not admitted (it has\n"
-        self.assertEqual(self.why(follows + SEARCHED), (True, f"src/lib.rt:21: {ENSURES}"))
-        self.assertEqual(self.why(follows + DIFFERS), self.why(DIFFERS))
-        self.assertIn("`f-spec`", self.why(follows)[1])
+        self.assertEqual(tryedits.why(FOLLOWS + SEARCHED), (True, f"src/lib.rt:24: {ENSURES}"))
+        self.assertEqual(tryedits.why(FOLLOWS + DIFFERS), tryedits.why(DIFFERS))
+        fact, told = tryedits.why(FOLLOWS)
+        self.assertFalse(fact)
+        self.assertIn("f_spec", told)
 
     def test_a_law(self):
-        expected = "proofs/Laws.antt:53 `between-small`: `omega`: it does not follow"
-        self.assertEqual(self.why(LAW), (True, expected))
+        expected = "proofs/Laws.antt:53 `between-small`: `omega`: the goal does not follow"
+        self.assertEqual(tryedits.why(LAW), (True, expected))
+
+    def test_an_answer(self):
+        expected = "sets::f `loop-i-preserved`: `omega`: the goal does not follow"
+        self.assertEqual(tryedits.why(ANSWER), (True, expected))
 
     def test_nothing_said(self):
-        self.assertFalse(self.why("logic=not-proved\n")[0])
+        self.assertFalse(tryedits.why("logic=not-proved\n")[0])
 
     def test_long_texts_are_cut(self):
-        log = LAW.replace("it does", 100 * "a b " + "does")
-        self.assertLess(len(self.why(log)[1]), 250)
+        log = LAW.replace("the goal", 100 * "a b " + "the goal")
+        self.assertLess(len(tryedits.why(log)[1]), 250)
 
 
 class TwoCrates(helpers.FolderTest):
@@ -105,6 +113,11 @@ class Trees(TwoCrates):
         for wrong in ("c", "a/x", "a/gate"):
             with self.assertRaisesRegex(files.Failure, f"{wrong}: there is no such edit"):
                 self.names(words=[wrong])
+
+    def test_a_static_library_is_a_crate(self):
+        self.write("crates.txt", "b: # first\na staticlib: b\n")
+        self.write("edits/a/z.edit", "")
+        self.assertEqual(self.names(words=["a"]), ["a/z"])
 
     def test_an_edit_of_no_crate_or_of_a_name_that_is_taken(self):
         self.write("edits/a/gate.edit", "")
@@ -140,55 +153,74 @@ class Trees(TwoCrates):
             self.assertEqual(found, [f"a/e: {reason}"], text)
 
     def test_results(self):
-        names = ("good", "shape", "kept", "bad", "lost")
+        names = ("good", "shape", "follows", "limit", "silent", "kept", "bad", "unread", "killed", "lost")
         edits = [Edit("a", name, self.folder / name) for name in names]
-        for name, log in (("good", LAW), ("shape", NO_NEED)):
-            self.write(f"target/must-fail/a/{name}/.log", log.replace(WHERE, str(self.folder)))
+        only = "only because a proof file names what the edit took away, so this says little: keep the names"
+        limit = "only by a limit of the prover, which gave no verdict, so this says less of the contract"
         rows = [
-            "rt: b proved (unchanged since it was last proved)",
-            "rt: must-fail a/good: refused, as it must be (first at proofs/Laws.antt:53:72; 7 s)",
-            "rt: must-fail a/shape: refused, as it must be (12 s)",
-            "rt: must-fail a/kept: NOT REFUSED: the crate is still proved with this edit (9 s)",
-            "rt: must-fail a/bad: BAD EDIT: an 'old:' text is not in src/lib.rt",
+            "rt: a: begins with what a check kept in /some/crates/a",
+            "fn a::f: proved",
+            f"rt: must-fail a/good.edit: refused, as it must be: {LAW}",
+            f"rt: must-fail a/shape.edit: refused, as it must be ({only}): {NO_NEED}",
+            f"rt: must-fail a/follows.edit: refused, as it must be: {FOLLOWS}",
+            f"rt: must-fail a/limit.edit: refused, as it must be ({limit}): {LAW}",
+            "rt: must-fail a/silent.edit: refused, as it must be",
+            "rt: must-fail a/kept.edit: NOT REFUSED: the crate is still proved with this edit (one that"
+            " means the same as before cannot be refused: remove it)",
+            "rt: must-fail a/bad.edit: BAD EDIT: an 'old:' text is in src/lib.rt 0 times, and not once",
+            "rt: must-fail a/unread.edit: BAD EDIT: it did not reach the prover; the first lines of what it said:",
+            "error[mismatched-types]: src/lib.rt:4:1: expected a `u8`",
+            "rt: must-fail a/killed.edit: NOT TRIED: its check was killed, most likely for memory",
         ]
-        logs = self.folder / "logs"
-        found = list(tryedits.results(rows, edits, self.folder, logs))
-        verdicts = [(one.edit.name, one.verdict, one.seconds) for one in found]
+        found = list(tryedits.results(rows, edits))
         expected = [
-            ("good", "refused", "7"),
-            ("shape", "NO FACT", "12"),
-            ("kept", "NOT REFUSED", "9"),
-            ("bad", "BAD EDIT", ""),
-            ("lost", "NOT TRIED", ""),
+            ("good", "refused"),
+            ("shape", "NO FACT"),
+            ("follows", "NO FACT"),
+            ("limit", "NO FACT"),
+            ("silent", "NO FACT"),
+            ("kept", "NOT REFUSED"),
+            ("bad", "BAD EDIT"),
+            ("unread", "BAD EDIT"),
+            ("killed", "NOT TRIED"),
+            ("lost", "NOT TRIED"),
         ]
-        self.assertEqual(verdicts, expected)
-        self.assertEqual(found[3].why, "an 'old:' text is not in src/lib.rt")
-        self.assertTrue((logs / "a" / "good.log").is_file())
+        self.assertEqual([(one.edit.name, one.verdict) for one in found], expected)
+        whys = [one.why for one in found]
+        self.assertEqual(whys[0], tryedits.why(LAW)[1])
+        self.assertIn(NEED[:40], whys[1])
+        self.assertTrue(whys[3].endswith(" (only by a limit of the prover)"), whys[3])
+        self.assertEqual(whys[5:7], ["", "an 'old:' text is in src/lib.rt 0 times, and not once"])
+        self.assertIn("the first lines of what it said: error[mismatched-types]", whys[7])
 
-    def test_a_crate_that_is_not_proved(self):
-        rows = ["rt: a NOT PROVED (3 s)\n"]
-        found = list(tryedits.results(rows, [Edit("a", "e", self.folder)], self.folder, self.folder))
-        self.assertEqual([one.why for one in found], ["a NOT PROVED (3 s)"])
+    def test_what_a_check_said_of_an_edit(self):
+        for status, said, verdict in (
+            (0, "logic=proved functions=1\n", "NOT REFUSED"),
+            (1, LAW + "logic=not-proved\n", "refused"),
+            (1, NO_NEED + "logic=not-proved\n", "NO FACT"),
+            (1, "error[mismatched-types]: src/lib.rt:4:1\n", "BAD EDIT"),
+            (2, "rt: there is no crate\n", "BAD EDIT"),
+            (3, LAW, "NO FACT"),
+        ):
+            with self.subTest(said):
+                self.assertEqual(tryedits.verdict_of(status, said)[0], verdict)
 
     def test_a_row_of_the_table(self):
-        result = Result(Edit("a", "e", self.folder), "refused", "7", "why")
+        result = Result(Edit("a", "e", self.folder), "refused", "why", "7")
         self.assertEqual(tryedits.told(result).split(), ["a", "e", "refused", "7", "why"])
 
 
 # Refuses a crate in which `two two` stands, and can't read one in which `four` stands.
 RT = """#!/bin/sh
-said="$PWD/crates/a/proofs/Laws.antt:53:72: error: \\`law\\`: it does not follow
-logic=not-proved"
-if [ "$1" = dev ]; then
-    if grep -q four crates/a/src/lib.rt; then echo "$PWD/crates/a/src/lib.rt:1:1: bad"; exit 1; fi
-    if grep -q 'two two' crates/a/src/lib.rt; then echo "rt: a"; echo "$said"; exit 1; fi
+law="./proofs/Laws.antt:53:72: error: \\`law\\`: it does not follow"
+if [ "$1" = check ]; then
+    if grep -q four src/lib.rt; then echo "error[syntax]: src/lib.rt:1:1: bad"; exit 1; fi
+    if grep -q 'two two' src/lib.rt; then echo "fn a::f: not proved"; echo "$law"; echo logic=not-proved; exit 1; fi
     exit 0
 fi
+[ "$1 $2" = 'must-fail a' ] || exit 2
 for edit in crates/a/must-fail/*.edit; do
-    name=$(basename "$edit" .edit)
-    mkdir -p "target/must-fail/a/$name"
-    echo "$said" > "target/must-fail/a/$name/.log"
-    echo "rt: must-fail a/$name: refused, as it must be (5 s)"
+    echo "rt: must-fail a/$(basename "$edit"): refused, as it must be: $law"
 done
 """
 
@@ -206,35 +238,45 @@ class Trying(TwoCrates):
         for name, new in (("wrong", "two"), ("same", "one"), ("unread", "four")):
             self.write(f"edits/a/{name}.edit", change + new + "\n")
         self.write("edits/a/misfit.edit", "file: src/lib.rt\nold: five\nnew: six\n")
-        self.write("target/stamp/a", "proved")
+        self.write("crates/a/out/incremental/some", "kept")
+        self.write("HANDLES", "Handles allowed: none.\n")
         self.copy = self.folder / "copy"
         self.copy.mkdir()
         tryedits.copied(self.folder, self.copy)
 
-    def verdicts(self, way):
+    def verdicts(self, fast):
         edits = tryedits.edits_of(self.folder, gate=False)
-        return {one.edit.name: one.verdict for one in way(self.folder, self.copy, "a", edits)}
+        found = tryedits.tried_over(self.folder, self.copy, "a", edits, fast)
+        return {one.edit.name: one.verdict for one in found}
 
     def test_the_copy(self):
-        self.assertFalse((self.copy / "crates/a/must-fail").exists())
-        self.assertTrue((self.copy / "target/stamp/a").is_file())
+        """`rt` itself takes what it kept in this tree: nothing of out/ is copied."""
+        for name in ("must-fail", "out"):
+            self.assertFalse((self.copy / "crates/a" / name).exists())
+        for name in ("crates.txt", "HANDLES", "crates/a/src/lib.rt"):
+            self.assertEqual((self.copy / name).read_bytes(), (self.folder / name).read_bytes())
 
     def test_fast(self):
         expected = {"wrong": "refused", "same": "NOT REFUSED"}
         expected |= {"unread": "BAD EDIT", "misfit": "BAD EDIT"}
-        self.assertEqual(self.verdicts(tryedits.tried_fast), expected)
+        self.assertEqual(self.verdicts(fast=True), expected)
         for tree in (self.folder, self.copy):
             text = (tree / "crates/a/src/lib.rt").read_text(encoding="utf-8")
             self.assertEqual(text, "one two\ntwo three\n")
         log = (self.folder / "target/edits/a/wrong.log").read_text(encoding="utf-8")
-        self.assertIn("\nproofs/Laws.antt:53:72: error: `law`", log)
+        self.assertIn("\n./proofs/Laws.antt:53:72: error: `law`", log)
 
-    def test_fast_on_a_crate_that_is_not_proved(self):
+    def test_a_crate_that_is_not_proved(self):
         (self.copy / "crates/a/src/lib.rt").write_text("two two\n", encoding="utf-8")
-        self.assertEqual(set(self.verdicts(tryedits.tried_fast).values()), {"NOT TRIED"})
+        for fast in (True, False):
+            self.assertEqual(set(self.verdicts(fast).values()), {"NOT TRIED"})
+        edits = tryedits.edits_of(self.folder, gate=False)
+        (first, *_) = tryedits.tried_over(self.folder, self.copy, "a", edits, fast=False)
+        why = "a itself is not proved: proofs/Laws.antt:53 `law`: it does not follow"
+        self.assertEqual(first.why, why)
 
     def test_whole(self):
-        self.assertEqual(set(self.verdicts(tryedits.tried).values()), {"refused"})
+        self.assertEqual(set(self.verdicts(fast=False).values()), {"refused"})
         self.assertFalse((self.copy / "crates/a/must-fail").exists())
 
 
