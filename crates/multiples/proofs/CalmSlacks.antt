@@ -1,4 +1,4 @@
--- Report 11: neither whether a model is calm nor its limits depend on its directions, so that the limits of the model are those of the
+-- Calm 4: neither whether a model is calm nor its limits depend on its directions, so that the limits of the model are those of the
 -- model with multiplied directions. Assumes nothing.
 use mathlib.Core.Path.{◌≡◌}
 use mathlib.Core.Bool.{true}

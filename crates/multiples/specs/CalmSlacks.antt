@@ -1,4 +1,4 @@
--- Report 11: the limit of a calm model's slacks, said of multiplied directions. Definitions only, for a law; no contract cites them.
+-- Calm 4: the limit of a calm model's slacks, said of multiplied directions. Definitions only, for a law; no contract cites them.
 -- Assumes nothing.
 use Rattle.std.specs.Prelude.{ℕ, ◌≤◌, ◌<◌, List, ℤ}
 use Rattle.reachability.specs.Recurrence.{growth_step, slack}

@@ -48,7 +48,9 @@ fn compare_file(random: &mut Random, bytes: &[u8]) -> u8 {
                 let _ = compare_judge(bytes, &model, random.below(model.guards.len()));
             }
             assert_eq!(written(bytes, WRITE_ROOM), Ok(file(&of_model(&model))), "file {bytes:02X?}");
-            compare_calm(bytes, &model, &[random.below(model.steps + 2)], &[random.pick(&[0, 1, 2, 3, 100, u64::MAX])]);
+            // Numbers of its own, so that the files of the tests stay as they are.
+            let mut apart = Random::new(bytes.len() as u64);
+            compare_calm(bytes, &model, &[apart.below(model.steps + 2)], &[apart.pick(&[0, 1, 2, 3, 100, u64::MAX])]);
             0
         }
     }
