@@ -411,7 +411,7 @@ class Build(Clone):
     def test_it_tells_how_far_it_is(self) -> None:
         self.program.unlink()
         rows = self.run_on(RAIL_BIN).stderr.decode().splitlines()
-        self.assertRegex(rows[0], "^run: proving and building .* two to three minutes the first time$")
+        self.assertRegex(rows[0], "^run: proving and building .* about six minutes the first time$")
         for place, crate in enumerate(USED, 1):
             self.assertEqual(rows[place], f"run: proved {crate} (3 functions), {place} of {len(USED)} crates")
         self.assertEqual(len(rows), 1 + len(USED))

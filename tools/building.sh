@@ -54,20 +54,18 @@ begin() {
     make_folder
 }
 
-# crates PROGRAM: prints a program and the crates of crates.txt below it. A crate stands there below those that it names.
+# crates PROGRAM: prints the crates of crates.txt that a program is made of, in the order in which `rt` proves them, itself at the end.
 crates() {
-    # Not `tac`: it makes a temporary file, and where that fails the program would be built.
     sed 's/#.*//; s/:/ /' "$root/crates.txt" | awk -v program="$1" '
-        { row[NR] = $0 }
-        END {
-            wanted[program]
-            for (r = NR; r; r--) {
-                count = split(row[r], name)
-                if (!(name[1] in wanted)) continue
-                print name[1]
-                for (i = 2; i <= count; i++) wanted[name[i]]
-            }
-        }'
+        function visit(name,   count, below, i) {
+            if (name in seen || !(name in row)) return
+            seen[name]
+            count = split(row[name], below)
+            for (i = 2; i <= count; i++) visit(below[i])
+            print name
+        }
+        NF { row[$1] = $0 }
+        END { visit(program) }'
 }
 
 # fresh PROGRAM: the program is there, and nothing that it is made of is newer. A folder is newer where a file was taken out of it.
@@ -100,11 +98,10 @@ hold() {
     child=
 }
 
-# progress PROGRAM: reads what `rt` says, keeps it as `said`, and tells of each crate that was proved now. `rt` says nothing of a
-# crate that has not changed.
+# progress CRATE..: reads what `rt` says, keeps it as `said`, and tells of each of these crates that was proved now. `rt` says nothing
+# of a crate that has not changed.
 progress() {
-    local row crate= functions names k
-    mapfile -t names < <(crates "$1")
+    local row crate= functions k
     said=()
     while IFS= read -r row || [ -n "$row" ]; do
         said+=("$row")
@@ -112,8 +109,8 @@ progress() {
         [[ $row =~ ^logic=proved\ functions=([0-9]+)( |$) ]] || continue
         functions=${BASH_REMATCH[1]}\ functions
         [ "$functions" != '1 functions' ] || functions='1 function'
-        for k in "${!names[@]}"; do
-            [ "${names[k]}" != "$crate" ] || say "proved $crate ($functions), $((${#names[@]} - k)) of ${#names[@]} crates"
+        for ((k = 1; k <= $#; k++)); do
+            [ "${!k}" != "$crate" ] || say "proved $crate ($functions), $k of $# crates"
         done
     done
 }
@@ -121,16 +118,18 @@ progress() {
 # build PROGRAM: proves and builds the program. It then is as old as the start of the build, since `rt` leaves a program alone that
 # would not change, and since a source that was changed meanwhile must count as newer.
 build() {
-    local made=$root/crates/$1/out/$1
+    local made=$root/crates/$1/out/$1 parts
     make_folder
-    say 'proving and building the program; this takes two to three minutes the first time'
+    parts=$(crates "$1")
+    say 'proving and building the program; this takes about six minutes the first time'
     touch "$began" || fail "$root/target can't be written"
     mkfifo "$work/rows" || fail "the temporary folder ${work%/*} can't be written"
     set -m # a group of its own, so that all of it can be ended
     (cd "$root/crates/$1" && exec rt run) < /dev/null > /dev/null 2> "$work/rows" &
     child=-$!
     set +m
-    progress "$1" < "$work/rows"
+    # shellcheck disable=SC2086 # a word for each crate
+    progress $parts < "$work/rows"
     if ! wait "${child#-}"; then
         child=
         printf '%s\n' "${said[@]}" >&2
