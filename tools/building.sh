@@ -101,7 +101,7 @@ hold() {
 # progress CRATE..: reads what `rt` says, keeps it as `said`, and tells of each of these crates that was proved now. `rt` says nothing
 # of a crate that has not changed.
 progress() {
-    local row crate= functions k
+    local row crate='' functions k
     said=()
     while IFS= read -r row || [ -n "$row" ]; do
         said+=("$row")
