@@ -9,7 +9,7 @@ use native.Mathlib.Omega.{arith}
 use lib.IntN.{ℤ, pos, nat_abs}
 use Rattle.integers.specs.Sums.{magnitudes, sum_ℕ, tabulate}
 use Rattle.integers.proofs.Sums.{sum_ℕ-cong, sum_ℕ-bound}
-use Rattle.integers.proofs.Machine.{get_d_tabulate}
+use Rattle.integers.proofs.Machine.{get_or-tabulate}
 use Rattle.stepping.specs.Refusals.{dimension_ok}
 use Rattle.reachability.specs.Sets.{points, reach_of, reach_limit, ReachAnswer}
 use Rattle.reachability.specs.Limits.{accepted, set_accepted}
@@ -24,14 +24,14 @@ use Rattle.calm.specs.Inner.{SmallReaches, SmallTotals}
 reach-at : (n : ℕ) (s : Set) {number : ℕ} {reaches : List ℤ} → ReachAnswer n s number reaches → dimension_ok n ≡ true → set_accepted n s ≡ true → (i : ℕ) → i < 6 → magnitudes reaches i ≡ reach_of s.shape s.count (points s.points) i
 reach-at n s a d t i h =
     ap (λ (xs : List ℤ). magnitudes xs i) (a.reaches-are ∙ ap (λ (b : Bool). cond b (tabulate 6 (λ j. pos (reach_of s.shape s.count (points s.points) j))) (tabulate 6 (λ j. pos 0))) (ap₂ ◌&&◌ d t))
-    ∙ ap nat_abs (get_d_tabulate 6 (λ j. pos (reach_of s.shape s.count (points s.points) j)) i (pos 0) h)
+    ∙ ap nat_abs (get_or-tabulate 6 (λ j. pos (reach_of s.shape s.count (points s.points) j)) i (pos 0) h)
 
 -- no drift
 abbrev pub none : List ℤ
 none = tabulate 6 (λ i. pos 0)
 
 none-at : (i : ℕ) → i < 6 → magnitudes none i ≡ 0
-none-at i h = ap nat_abs (get_d_tabulate 6 (λ j. pos 0) i (pos 0) h)
+none-at i h = ap nat_abs (get_or-tabulate 6 (λ j. pos 0) i (pos 0) h)
 
 module _ (m : Model) (ok : accepted m ≡ true) where
   facts : ModelFacts m

@@ -4,7 +4,7 @@ use Rattle.std.proofs.Common.{◌≡◌, ℕ, zero, suc, ◌<◌, ◌≤◌, Boo
 use native.Mathlib.Decide.{dec_lt}
 use lib.ListN.{get_or-eq_default}
 use Rattle.integers.specs.Sums.{vector}
-use Rattle.integers.proofs.Machine.{tabulate-cong, get_d_tabulate}
+use Rattle.integers.proofs.Machine.{tabulate-cong, get_or-tabulate}
 use Rattle.arrays.specs.Tests.{first_of}
 use Rattle.arrays.proofs.FirstOf.{first_of-ind}
 use Rattle.stepping.specs.Limits.{entry_limit}
@@ -69,7 +69,7 @@ entries_number-ind P n row none each = first_number-ind P (answer_at n row) none
 -- Limits 3
 pub stored_six-within : (n : ℕ) (row : ℕ → EntryAnswer) → ((i : ℕ) → nat_abs (entry_value (row i)) ≤ entry_limit) → (i : ℕ) → i < 6 → nat_abs (vector (stored_six n row) i) ≤ entry_limit
 stored_six-within n row each i l =
-    subst (λ (z : ℤ). nat_abs z ≤ entry_limit) (sym (get_d_tabulate 6 (λ k. entry_value (answer_at n row k)) i (pos 0) l))
+    subst (λ (z : ℤ). nat_abs z ≤ entry_limit) (sym (get_or-tabulate 6 (λ k. entry_value (answer_at n row k)) i (pos 0) l))
     (answer_at-ind (λ a. nat_abs (entry_value a) ≤ entry_limit) n row (omega arith) each i)
 
 -- Limits 9
@@ -77,7 +77,7 @@ pub stored_six-beyond : (n : ℕ) (row : ℕ → EntryAnswer) (i : ℕ) → n �
 stored_six-beyond n row i h =
     elim (dec_lt i 6) [
       | yes l ↦
-          get_d_tabulate 6 (λ k. entry_value (answer_at n row k)) i (pos 0) l
+          get_or-tabulate 6 (λ k. entry_value (answer_at n row k)) i (pos 0) l
           ∙ ap (λ (b : Bool). entry_value (cond b (row i) (Entry (pos 0)))) (le-ltb i n h)
       | no g ↦ get_or-eq_default (stored_six n row) (pos 0) {n = i} (omega (arith, g))
     ]

@@ -129,10 +129,10 @@ pub length-tabulate : (n : ℕ) (f : ℕ → ℤ) → length (tabulate n f) ≡ 
 length-tabulate zero f = refl
 length-tabulate (suc n) f = ap suc (length-tabulate n (λ i. f (suc i)))
 
-pub get_d_tabulate : (n : ℕ) (f : ℕ → ℤ) (i : ℕ) (d : ℤ) → i < n → get_or (tabulate n f) i d ≡ f i
-get_d_tabulate zero f i d h = absurd (not-suc-le-zero h)
-get_d_tabulate (suc n) f zero d h = refl
-get_d_tabulate (suc n) f (suc i) d h = get_d_tabulate n (λ j. f (suc j)) i d (le_of_suc-le-suc h)
+pub get_or-tabulate : (n : ℕ) (f : ℕ → ℤ) (i : ℕ) (d : ℤ) → i < n → get_or (tabulate n f) i d ≡ f i
+get_or-tabulate zero f i d h = absurd (not-suc-le-zero h)
+get_or-tabulate (suc n) f zero d h = refl
+get_or-tabulate (suc n) f (suc i) d h = get_or-tabulate n (λ j. f (suc j)) i d (le_of_suc-le-suc h)
 
 pub tabulate-cong : (n : ℕ) {f g : ℕ → ℤ} → ((i : ℕ) → i < n → f i ≡ g i) → tabulate n f ≡ tabulate n g
 tabulate-cong zero e = refl
@@ -141,7 +141,7 @@ tabulate-cong (suc n) {f} {g} e = λ j. e 0 (native.Mathlib.Nat.zero-lt-suc n) j
 pub get_or-filled : (f : ℕ → ℤ) (i : ℕ) (xs : List ℤ) (j : ℕ) (d : ℤ) → j < i → get_or (filled f i xs) j d ≡ f j
 unfolding filled
 get_or-filled f i xs j d h =
-    get_or-append (tabulate i f) (drop i xs) d j (subst (λ (k : ℕ). j < k) (sym (length-tabulate i f)) h) ∙ get_d_tabulate i f j d h
+    get_or-append (tabulate i f) (drop i xs) d j (subst (λ (k : ℕ). j < k) (sym (length-tabulate i f)) h) ∙ get_or-tabulate i f j d h
 
 pub get_or-unfilled : (f : ℕ → ℤ) (i : ℕ) (xs : List ℤ) (j : ℕ) (d : ℤ) → i ≤ length xs → i ≤ j → get_or (filled f i xs) j d ≡ get_or xs j d
 unfolding filled
@@ -154,7 +154,7 @@ get_or-unfilled f (suc i) (x ∷ xs) (suc j) d h l = get_or-unfilled (λ k. f (s
 pub filled-some : (f : ℕ → ℤ) (i : ℕ) (xs : List ℤ) → i ≤ length xs → filled f i xs ≡ tabulate (length xs) (λ k. cond (ltb k i) (f k) (get_or xs k (pos 0)))
 filled-some f i xs h =
     ext_get_or (pos 0) (filled f i xs) (tabulate (length xs) g) (length-filled f i xs h ∙ sym (length-tabulate (length xs) g))
-    (λ k l. at k ∙ sym (get_d_tabulate (length xs) g k (pos 0) (subst (λ (n : ℕ). k < n) (length-filled f i xs h) l)))
+    (λ k l. at k ∙ sym (get_or-tabulate (length xs) g k (pos 0) (subst (λ (n : ℕ). k < n) (length-filled f i xs h) l)))
   where
     g : ℕ → ℤ
     g k = cond (ltb k i) (f k) (get_or xs k (pos 0))

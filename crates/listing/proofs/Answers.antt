@@ -9,7 +9,7 @@ use lib.Dec.{eqb}
 use lib.IntN.{ℤ, pos}
 use lib.ListN.{length, get_or}
 use Rattle.integers.specs.Sums.{vector}
-use Rattle.integers.proofs.Machine.{length-tabulate, get_d_tabulate}
+use Rattle.integers.proofs.Machine.{length-tabulate, get_or-tabulate}
 use Rattle.reachability.specs.Recurrence.{bound, slack}
 use Rattle.reachability.specs.Answers.{swept_number, sweep_answer, bounds_of, slacks_of, SweepLeaves}
 use Rattle.judge.specs.Answers.{judge_answer, swept_verdict}
@@ -52,7 +52,7 @@ module _ (m : Model) (d : ℕ) (b₀ s₀ : List ℤ) (ask : Askable m d b₀ s�
       lines (S.Spare h) b s e f =
           ap₂ (λ (x y : List ℤ). line (word "dir ") d (word " spare ") h ++ each (length x) (λ k. row_text k (vector x k) (vector y k))) e f
           ∙ ap (λ (n : ℕ). line (word "dir ") d (word " spare ") h ++ each n (λ k. row_text k (vector (bounds_of m d) k) (vector (slacks_of m d) k))) (length-tabulate (suc m.steps) (bound m d))
-          ∙ ap (λ (x : List ℕ). line (word "dir ") d (word " spare ") h ++ x) (each-cong (suc m.steps) _ _ (λ k l. ap₂ (row_text k) (get_d_tabulate (suc m.steps) (bound m d) k (pos 0) l) (get_d_tabulate (suc m.steps) (λ j. pos (slack m d j)) k (pos 0) l)))
+          ∙ ap (λ (x : List ℕ). line (word "dir ") d (word " spare ") h ++ x) (each-cong (suc m.steps) _ _ (λ k l. ap₂ (row_text k) (get_or-tabulate (suc m.steps) (bound m d) k (pos 0) l) (get_or-tabulate (suc m.steps) (λ j. pos (slack m d j)) k (pos 0) l)))
       lines (S.Growth k) b s e f = refl
       lines S.Invalid b s e f = refl
       lines S.NoDirection b s e f = refl

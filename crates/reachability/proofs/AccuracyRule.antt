@@ -16,7 +16,7 @@ use Rattle.integers.proofs.SignedParts.{v, #, ◌⊕◌, ◌⊖◌, ◌⊗◌, l
 use Rattle.integers.proofs.Order.{mul_ℤ-left-comm, ⩽-of-eq, ⩽-trans, ⩽-scale, ⩽-unscale, near-of-halves}
 use Rattle.integers.proofs.Sums.{sum-cong, sum-scale}
 use Rattle.integers.proofs.Rounding.{ceil_div-le, ceil_div-near, ceil_div_ℕ-le}
-use Rattle.integers.proofs.Machine.{get_d_tabulate}
+use Rattle.integers.proofs.Machine.{get_or-tabulate}
 use Rattle.stepping.specs.Limits.{matrix_unit, direction_unit}
 use Rattle.stepping.specs.Recurrence.{first_r, half_up}
 use Rattle.stepping.proofs.Stands.{stands-first}
@@ -234,10 +234,10 @@ accuracy-rule m ok = rule-of-facts m (model-facts m ok)
 
 module _ (m : Model) (d : ℕ) where
   pub bounds-at : (k : ℕ) → k < suc m.steps → vector (bounds_of m d) k ≡ bound m d k
-  bounds-at k h = get_d_tabulate (suc m.steps) (bound m d) k (pos 0) h
+  bounds-at k h = get_or-tabulate (suc m.steps) (bound m d) k (pos 0) h
 
   pub slacks-at : (k : ℕ) → k < suc m.steps → vector (slacks_of m d) k ≡ pos (slack m d k)
-  slacks-at k h = get_d_tabulate (suc m.steps) (λ j. pos (slack m d j)) k (pos 0) h
+  slacks-at k h = get_or-tabulate (suc m.steps) (λ j. pos (slack m d j)) k (pos 0) h
 
   pub accurate-lists : AccuracyRule m → Accurate m d (vector (bounds_of m d)) (vector (slacks_of m d))
   accurate-lists rule =

@@ -11,7 +11,7 @@ use borrow.Author.Tests.{eqb-true, leb-true, ltb-true, le-ltb}
 use lib.Dec.{leb, ltb}
 use lib.ListN.{length}
 use lib.IntN.{pos}
-use Rattle.integers.proofs.Machine.{get_d_tabulate}
+use Rattle.integers.proofs.Machine.{get_or-tabulate}
 use Rattle.integers.proofs.Booleans.{and-true, or-false}
 use Rattle.records.specs.declared.kinds.Part.{Part}
 use Rattle.records.specs.declared.kinds.Part.TheVariants.{Initial, Input}
@@ -42,7 +42,7 @@ use Rattle.reader.proofs.ReadModels.{reachable-stop}
 new-point-at : (set : Set) (l : Layout) (body : List ℕ) → length set.points ≡ 96 → set.count < 16 → (i : ℕ) → i < 6 → new_point set (with_point set l body) i ≡ entry_at body l.first i
 unfolding with_point six_at
 new-point-at set l body e few i h =
-    matrix-put_row-same set.points set.count (six_at body l.first) (omega arith) i h ∙ get_d_tabulate 6 (entry_at body l.first) i (pos 0) h
+    matrix-put_row-same set.points set.count (six_at body l.first) (omega arith) i h ∙ get_or-tabulate 6 (entry_at body l.first) i (pos 0) h
 
 module _ (base place n : ℕ) (set : Set) (l : Layout) (body : List ℕ) (s : SetAt base place n set) (of : PointOf base place l) (some : 1 ≤ set.count) where
   -- before its first point a set has none

@@ -13,7 +13,7 @@ use lib.ListN.{length, get_or-eq_default}
 use lib.IntN.{ℤ, pos, nat_abs}
 use Rattle.integers.specs.Sums.{vector, tabulate}
 use Rattle.integers.proofs.Sums.{all_below-intro}
-use Rattle.integers.proofs.Machine.{get_d_tabulate}
+use Rattle.integers.proofs.Machine.{get_or-tabulate}
 use Rattle.integers.proofs.Booleans.{and-true}
 use Rattle.arrays.proofs.Tests.{all_between-at, Zeros, Small, zero_outside-of}
 use Rattle.stepping.specs.Limits.{entry_limit}
@@ -46,7 +46,7 @@ Beyond n six = (i : ℕ) → n ≤ i → vector six i ≡ pos 0
 -- what the test of number 16 says of entries of 4 bytes
 pub six_at-beyond : (n : ℕ) (l : Layout) (body : List ℕ) → l.width ≡ 4 → unused_zero n l body ≡ true → Beyond n (six_at body l.first)
 unfolding six_at
-six_at-beyond n l body plain z i h = elim (dec_lt i 6) [ yes k ↦ get_d_tabulate 6 (entry_at body l.first) i (pos 0) k ∙ entry_zero-is body l.first i (sym (column_zero-whole l.first l.width body i (λ e. omega (arith, plain, e))) ∙ unused_zero-at n l body z (omega (arith, plain)) i h k) | no g ↦ get_or-eq_default (tabulate 6 (entry_at body l.first)) (pos 0) {n = i} (omega (arith, g)) ]
+six_at-beyond n l body plain z i h = elim (dec_lt i 6) [ yes k ↦ get_or-tabulate 6 (entry_at body l.first) i (pos 0) k ∙ entry_zero-is body l.first i (sym (column_zero-whole l.first l.width body i (λ e. omega (arith, plain, e))) ∙ unused_zero-at n l body z (omega (arith, plain)) i h k) | no g ↦ get_or-eq_default (tabulate 6 (entry_at body l.first)) (pos 0) {n = i} (omega (arith, g)) ]
 
 -- ---- n, the steps and the matrix
 

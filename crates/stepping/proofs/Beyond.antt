@@ -10,7 +10,7 @@ use lib.IntN.{ℤ, pos, neg_ℤ, nat_abs, ◌*ℤ◌, zero-*ℤ}
 use Rattle.integers.specs.Whole.{nearest_div, ceil_div_ℕ, fraction}
 use Rattle.integers.specs.Sums.{vector, magnitudes, matrix, transposed, tabulate}
 use Rattle.integers.proofs.Sums.{sum-cong, sum-none, sum-beyond, sum_ℕ-cong, sum_ℕ-none, sum_ℕ-beyond, max_ℕ-beyond}
-use Rattle.integers.proofs.Machine.{tabulate-cong, get_d_tabulate}
+use Rattle.integers.proofs.Machine.{tabulate-cong, get_or-tabulate}
 use Rattle.arrays.specs.Tests.{all_between, zero_outside}
 use Rattle.integers.proofs.Booleans.{and-true}
 use Rattle.arrays.proofs.Tests.{zero_outside-row, zero_outside-column, zero_outside-wider}
@@ -79,15 +79,15 @@ module _ (n : ℕ) (n≤6 : n ≤ 6) where
     growth_sum-stepped : (r e : List ℤ) → growth_sum 6 (vector (stepped_r n m r)) (magnitudes (stepped_e n m r e)) ≡ growth_sum n (vector (stepped_r n m r)) (magnitudes (stepped_e n m r e))
     growth_sum-stepped r e =
         growth_sum-six (vector (stepped_r n m r)) (magnitudes (stepped_e n m r e))
-        (λ i l h. ap nat_abs (get_d_tabulate 6 (next_r n (matrix m) (vector r)) i (pos 0) h ∙ next_r-beyond (vector r) i l h))
-        (λ i l h. ap nat_abs (get_d_tabulate 6 (λ j. pos (next_e n (matrix m) (vector r) (magnitudes e) j)) i (pos 0) h) ∙ next_e-beyond (vector r) (magnitudes e) i l h)
+        (λ i l h. ap nat_abs (get_or-tabulate 6 (next_r n (matrix m) (vector r)) i (pos 0) h ∙ next_r-beyond (vector r) i l h))
+        (λ i l h. ap nat_abs (get_or-tabulate 6 (λ j. pos (next_e n (matrix m) (vector r) (magnitudes e) j)) i (pos 0) h) ∙ next_e-beyond (vector r) (magnitudes e) i l h)
 
     -- The same, where the six columns were made with six for n.
     pub growth_sum-advanced : (r e : List ℤ) → growth_sum 6 (next_r 6 (matrix m) (vector r)) (next_e 6 (matrix m) (vector r) (magnitudes e)) ≡ growth_sum n (vector (stepped_r n m r)) (magnitudes (stepped_e n m r e))
     growth_sum-advanced r e =
         growth_sum-cong 6
-        (λ i h. next_r-six (vector r) i h ∙ sym (get_d_tabulate 6 (next_r n (matrix m) (vector r)) i (pos 0) h))
-        (λ i h. next_e-six (vector r) (magnitudes e) i h ∙ sym (ap nat_abs (get_d_tabulate 6 (λ j. pos (next_e n (matrix m) (vector r) (magnitudes e) j)) i (pos 0) h)))
+        (λ i h. next_r-six (vector r) i h ∙ sym (get_or-tabulate 6 (next_r n (matrix m) (vector r)) i (pos 0) h))
+        (λ i h. next_e-six (vector r) (magnitudes e) i h ∙ sym (ap nat_abs (get_or-tabulate 6 (λ j. pos (next_e n (matrix m) (vector r) (magnitudes e) j)) i (pos 0) h)))
         ∙ growth_sum-stepped r e
 
 -- ---- a working direction within its limits, all six coordinates

@@ -12,7 +12,7 @@ use Rattle.integers.specs.Sums.{vector, magnitudes, matrix, transposed}
 use Rattle.integers.proofs.Booleans.{and-true}
 use Rattle.integers.proofs.Rounding.{fraction-le-one}
 use Rattle.integers.proofs.Sums.{max_ℕ-le}
-use Rattle.integers.proofs.Machine.{get_d_tabulate}
+use Rattle.integers.proofs.Machine.{get_or-tabulate}
 use Rattle.arrays.specs.Tests.{all_between, zero_outside}
 use Rattle.arrays.proofs.Tests.{all_between-at}
 use Rattle.stepping.specs.Limits.{matrix_unit, entry_limit, growth_limit, error_limit}
@@ -48,6 +48,6 @@ module _ (n : ℕ) (m r e : List ℤ) (ok : step_ok n m r e ≡ true) where
     where
       each : (i : ℕ) → i < 6 → nat_abs (vector (stepped_r n m r) i) + half_up (magnitudes (stepped_e n m r e) i) ≤ 24 * growth_limit + 1
       each i h =
-          let of-r = ap nat_abs (get_d_tabulate 6 (next_r n (matrix m) (vector r)) i (pos 0) h) in
-          let of-e = ap nat_abs (get_d_tabulate 6 (λ j. pos (next_e n (matrix m) (vector r) (magnitudes e) j)) i (pos 0) h) in
+          let of-r = ap nat_abs (get_or-tabulate 6 (next_r n (matrix m) (vector r)) i (pos 0) h) in
+          let of-e = ap nat_abs (get_or-tabulate 6 (λ j. pos (next_e n (matrix m) (vector r) (magnitudes e) j)) i (pos 0) h) in
           omega (arith, of-r, next_r-small i, of-e, next_e-small i)

@@ -13,7 +13,7 @@ use lib.IntN.{ℤ, pos, nat_abs}
 use lib.ListN.{length, replicate, get_or-eq_default}
 use lib.Seq.{ext_get_or}
 use Rattle.integers.specs.Sums.{vector, matrix, tabulate}
-use Rattle.integers.proofs.Machine.{get_d_tabulate, length-tabulate, zero-of-nat_abs}
+use Rattle.integers.proofs.Machine.{get_or-tabulate, length-tabulate, zero-of-nat_abs}
 use Rattle.integers.proofs.Sums.{all_below-at}
 use Rattle.arrays.specs.Tests.{first_of}
 use Rattle.arrays.proofs.Tests.{Small, all_between-of}
@@ -107,7 +107,7 @@ module _ (m : Model) (rows : List ℤ) (fits : Fits32 rows) (small : (p i : ℕ)
     six-is : (i : ℕ) → i < 6 → vector (stored_six m.n (row_answer (layout_of 0x02) row)) i ≡ matrix rows p i
     six-is i h =
         ap (λ (six : List ℤ). vector six i) (stored_six-cong m.n {f = row_answer (layout_of 0x02) row} {g = entries} answers)
-        ∙ get_d_tabulate 6 (λ j. entry_value (answer_at m.n entries j)) i (pos 0) h
+        ∙ get_or-tabulate 6 (λ j. entry_value (answer_at m.n entries j)) i (pos 0) h
         ∙ elim (dec_lt i m.n) [ yes l ↦ ap (λ (b : Bool). entry_value (cond b (entries i) (Entry (pos 0)))) (lt-ltb i m.n l) | no g ↦ ap (λ (b : Bool). entry_value (cond b (entries i) (Entry (pos 0)))) (le-ltb i m.n (omega (arith, g))) ∙ sym (beyond p i h (omega (arith, g))) ]
 
     row-taken : Taken (at rows_place p) 0x02 row (at (place_at (suc p)) (suc p))
@@ -139,7 +139,7 @@ module _ (m : Model) (rows : List ℤ) (fits : Fits32 rows) (small : (p i : ℕ)
 pub row-of-six : (xs : List ℤ) → length xs ≡ 6 → tabulate 6 (matrix xs 0) ≡ xs
 row-of-six xs e =
     ext_get_or (pos 0) (tabulate 6 (matrix xs 0)) xs (length-tabulate 6 (matrix xs 0) ∙ sym e)
-    (λ i h. get_d_tabulate 6 (matrix xs 0) i (pos 0) (omega (arith, h, length-tabulate 6 (matrix xs 0))) ∙ ap (vector xs) (first i))
+    (λ i h. get_or-tabulate 6 (matrix xs 0) i (pos 0) (omega (arith, h, length-tabulate 6 (matrix xs 0))) ∙ ap (vector xs) (first i))
   where
     first : (i : ℕ) → 6 * 0 + i ≡ i
     first i = omega arith

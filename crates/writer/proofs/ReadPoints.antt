@@ -12,7 +12,7 @@ use lib.IntN.{ℤ, pos}
 use lib.ListN.{length, replicate}
 use Rattle.integers.specs.Sums.{matrix, tabulate}
 use Rattle.integers.proofs.Booleans.{and-true}
-use Rattle.integers.proofs.Machine.{get_d_tabulate}
+use Rattle.integers.proofs.Machine.{get_or-tabulate}
 use Rattle.arrays.specs.Tests.{first_of}
 use Rattle.arrays.proofs.Tests.{zero_outside-column}
 use Rattle.reachability.specs.declared.sets.Shape.{Shape}
@@ -180,7 +180,7 @@ module _ (input : Bool) (m : Model) (rows : ℕ) (shape : Shape) (count : ℕ) (
     one_more : with_point (so_far shape k xs) l (six_bytes xs k) ≡ so_far shape (suc k) xs
     unfolding with_point so_far
     one_more =
-        ap (λ (p : List ℤ). set-with (shape_of l.point) ((so_far shape k xs).count + 1) p) (ap₂ (λ (p : List ℤ) (j : ℕ). put_row p j (six_at (six_bytes xs k) l.first)) (so_far-points shape k xs) (so_far-count shape k xs) ∙ ap (put_row (kept_rows k xs) k) six-is ∙ put_row-kept k xs (tabulate 6 (matrix xs k)) (λ i b. get_d_tabulate 6 (matrix xs k) i (pos 0) b))
+        ap (λ (p : List ℤ). set-with (shape_of l.point) ((so_far shape k xs).count + 1) p) (ap₂ (λ (p : List ℤ) (j : ℕ). put_row p j (six_at (six_bytes xs k) l.first)) (so_far-points shape k xs) (so_far-count shape k xs) ∙ ap (put_row (kept_rows k xs) k) six-is ∙ put_row-kept k xs (tabulate 6 (matrix xs k)) (λ i b. get_or-tabulate 6 (matrix xs k) i (pos 0) b))
         ∙ ap₂ (λ (s : Shape) (c : ℕ). set-with s c (kept_rows (suc k) xs)) of.shape_is (ap (λ (c : ℕ). c + 1) (so_far-count shape k xs) ∙ add-one k)
 
     taken : (place : ℕ) → may_follow place kind ≡ true → k < l.most → (is_upper l.point ≡ true → (shape ≡ Box) × (suc k ≡ count)) → Taken (at place k) kind (six_bytes xs k) (at l.place (suc k))

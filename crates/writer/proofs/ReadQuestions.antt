@@ -13,7 +13,7 @@ use lib.ListN.{get_or, set, get_or-eq_default}
 use mir.Syntax.{w64}
 use mir.Val.{SFits}
 use Rattle.integers.specs.Sums.{vector, matrix, tabulate}
-use Rattle.integers.proofs.Machine.{get_d_tabulate, length-tabulate}
+use Rattle.integers.proofs.Machine.{get_or-tabulate, length-tabulate}
 use Rattle.integers.proofs.Sums.{all_below-cong}
 use Rattle.arrays.proofs.Tests.{Small, all_between-of}
 use Rattle.limits.specs.Limits.{direction_limit, all_zero}
@@ -43,12 +43,12 @@ row_small : (limit : ℕ) (xs : List ℤ) (d : ℕ) → ((i : ℕ) → i < 6 →
 row_small limit xs d h = record { at = λ p i l. small (6 * p + i) }
   where
     small : (k : ℕ) → nat_abs (vector (tabulate 6 (matrix xs d)) k) ≤ limit
-    small k = elim (dec_lt k 6) [ yes l ↦ subst (λ (z : ℤ). nat_abs z ≤ limit) (sym (get_d_tabulate 6 (matrix xs d) k (pos 0) l)) (h k l) | no g ↦ subst (λ (z : ℤ). nat_abs z ≤ limit) (sym (get_or-eq_default (tabulate 6 (matrix xs d)) (pos 0) {n = k} (omega (arith, g, length-tabulate 6 (matrix xs d))))) (omega arith) ]
+    small k = elim (dec_lt k 6) [ yes l ↦ subst (λ (z : ℤ). nat_abs z ≤ limit) (sym (get_or-tabulate 6 (matrix xs d) k (pos 0) l)) (h k l) | no g ↦ subst (λ (z : ℤ). nat_abs z ≤ limit) (sym (get_or-eq_default (tabulate 6 (matrix xs d)) (pos 0) {n = k} (omega (arith, g, length-tabulate 6 (matrix xs d))))) (omega arith) ]
 
 row-nonzero : (xs : List ℤ) (d : ℕ) → all_zero (tabulate 6 (matrix xs d)) 0 ≡ all_zero xs d
 row-nonzero xs d =
     all_below-cong 6 (λ i. eqb (nat_abs (matrix (tabulate 6 (matrix xs d)) 0 i)) 0) (λ i. eqb (nat_abs (matrix xs d i)) 0)
-    (λ i h. ap (λ (z : ℤ). eqb (nat_abs z) 0) (ap (vector (tabulate 6 (matrix xs d))) (first i) ∙ get_d_tabulate 6 (matrix xs d) i (pos 0) h))
+    (λ i h. ap (λ (z : ℤ). eqb (nat_abs z) 0) (ap (vector (tabulate 6 (matrix xs d))) (first i) ∙ get_or-tabulate 6 (matrix xs d) i (pos 0) h))
   where
     first : (i : ℕ) → 6 * 0 + i ≡ i
     first i = omega arith
@@ -76,7 +76,7 @@ module _ (m : Model) (place rows count : ℕ) (xs : List ℤ) (fits : Fits32 xs)
     room = lt-leb 16 d (omega arith)
 
     stored_row : put_row (kept_rows d xs) d (six_at (six_bytes xs d) 0) ≡ kept_rows (suc d) xs
-    stored_row = ap (put_row (kept_rows d xs) d) six-is ∙ put_row-kept d xs (tabulate 6 (matrix xs d)) (λ i l. get_d_tabulate 6 (matrix xs d) i (pos 0) l)
+    stored_row = ap (put_row (kept_rows d xs) d) six-is ∙ put_row-kept d xs (tabulate 6 (matrix xs d)) (λ i l. get_or-tabulate 6 (matrix xs d) i (pos 0) l)
 
     next : (s : State) → s.model.questions.directions ≡ d → s.model.questions.entries ≡ kept_rows d xs → s.model.n ≡ m.n → may_follow s.place 0x30 ≡ true → stored s 0x30 (six_bytes xs d) ≡ at (suc d) → Taken s 0x30 (six_bytes xs d) (at (suc d))
     unfolding body_length layout_of kind_number

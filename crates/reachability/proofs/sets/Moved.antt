@@ -17,7 +17,7 @@ use Rattle.integers.specs.Sums.{vector, sum, sum_ℕ, max_ℕ, dot}
 use Rattle.integers.proofs.SignedParts.{v, #, ◌⊕◌, eq!, eq?, le!, le?}
 use Rattle.integers.proofs.Order.{mul_ℤ-add, ⩽-refl, ⩽-add, ⩽-of-le_z, le_z-of-⩽, lt-of-lt_z, le-of-lt_z-false, nat_abs-add}
 use Rattle.integers.proofs.Sums.{sum-cong, sum-add, sum_ℕ-cong, dot-add, le-max_ℕ, max_ℕ-le, all_below-at, all_below-intro, pos-sum_ℕ, sum-scale}
-use Rattle.integers.proofs.Machine.{length-tabulate, get_d_tabulate}
+use Rattle.integers.proofs.Machine.{length-tabulate, get_or-tabulate}
 use Rattle.arrays.specs.Tests.{zero_outside}
 use Rattle.arrays.proofs.Tests.{Zeros, zero_outside-of, zero_outside-row, zero_outside-column}
 use Rattle.reachability.specs.Sets.{points, larger, largest, support_of, reach_of, reach_limit, Member, count_ok, ordered_ok, set_ok}
@@ -43,7 +43,7 @@ module _ (shape : Shape) (count : ℕ) (xs by : List ℤ) where
   moved_at k = cond (ltb k to) (vector xs k +ℤ vector by (k % 6)) (vector xs k)
 
   stored_at : (k : ℕ) → k < 96 → vector (moved_points shape count xs by) k ≡ moved_at k
-  stored_at k h = get_d_tabulate 96 moved_at k (pos 0) h
+  stored_at k h = get_or-tabulate 96 moved_at k (pos 0) h
 
   -- point k, for a k that is moved and for one that is not
   point-moved : (k i : ℕ) → k < moved_count shape count → k < 16 → i < 6 → points (moved_points shape count xs by) k i ≡ points xs k i +ℤ vector by i

@@ -11,7 +11,7 @@ use lib.Dec.{leb}
 use lib.IntN.{ℤ, pos, nat_abs}
 use Rattle.integers.specs.Sums.{vector, dot, tabulate}
 use Rattle.integers.proofs.Booleans.{and-true}
-use Rattle.integers.proofs.Machine.{get_d_tabulate}
+use Rattle.integers.proofs.Machine.{get_or-tabulate}
 use Rattle.integers.proofs.Sums.{dot-cong, all_below-at, all_below-intro}
 use Rattle.stepping.specs.Refusals.{dimension_ok}
 use Rattle.limits.specs.Limits.{direction_ok}
@@ -60,7 +60,7 @@ module _ (n : ℕ) (s : Set) where
       let ok = unrefused (dimension_ok n && set_ok n s.shape s.count s.points) a.number_is in
       let both = and-true (dimension_ok n) (set_ok n s.shape s.count s.points) ok in
       let told = a.reaches-are ∙ ap (λ (b : Bool). cond b (tabulate 6 (λ j. pos (reach_at s j))) (tabulate 6 (λ j. pos 0))) ok in
-      ((some-points both.0 both.1).1, ap (λ (l : List ℤ). vector l i) told ∙ get_d_tabulate 6 (λ j. pos (reach_at s j)) i (pos 0) h)
+      ((some-points both.0 both.1).1, ap (λ (l : List ℤ). vector l i) told ∙ get_or-tabulate 6 (λ j. pos (reach_at s j)) i (pos 0) h)
 
 -- ---- the figures of both sets
 

@@ -12,7 +12,7 @@ use lib.Dec.{lit≤}
 use lib.IntN.{ℤ, pos, neg_ℤ, nat_abs, ◌+ℤ◌, ◌*ℤ◌, *ℤ-zero}
 use Rattle.integers.specs.Sums.{vector, magnitudes, matrix, max_ℕ, tabulate}
 use Rattle.integers.proofs.Sums.{max_ℕ-zero, max_ℕ-suc, le-max_ℕ, pos-sum_ℕ}
-use Rattle.integers.proofs.Machine.{get_d_tabulate, tabulate-cong}
+use Rattle.integers.proofs.Machine.{get_or-tabulate, tabulate-cong}
 use Rattle.integers.proofs.RunningSum.{RunningSum, running-start, running_more}
 use Rattle.integers.proofs.Booleans.{and-true}
 use Rattle.arrays.specs.Tests.{all_between, zero_outside}
@@ -76,7 +76,7 @@ module _ (m : Model) (facts : ModelFacts m) (W : ℕ → Working) where
         at-start =
             subst (λ (w : Working). Stored m.n w r e) (sym starts)
             (record {
-              r-is = b.first.direction ∙ tabulate-cong 6 (λ i h. ap (λ (z : ℤ). pos direction_unit *ℤ z) (get_d_tabulate 6 (direction m d) i (pos 0) h));
+              r-is = b.first.direction ∙ tabulate-cong 6 (λ i h. ap (λ (z : ℤ). pos direction_unit *ℤ z) (get_or-tabulate 6 (direction m d) i (pos 0) h));
               e-is = b.first.errors;
               r-zero = λ i l h. ap (λ (z : ℤ). pos direction_unit *ℤ z) (facts.direction-beyond d i l h) ∙ *ℤ-zero (pos direction_unit);
               e-zero = λ i l h. refl;

@@ -12,7 +12,7 @@ use lib.IntN.{ℤ, pos, nat_abs}
 use lib.Signed.{non_neg}
 use Rattle.integers.specs.Sums.{vector, magnitudes, matrix, dot_ℕ, tabulate}
 use Rattle.integers.proofs.Sums.{sum_ℕ-cong, sum_ℕ-beyond}
-use Rattle.integers.proofs.Machine.{get_d_tabulate, tabulate-cong}
+use Rattle.integers.proofs.Machine.{get_or-tabulate, tabulate-cong}
 use Rattle.arrays.specs.Tests.{zero_outside}
 use Rattle.stepping.specs.Limits.{growth_limit, error_limit}
 use Rattle.stepping.specs.Recurrence.{next_r, next_e, growth_sum}
@@ -38,10 +38,10 @@ pub record Stored (n : ℕ) (w : Working) (r e : List ℤ) : Type 0 where
 
 module _ {n : ℕ} (n≤6 : n ≤ 6) {w : Working} {r e : List ℤ} (stored : Stored n w r e) where
   r-at : (i : ℕ) → i < 6 → vector r i ≡ w.r i
-  r-at i h = ap (λ (l : List ℤ). vector l i) stored.r-is ∙ get_d_tabulate 6 w.r i (pos 0) h
+  r-at i h = ap (λ (l : List ℤ). vector l i) stored.r-is ∙ get_or-tabulate 6 w.r i (pos 0) h
 
   e-value : (i : ℕ) → i < 6 → vector e i ≡ pos (w.e i)
-  e-value i h = ap (λ (l : List ℤ). vector l i) stored.e-is ∙ get_d_tabulate 6 (λ j. pos (w.e j)) i (pos 0) h
+  e-value i h = ap (λ (l : List ℤ). vector l i) stored.e-is ∙ get_or-tabulate 6 (λ j. pos (w.e j)) i (pos 0) h
 
   e-at : (i : ℕ) → i < 6 → magnitudes e i ≡ w.e i
   e-at i h = ap nat_abs (e-value i h)
@@ -98,7 +98,7 @@ module _ {n : ℕ} (n≤6 : n ≤ 6) {w : Working} {r e : List ℤ} (stored : St
       reaches = stored_reaches reach
 
       reach-at : (i : ℕ) → i < 6 → vector reaches i ≡ pos (reach i)
-      reach-at i h = get_d_tabulate 6 (λ j. pos (reach j)) i (pos 0) h
+      reach-at i h = get_or-tabulate 6 (λ j. pos (reach j)) i (pos 0) h
 
       pub errors-stored : term_errors e reaches ≡ error_at n reach w
       errors-stored =

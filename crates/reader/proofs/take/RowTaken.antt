@@ -7,7 +7,7 @@ use Prim.Native.Nat.{ℕ, ◌+◌, ◌*◌, ◌<◌}
 use borrow.Author.Tests.{eq-eqb, ne_eqb}
 use lib.Dec.{eqb}
 use lib.IntN.{pos}
-use Rattle.integers.proofs.Machine.{get_d_tabulate, AllBytes}
+use Rattle.integers.proofs.Machine.{get_or-tabulate, AllBytes}
 use Rattle.arrays.specs.Tests.{first_of}
 use Rattle.coefficients.specs.declared.rows.RowEntries.{RowEntries}
 use Rattle.coefficients.specs.declared.Coefficient.TheVariants.{Fitted}
@@ -40,7 +40,7 @@ module _ (n : ℕ) (l : Layout) (body : List ℕ) where
   scaled-answer : (l.width ≡ fitted_width → ⊥) → (i : ℕ) → i < 6 → scaled_row (six_at body l.first) i ≡ row_answer l body i
   unfolding six_at entry_of
   scaled-answer ne i k =
-      ap scaled_entry (get_d_tabulate 6 (entry_at body l.first) i (pos 0) k)
+      ap scaled_entry (get_or-tabulate 6 (entry_at body l.first) i (pos 0) k)
       ∙ sym (ap (λ (b : Bool). cond b (entry_of_bits (bits_at body l.first i)) (scaled_entry (entry_at body l.first i))) (ne_eqb l.width fitted_width ne))
 
   pub scaled-taken : (l.width ≡ fitted_width → ⊥) → entries_of n (scaled_row (six_at body l.first)) ≡ entries_of n (row_answer l body)

@@ -6,7 +6,7 @@ use mir.Facts.{to_z_pos, sfits_widen}
 use lib.Dec.{lit<}
 use lib.ListN.{length}
 use Rattle.integers.specs.Sums.{vector}
-use Rattle.integers.proofs.Machine.{read-given, read_wide, sfits-of-nat_abs, filled, filled_none, filled_more, filled-all, get_or-unfilled, get_d_tabulate, length-tabulate, tabulate-cong}
+use Rattle.integers.proofs.Machine.{read-given, read_wide, sfits-of-nat_abs, filled, filled_none, filled_more, filled-all, get_or-unfilled, get_or-tabulate, length-tabulate, tabulate-cong}
 use Rattle.reachability.specs.Sets.{points as points_of, reach_of, reach_limit}
 use Rattle.reachability.proofs.entering.entering_reaches.Statement.{statement}
 use Rattle.reachability.proofs.entering.entering_reaches.Tie as tie
@@ -61,7 +61,7 @@ module _ (c : tie.After-magnitude-size invariant-loop decreases-loop) where
   own = c.reaches_of-reaches.result
 
   own_at : vector own i ≡ pos reach
-  own_at = ap (λ (l : List ℤ). vector l i) c.reaches_of-reaches.ensures ∙ get_d_tabulate 6 (λ j. pos (reach_of start.args.shape start.args.count (points_of start.args.points.now) j)) i (pos 0) inside
+  own_at = ap (λ (l : List ℤ). vector l i) c.reaches_of-reaches.ensures ∙ get_or-tabulate 6 (λ j. pos (reach_of start.args.shape start.args.count (points_of start.args.points.now) j)) i (pos 0) inside
 
   long : length own ≡ 6
   long = ap length c.reaches_of-reaches.ensures ∙ length-tabulate 6 (λ j. pos (reach_of start.args.shape start.args.count (points_of start.args.points.now) j))
@@ -102,7 +102,7 @@ returns c =
     c.loop-i.invariant.1
     ∙ ap (λ (k : ℕ). filled (sum_at at-reaches.reaches_of-reaches.result a.drift.now) k at-reaches.reaches_of-reaches.result) done
     ∙ filled-all (sum_at at-reaches.reaches_of-reaches.result a.drift.now) 6 at-reaches.reaches_of-reaches.result (ap length at-reaches.reaches_of-reaches.ensures ∙ length-tabulate 6 (λ j. pos (reach_of a.shape a.count (points_of a.points.now) j)))
-    ∙ tabulate-cong 6 (λ j h. ap (λ (y : ℤ). y +ℤ pos (nat_abs (vector a.drift.now j))) (ap (λ (l : List ℤ). vector l j) at-reaches.reaches_of-reaches.ensures ∙ get_d_tabulate 6 (λ k. pos (reach_of a.shape a.count (points_of a.points.now) k)) j (pos 0) h))
+    ∙ tabulate-cong 6 (λ j h. ap (λ (y : ℤ). y +ℤ pos (nat_abs (vector a.drift.now j))) (ap (λ (l : List ℤ). vector l j) at-reaches.reaches_of-reaches.ensures ∙ get_or-tabulate 6 (λ k. pos (reach_of a.shape a.count (points_of a.points.now) k)) j (pos 0) h))
 
 pub entering_reaches_spec : {M : Type 1} → statement M
 entering_reaches_spec =
