@@ -52,7 +52,7 @@ record_place at (unknown kind) start = start
 record_place at nothing start = start
 
 -- Routines 12, Forms 1: what the record step returns, `part`, and what it leaves. `now` of a slice is the list of its bytes, and
--- `ptr` the place of its first byte.
+-- `ref_ptr` the place of its first byte.
 pub record RecordStep (file : Bor (List ℕ)) (at : ℕ) (part : Bor (List ℕ)) (kind number : ℕ) : Type 0 where
   pub number_is : number ≡ record_number (record_at file.now at)
   pub kind-is : kind ≡ record_kind (record_at file.now at)

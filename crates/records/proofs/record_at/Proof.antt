@@ -56,12 +56,6 @@ module _ (c : tie.Else-most-eq0) where
       let is = c.layout_of-layout.ensures in
       body_length-known _ (λ z. c.if-most-eq0.false (ap (λ (l : Layout). l.most) is ∙ z)) ∙ sym (ap (λ (l : Layout). body_bytes l.length) is)
 
--- the file's end cuts the body off
-returns-3 : tie.Need-returns-then-file-start
-returns-3 c =
-    let b = c.before in
-    step-of (record_at-short (file b).now (at b) (inside b) (n b) (known b) (omega arith)) refl refl
-
 -- a whole record
 returns-4 : tie.Need-returns
 returns-4 c =
@@ -87,7 +81,8 @@ record_at_spec =
     (λ c. search rules)
     (λ c. search rules)
     (λ c. search rules)
-    returns-3
+    -- the file's end cuts the body off
+    (λ c. let b = c.before in step-of (record_at-short (file b).now (at b) (inside b) (n b) (known b) (omega arith)) refl refl)
     (λ c. search rules)
     (λ c. search rules)
     (λ c. search rules)

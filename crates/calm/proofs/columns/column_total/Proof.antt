@@ -32,12 +32,6 @@ mul-entry c = record { fits = omega (arith, c.requires.0) }
 add-entry : tie.Need-overflow_add-entry invariant-loop decreases-loop
 add-entry c = record { fits = omega (arith, c.requires.0, c.requires.1) }
 
-mul-entry-2 : tie.Need-offset_bounds-matrix-p invariant-loop decreases-loop
-mul-entry-2 c = record { fits = omega (arith, c.requires.0, c.requires.1) }
-
-element-copy-out-entry : tie.Need-bounds-matrix-p invariant-loop decreases-loop
-element-copy-out-entry c = omega (arith, c.requires.0, c.requires.1)
-
 cast-entry : tie.Need-overflow_cast-entry invariant-loop decreases-loop
 cast-entry c = fits-wide w32 w64 {z = vector c.args.matrix.now _} tt (record { sfits = c.entry-1.given })
 
@@ -104,8 +98,8 @@ column_total_spec =
     loop-holds
     mul-entry
     add-entry
-    mul-entry-2
-    element-copy-out-entry
+    (λ c. record { fits = omega (arith, c.requires.0, c.requires.1) })
+    (λ c. omega (arith, c.requires.0, c.requires.1))
     cast-entry
     (λ c κs. search rules)
     cast-size

@@ -26,12 +26,6 @@ loop-holds c = running-start 6 (product c.args.matrix.now c.args.r.now c.args.i)
 add-sum : tie.Need-overflow_add-sum invariant-loop decreases-loop
 add-sum c = omega (arith, c.requires.0)
 
-mul-sum-2 : tie.Need-offset_bounds-matrix-p invariant-loop decreases-loop
-mul-sum-2 c = omega (arith, c.requires.0)
-
-element-copy-out-sum : tie.Need-bounds-matrix-p invariant-loop decreases-loop
-element-copy-out-sum c = omega (arith, c.requires.0)
-
 cast-sum : tie.Need-overflow_cast-sum invariant-loop decreases-loop
 cast-sum c = fits-wide w32 w64 {z = vector c.args.matrix.now _} tt (record { sfits = c.sum-1.given })
 
@@ -88,8 +82,8 @@ product_sum_spec =
     loop-holds
     (λ c. omega arith)
     add-sum
-    mul-sum-2
-    element-copy-out-sum
+    (λ c. omega (arith, c.requires.0))
+    (λ c. omega (arith, c.requires.0))
     cast-sum
     (λ c. omega arith)
     (λ c. omega arith)
