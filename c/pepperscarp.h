@@ -149,7 +149,7 @@ uint64_t pepperscarp_write(const uint8_t *file, size_t file_length, uint8_t *out
  * most 65,536. Entries of fitted rows are rounded first. Takes the file's bytes.
  * Number 0: the figure is 1 if the model is calm, and 0 if it is not. No direction of a calm model is refused for growth: sweep and
  * judge never answer 14 for it.
- * Numbers 1 to 10 and 15 to 17: the file is refused. 11 never comes, as for the sweep. (New in version 0.9.0.)
+ * Numbers 1 to 10 and 15 to 17: the file is refused. 11 never comes, as for the sweep. (New after version 0.8.0.)
  * PEPPERSCARP_IS_CALM(answer) is 1 if the model is calm, and 0 if it is not or the file is refused. The answer itself is no truth
  * value: it is 0 for a model that is not calm, and not 0 for a refused file. */
 #define PEPPERSCARP_IS_CALM(answer) (PEPPERSCARP_NUMBER(answer) == PEPPERSCARP_FINISHED && PEPPERSCARP_FIGURE(answer) == 1u)
@@ -161,15 +161,15 @@ uint64_t pepperscarp_calm(const uint8_t *file, size_t file_length);
  * sweep or judge leaves for this step is above the limit, whatever the direction. At step 0 the limit is 2; it does not fall from
  * one step to the next, and it is 197,378 at most.
  * Numbers 1 to 10 and 15 to 17: the file is refused. 26: the model is not calm. 27: the step is beyond K. The first that applies is
- * answered, in this order. 11 never comes, as for the sweep. (New in version 0.9.0.) */
+ * answered, in this order. 11 never comes, as for the sweep. (New after version 0.8.0.) */
 uint64_t pepperscarp_slack_limit(const uint8_t *file, size_t file_length, size_t step);
 
 /* How many steps of a calm model stay within a slack. Takes the file's bytes and any slack.
  * Number 0: the figure is the largest step k of 0 to K such that the limit of every step from 0 to k is at most this slack. So no
  * slack that sweep or judge leaves for these steps is above it, whatever the direction. Slacks of later steps may be within it too.
  * Numbers 1 to 10 and 15 to 17: the file is refused. 26: the model is not calm. 28: there is no such step, since the slack is 0 or
- * 1 and the limit of step 0 is 2. The first that applies is answered, in this order. 11 never comes, as for the sweep. (New in
- * version 0.9.0.) */
+ * 1 and the limit of step 0 is 2. The first that applies is answered, in this order. 11 never comes, as for the sweep. (New after
+ * version 0.8.0.) */
 uint64_t pepperscarp_steps_within(const uint8_t *file, size_t file_length, uint64_t slack);
 
 #ifdef __cplusplus

@@ -308,7 +308,7 @@ pub fn write<'a>(file: &[u8], out: &'a mut [u8]) -> Result<&'a [u8], Refusal> {
 /// No direction of a calm model grows (Calm 6): [`sweep`] and [`judge`] never answer [`Refusal::Growth`] for it. How large its
 /// slacks can become is answered by [`slack_limit`] and [`steps_within`].
 ///
-/// A file is refused by [`Refusal::File`]. (New in version 0.9.0.)
+/// A file is refused by [`Refusal::File`]. (New after version 0.8.0.)
 ///
 /// ```
 /// let six = |first: i32| [first, 0, 0, 0, 0, 0].map(i32::to_le_bytes).concat();
@@ -335,7 +335,7 @@ pub fn calm(file: &[u8]) -> Result<bool, Refusal> {
 /// fall from one step to the next, and it is 197,378 at most.
 ///
 /// A file is refused by [`Refusal::File`]; then [`Refusal::NotCalm`] and [`Refusal::NoSuchStep`] are tested, in this order. (New
-/// in version 0.9.0.)
+/// after version 0.8.0.)
 ///
 /// ```
 /// use pepperscarp::{slack_limit, sweep, Refusal};
@@ -365,7 +365,7 @@ pub fn slack_limit(file: &[u8], step: usize) -> Result<u64, Refusal> {
 /// within it too.
 ///
 /// A file is refused by [`Refusal::File`]; then [`Refusal::NotCalm`] and [`Refusal::SlackTooSmall`] are tested, in this order.
-/// (New in version 0.9.0.)
+/// (New after version 0.8.0.)
 ///
 /// ```
 /// use pepperscarp::{steps_within, Refusal};
