@@ -75,13 +75,13 @@ static inline int pepperscarp_file_refused(uint64_t answer)
  * by page from above, so that a guard page of 4,096 bytes stops a call that has too little stack. c/test measures the eight, and
  * refuses a figure that is below the need or above twice the need. */
 #define PEPPERSCARP_STEP_STACK 512
-#define PEPPERSCARP_SWEEP_STACK 24576
-#define PEPPERSCARP_JUDGE_STACK 24576
-#define PEPPERSCARP_LISTING_STACK 32768
-#define PEPPERSCARP_WRITE_STACK 24576
-#define PEPPERSCARP_CALM_STACK 24576
-#define PEPPERSCARP_SLACK_LIMIT_STACK 24576
-#define PEPPERSCARP_STEPS_WITHIN_STACK 24576
+#define PEPPERSCARP_SWEEP_STACK 16384
+#define PEPPERSCARP_JUDGE_STACK 18432
+#define PEPPERSCARP_LISTING_STACK 26624
+#define PEPPERSCARP_WRITE_STACK 16384
+#define PEPPERSCARP_CALM_STACK 12288
+#define PEPPERSCARP_SLACK_LIMIT_STACK 12288
+#define PEPPERSCARP_STEPS_WITHIN_STACK 14336
 
 /* The most steps that a model has. Lists of one more suffice for every model, lent with a length of K + 1. */
 #define PEPPERSCARP_STEPS_MOST 256

@@ -3,6 +3,7 @@
 use mathlib.Core.Path.{◌≡◌, sym, ap, ap₂, subst, ◌∙◌}
 use mathlib.Core.Bool.{Bool, true, cond, ◌&&◌}
 use mathlib.Core.List.{List}
+use Rattle.std.specs.Prelude.{Option, Some, None, unwrap_or}
 use Prim.Native.Nat.{ℕ, ◌+◌, ◌*◌, ◌-◌, ◌/◌, ◌≤◌, ◌<◌}
 use native.Mathlib.Nat.{le_refl, le_trans, lt_of_lt_of_le, mul-le-mul}
 use native.Mathlib.Omega.{arith}
@@ -21,9 +22,9 @@ use Rattle.calm.specs.Calm.{initial_total, entering_total, limit_of}
 use Rattle.calm.specs.Inner.{SmallReaches, SmallTotals}
 
 -- what `reach` answers of a set that breaks no rule, number by number
-reach-at : (n : ℕ) (s : Set) {number : ℕ} {reaches : List ℤ} → ReachAnswer n s number reaches → dimension_ok n ≡ true → set_accepted n s ≡ true → (i : ℕ) → i < 6 → magnitudes reaches i ≡ reach_of s.shape s.count (points s.points) i
-reach-at n s a d t i h =
-    ap (λ (xs : List ℤ). magnitudes xs i) (a.reaches-are ∙ ap (λ (b : Bool). cond b (tabulate 6 (λ j. pos (reach_of s.shape s.count (points s.points) j))) (tabulate 6 (λ j. pos 0))) (ap₂ ◌&&◌ d t))
+reach-at : (n : ℕ) (s : Set) {a : Option (List ℤ)} → ReachAnswer n s a → dimension_ok n ≡ true → set_accepted n s ≡ true → (d : List ℤ) (i : ℕ) → i < 6 → magnitudes (unwrap_or a d) i ≡ reach_of s.shape s.count (points s.points) i
+reach-at n s {a} r d t xs i h =
+    ap (λ (o : Option (List ℤ)). magnitudes (unwrap_or o xs) i) (r.answer ∙ ap (λ (b : Bool). cond b (Some (tabulate 6 (λ j. pos (reach_of s.shape s.count (points s.points) j)))) None) (ap₂ ◌&&◌ d t))
     ∙ ap nat_abs (get_or-tabulate 6 (λ j. pos (reach_of s.shape s.count (points s.points) j)) i (pos 0) h)
 
 -- no drift
@@ -45,9 +46,12 @@ module _ (m : Model) (ok : accepted m ≡ true) where
 
   -- ---- the initial set
 
-  module _ {number : ℕ} {reaches : List ℤ} (a : ReachAnswer m.n m.initial number reaches) where
+  module _ {o : Option (List ℤ)} (a : ReachAnswer m.n m.initial o) (d : List ℤ) where
+    abbrev reaches : List ℤ
+    reaches = unwrap_or o d
+
     initial-at : (i : ℕ) → i < 6 → magnitudes reaches i + magnitudes none i ≡ initial_reach m i
-    initial-at i h = ap₂ ◌+◌ (reach-at m.n m.initial a facts.dimension parts.initial i h) (none-at i h) ∙ plus-zero (initial_reach m i)
+    initial-at i h = ap₂ ◌+◌ (reach-at m.n m.initial a facts.dimension parts.initial d i h) (none-at i h) ∙ plus-zero (initial_reach m i)
       where
         plus-zero : (x : ℕ) → x + 0 ≡ x
         plus-zero x = omega arith
@@ -60,14 +64,17 @@ module _ (m : Model) (ok : accepted m ≡ true) where
 
   -- ---- what enters
 
-  module _ {number : ℕ} {reaches : List ℤ} (a : ReachAnswer m.n m.input number reaches) where
-    entering-at : (i : ℕ) → i < 6 → magnitudes reaches i + magnitudes m.drift i ≡ entering_reach_of m i
-    entering-at i h = ap (λ (x : ℕ). x + magnitudes m.drift i) (reach-at m.n m.input a facts.dimension parts.input i h)
+  module _ {o : Option (List ℤ)} (a : ReachAnswer m.n m.input o) (d : List ℤ) where
+    abbrev reached : List ℤ
+    reached = unwrap_or o d
 
-    pub entering-small : SmallReaches m.n reaches m.drift
+    entering-at : (i : ℕ) → i < 6 → magnitudes reached i + magnitudes m.drift i ≡ entering_reach_of m i
+    entering-at i h = ap (λ (x : ℕ). x + magnitudes m.drift i) (reach-at m.n m.input a facts.dimension parts.input d i h)
+
+    pub entering-small : SmallReaches m.n reached m.drift
     entering-small = record { most = facts.n-most; small = λ i h. subst (λ (x : ℕ). x ≤ reach_limit) (sym (entering-at i h)) (facts.entering.small i h) }
 
-    pub entering-is : sum_ℕ m.n (λ i. magnitudes reaches i + magnitudes m.drift i) ≡ entering_total m
+    pub entering-is : sum_ℕ m.n (λ i. magnitudes reached i + magnitudes m.drift i) ≡ entering_total m
     entering-is = sum_ℕ-cong m.n (λ i h. entering-at i (below i h))
 
   -- ---- how large the sums are

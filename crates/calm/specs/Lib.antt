@@ -1,3 +1,4 @@
 pub mod Calm
 pub mod Answers
 pub mod Inner
+pub mod OfCalm

@@ -13,13 +13,11 @@ fn column_total(n: usize, matrix: &[i32; 36], i: usize) -> i64
     requires { (n ≤ 6) × (i < n) }
     ensures { result ≡ pos (column_total n (matrix_of matrix.now) i) }
 {
-    let mut sum: i64 = 0;
-    let mut p: usize = 0;
-    while p < n {
-        let entry = matrix[6 * p + i] as i64;
-        let size = arrays::magnitude(entry) as i64;
-        sum = sum + size;
-        p += 1;
+    let mut sum = 0;
+    for p in 0..n {
+        let entry = matrix[6 * p + i];
+        let size = entry.unsigned_abs();
+        sum += i64::from(size);
     }
     sum
 }
@@ -29,12 +27,10 @@ pub(crate) fn all_calm(n: usize, matrix: &[i32; 36]) -> bool
     requires { n ≤ 6 }
     ensures { result ≡ calm_matrix n (matrix_of matrix.now) }
 {
-    let mut i: usize = 0;
-    while i < n {
+    for i in 0..n {
         if COLUMN_LIMIT < column_total(n, matrix, i) {
             return false;
         }
-        i += 1;
     }
     true
 }

@@ -8,86 +8,76 @@
 mod columns;
 mod limit;
 
-ghost use Rattle.calm.specs.Answers.{CalmAnswers, LimitAnswers, WithinAnswers};
+ghost use Rattle.std.specs.Prelude.{◌≡◌};
+ghost use Rattle.calm.specs.Answers.{refusal_number, CalmAnswers, LimitAnswers, WithinAnswers};
+ghost use Rattle.calm.specs.OfCalm.{TotalsAnswer};
 
+use limit::Totals;
 use reachability::model::{Model, accepts};
 use reachability::motion::rows_of;
 
-// What `calm` answers: the model is calm; it is not; 11, it breaks a rule.
-#[derive(Clone, Copy)]
-pub enum Calmness {
-    Yes,
-    No,
-    Invalid,
-}
-
-// What `slack_limit` answers: the limit; 11, the model breaks a rule; 26, it is not calm; 27, it has no such step.
-#[derive(Clone, Copy)]
-pub enum Limited {
-    Limit(u64),
+// What the routines refuse: 11, the model breaks a rule; 26, it is not calm; 27, it has no such step; 28, the limit of step 0 is above
+// the slack.
+#[derive(Clone, Copy, Debug, PartialEq, Eq)]
+pub enum CalmRefusal {
     Invalid,
     NotCalm,
     NoStep,
-}
-
-// What `steps_within` answers: the step; 11, the model breaks a rule; 26, it is not calm; 28, the limit of step 0 is above the slack.
-#[derive(Clone, Copy)]
-pub enum Within {
-    Step(usize),
-    Invalid,
-    NotCalm,
     TooSmall,
 }
 
+impl CalmRefusal {
+    // Forms 7. The number of the refusal.
+    pub fn number(self) -> u8
+        ensures { result ≡ refusal_number self }
+    {
+        match self {
+            CalmRefusal::Invalid => 11,
+            CalmRefusal::NotCalm => 26,
+            CalmRefusal::NoStep => 27,
+            CalmRefusal::TooSmall => 28,
+        }
+    }
+}
+
 // Routines 25. Whether in each column of the matrix the magnitudes of the entries sum to at most 65,536 (Calm 1).
-pub fn calm(model: Model) -> Calmness
+pub fn calm(model: Model) -> Result<bool, CalmRefusal>
     ensures { CalmAnswers model result }
 {
     if !accepts(model) {
-        return Calmness::Invalid;
+        return Err(CalmRefusal::Invalid);
     }
-    let matrix = rows_of(model.motion);
-    if !columns::all_calm(model.n, &matrix) {
-        return Calmness::No;
+    Ok(columns::all_calm(model.n, &rows_of(model.motion)))
+}
+
+// X and Y of a calm model.
+fn calm_totals(model: Model) -> Result<Totals, CalmRefusal>
+    ensures { TotalsAnswer model result }
+{
+    if !calm(model)? {
+        return Err(CalmRefusal::NotCalm);
     }
-    Calmness::Yes
+    Ok(Totals::of(model))
 }
 
 // Routines 26. The limit of the slacks at a step (Calm 3): no direction of the model has a larger slack there.
-pub fn slack_limit(model: Model, step: usize) -> Limited
+pub fn slack_limit(model: Model, step: usize) -> Result<u64, CalmRefusal>
     ensures { LimitAnswers model step result }
 {
-    let answer = calm(model);
-    match answer {
-        Calmness::Invalid => Limited::Invalid,
-        Calmness::No => Limited::NotCalm,
-        Calmness::Yes => {
-            if model.steps < step {
-                return Limited::NoStep;
-            }
-            let initial = limit::initial_total(model);
-            let entering = limit::entering_total(model);
-            Limited::Limit(limit::limit_of(initial, entering, step))
-        }
+    let totals = calm_totals(model)?;
+    if model.steps < step {
+        return Err(CalmRefusal::NoStep);
     }
+    Ok(totals.limit_at(step))
 }
 
 // Routines 27. The largest step up to which the limit stays at or below the slack (Calm 7): up to it no direction has a larger one.
-pub fn steps_within(model: Model, slack: u64) -> Within
+pub fn steps_within(model: Model, slack: u64) -> Result<usize, CalmRefusal>
     ensures { WithinAnswers model slack result }
 {
-    let answer = calm(model);
-    match answer {
-        Calmness::Invalid => Within::Invalid,
-        Calmness::No => Within::NotCalm,
-        Calmness::Yes => {
-            let initial = limit::initial_total(model);
-            let entering = limit::entering_total(model);
-            let first = limit::first_above(initial, entering, model.steps, slack);
-            if first == 0 {
-                return Within::TooSmall;
-            }
-            Within::Step(first - 1)
-        }
+    let first = calm_totals(model)?.first_above(model.steps, slack);
+    if first == 0 {
+        return Err(CalmRefusal::TooSmall);
     }
+    Ok(first - 1)
 }

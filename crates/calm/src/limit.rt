@@ -18,61 +18,59 @@ fn total(n: usize, reaches: &[i64; 6], drift: &[i32; 6]) -> u64
     requires { SmallReaches n reaches.now drift.now }
     ensures { result ≡ sum_ℕ n (λ i. magnitudes reaches.now i + magnitudes drift.now i) }
 {
-    let mut sum: u64 = 0;
-    let mut i: usize = 0;
-    while i < n {
-        let reach = arrays::magnitude(reaches[i]);
-        let size = arrays::magnitude(drift[i] as i64);
-        sum = sum + (reach + size);
-        i += 1;
+    let mut sum = 0;
+    for i in 0..n {
+        sum += reaches[i].unsigned_abs() + u64::from(drift[i].unsigned_abs());
     }
     sum
 }
 
-// Calm 2. X, the sum of the initial reaches.
-pub(crate) fn initial_total(model: Model) -> u64
-    requires { accepted model ≡ true }
-    ensures { result ≡ initial_total model }
-{
-    let none = [0i32; 6];
-    let found = reach(model.n, model.initial);
-    let reaches = found.reaches;
-    total(model.n, &reaches, &none)
+// Calm 2. X, the sum of the initial reaches, and Y, the sum of the reaches of what enters.
+#[derive(Clone, Copy)]
+pub(crate) struct Totals {
+    initial: u64,
+    entering: u64,
+    ghost small: { SmallTotals initial entering },
 }
 
-// Calm 2. Y, the sum of the reaches of what enters.
-pub(crate) fn entering_total(model: Model) -> u64
-    requires { accepted model ≡ true }
-    ensures { result ≡ entering_total model }
-{
-    let drift = model.drift;
-    let found = reach(model.n, model.input);
-    let reaches = found.reaches;
-    total(model.n, &reaches, &drift)
-}
-
-// Calm 3. The limit at a step, by X and Y. k × (k - 1) / 2 is taken as k × (k + 1) / 2 less k, which needs no case for step 0.
-pub(crate) fn limit_of(initial: u64, entering: u64, step: usize) -> u64
-    requires { SmallTotals initial entering × (step ≤ 256) }
-    ensures { result ≡ limit_of initial entering step }
-{
-    let k = step as u64;
-    let pairs = k * (k + 1) / 2 - k;
-    let errors = k * initial + pairs * entering;
-    (errors + UNIT) / UNIT + 1
-}
-
-// Calm 7. The first of the steps 0 to `last` whose limit is above the slack, last + 1 where there is none.
-pub(crate) fn first_above(initial: u64, entering: u64, last: usize, slack: u64) -> usize
-    requires { SmallTotals initial entering × (last ≤ 256) }
-    ensures { result ≡ first_place (suc last) (λ j. ltb slack (limit_of initial entering j)) }
-{
-    let mut k: usize = 0;
-    while k <= last {
-        if slack < limit_of(initial, entering, k) {
-            return k;
+impl Totals {
+    // Those of an accepted model.
+    // Kept: a fact and no type of accepted models, since a model that was read would have to be tested again.
+    pub(crate) fn of(model: Model) -> Totals
+        requires { accepted model ≡ true }
+        ensures initial { result.initial ≡ initial_total model }
+        ensures entering { result.entering ≡ entering_total model }
+    {
+        let initial = reach(model.n, model.initial).unwrap_or([0; 6]);
+        let input = reach(model.n, model.input).unwrap_or([0; 6]);
+        Totals {
+            initial: total(model.n, &initial, &[0; 6]),
+            entering: total(model.n, &input, &model.drift),
         }
-        k += 1;
     }
-    k
+
+    // Calm 3. The limit at a step.
+    pub(crate) fn limit_at(&self, step: usize) -> u64
+        requires { step ≤ 256 }
+        ensures { result ≡ limit_of self.now.initial self.now.entering step }
+    {
+        let k = step as u64;
+        let pairs = k * k.saturating_sub(1) / 2;
+        let errors = k * self.initial + pairs * self.entering;
+        (errors + 1).div_ceil(UNIT) + 1
+    }
+
+    // Calm 7. The first of the steps 0 to `last` whose limit is above the slack, last + 1 where there is none.
+    pub(crate) fn first_above(&self, last: usize, slack: u64) -> usize
+        requires { last ≤ 256 }
+        ensures { result ≡ first_place (suc last) (λ j. ltb slack (limit_of self.now.initial self.now.entering j)) }
+    {
+        let steps = last + 1;
+        for k in 0..steps {
+            if slack < self.limit_at(k) {
+                return k;
+            }
+        }
+        steps
+    }
 }

@@ -8,25 +8,9 @@
 
 pub mod output;
 
-ghost use Rattle.std.specs.Prelude.{◌≡◌, ◌≤◌, length, take};
-
-// A list with x in each place: one longer than the longest that K + 1 can be.
-pub fn list_of(x: i64) -> [i64; 258]
-    ensures { 258 ≡ length result }
-{
-    [x; 258]
-}
-
-// The length that is asked of a list, and no more than the list has.
-pub fn length_of(asked: usize, xs: &[i64]) -> usize
-    ensures { (result ≤ length xs.now) × (result ≡ length (take result xs.now)) }
-{
-    if asked < xs.len() { asked } else { xs.len() }
-}
-
 // The byte at a place of the row, 0 beyond its end.
 pub fn letter(row: &[u8], k: usize) -> u8 {
-    if k < row.len() { row[k] } else { 0 }
+    row.get(k).copied().unwrap_or(0)
 }
 
 // The cell of the byte `b`, where the byte `before` it is of cell `at`.
@@ -43,13 +27,10 @@ fn cell_after(at: u8, before: u8, b: u8) -> u8 {
 
 // The number that a digit makes of those before it. Any other byte leaves it as it is.
 fn with_digit(size: u64, b: u8) -> u64 {
-    if b < b'0' {
-        return size;
+    match b {
+        b'0'..=b'9' => 10 * (size % 1000000000000000000) + u64::from(b - b'0'),
+        _ => size,
     }
-    if b'9' < b {
-        return size;
-    }
-    10 * (size % 1000000000000000000) + (b - b'0') as u64
 }
 
 fn signed(negative: bool, size: u64) -> i64 {
@@ -69,8 +50,7 @@ pub fn read(row: &[u8], cells: &mut [i64; 258]) {
     let mut size: u64 = 0;
     let mut negative = false;
     let mut before = b' ';
-    for letter in row {
-        let b = *letter;
+    for &b in row {
         let next = cell_after(at, before, b);
         if next != at {
             size = 0;
@@ -78,25 +58,18 @@ pub fn read(row: &[u8], cells: &mut [i64; 258]) {
         }
         at = next;
         size = with_digit(size, b);
-        negative = negative | (b == b'-');
-        cells[at as usize] = signed(negative, size);
+        negative |= b == b'-';
+        cells[usize::from(at)] = signed(negative, size);
         before = b;
     }
 }
 
 // A cell as a number of 32 bits, 0 where it does not fit.
 pub fn entry(cells: &[i64; 258], cell: u8) -> i32 {
-    let x = cells[cell as usize];
-    if x < -2147483648 {
-        return 0;
-    }
-    if 2147483647 < x {
-        return 0;
-    }
-    x as i32
+    i32::try_from(cells[usize::from(cell)]).unwrap_or(0)
 }
 
 // A cell without its sign.
 pub fn count(cells: &[i64; 258], cell: u8) -> usize {
-    arrays::magnitude(cells[cell as usize]) as usize
+    cells[usize::from(cell)].unsigned_abs() as usize
 }

@@ -1,13 +1,12 @@
 -- Laws of `entry_of_bits` (File 12 to 14), for all bits, over whole numbers. In order: how far an entry is from the exact product; a
 -- tie goes to the even entry; a product that is an entry; products of at most a half. Assumes nothing.
-use Rattle.std.proofs.Common.{◌≡◌, ℕ, ◌+◌, ◌*◌, ◌%◌, ◌<◌, ◌≤◌, Bool, true, false, ◌&&◌, leb, ◌⊎◌, ℤ, pos, negsuc, ◌-ℤ◌, ◌*ℤ◌, neg_ℤ, nat_abs, sym, refl, ap, ◌∙◌, subst, inl, inr, ⊎_elim, true≢false, mul-le-mul_right, arith, le-leb}
+use Rattle.std.proofs.Common.{Result, Ok, Err, ◌≡◌, ℕ, ◌+◌, ◌*◌, ◌%◌, ◌<◌, ◌≤◌, Bool, true, false, ◌&&◌, leb, ◌⊎◌, ℤ, pos, negsuc, ◌-ℤ◌, ◌*ℤ◌, neg_ℤ, nat_abs, sym, refl, ap, ◌∙◌, subst, inl, inr, ⊎_elim, true≢false, mul-le-mul_right, arith, le-leb}
 use native.Mathlib.Nat.{eq_of_mul-eq-mul_right}
 use Rattle.integers.specs.Whole.{NearHalves}
 use Rattle.integers.proofs.SignedParts.{v, #, neg, ◌⊗◌, halves!, apart?, eq?}
 use Rattle.integers.proofs.Order.{nat_abs_mul}
 use Rattle.stepping.specs.Limits.{matrix_unit, entry_limit}
-use Rattle.coefficients.specs.declared.EntryAnswer.{EntryAnswer}
-use Rattle.coefficients.specs.declared.EntryAnswer.TheVariants.{Entry, Refused}
+use Rattle.coefficients.specs.declared.EntryRefusal.{EntryRefusal}
 use Rattle.coefficients.specs.Binary64.{is_negative, is_finite, binary64_unit, magnitude_of, signed, exact_value}
 use Rattle.integers.specs.Whole.{nearest_even}
 use Rattle.coefficients.specs.Entries.{fitted_ok, fitted_entry, entry_of_bits, entry_value}
@@ -16,12 +15,12 @@ use Rattle.coefficients.proofs.Values.{unit-pos}
 use Rattle.coefficients.proofs.Fitting.{nat_abs-signed, accepted-bits, refused-bits}
 
 -- an answer that is an entry is the fitted entry
-entry-only : (bits : ℕ) (entry : ℤ) → entry_of_bits bits ≡ Entry entry → entry ≡ fitted_entry bits
+entry-only : (bits : ℕ) (entry : ℤ) → entry_of_bits bits ≡ Ok entry → entry ≡ fitted_entry bits
 entry-only bits entry e = cases (fitted_ok bits) refl
   where
-    number : EntryAnswer → Bool
-    number (Entry z) = true
-    number (Refused k) = false
+    number : Result ℤ EntryRefusal → Bool
+    number (Ok z) = true
+    number (Err k) = false
 
     cases : (b : Bool) → fitted_ok bits ≡ b → entry ≡ fitted_entry bits
     cases true ok = ap entry_value (sym e ∙ accepted-bits bits ok)
@@ -33,7 +32,7 @@ signed-near : (s : Bool) (k m p : ℕ) → NearEven (matrix_unit * m) p k → Ne
 signed-near true k m p n = halves! (neg (# k) ⊗ # p) (# matrix_unit ⊗ neg (# m)) p (omega (arith, n.not-below)) (omega (arith, n.not-above))
 signed-near false k m p n = halves! (# k ⊗ # p) (# matrix_unit ⊗ # m) p (omega (arith, n.not-above)) (omega (arith, n.not-below))
 
-pub entry-near : (bits : ℕ) (entry : ℤ) → entry_of_bits bits ≡ Entry entry → NearHalves (entry *ℤ pos binary64_unit) (pos matrix_unit *ℤ exact_value bits) binary64_unit
+pub entry-near : (bits : ℕ) (entry : ℤ) → entry_of_bits bits ≡ Ok entry → NearHalves (entry *ℤ pos binary64_unit) (pos matrix_unit *ℤ exact_value bits) binary64_unit
 unfolding fitted_entry
 entry-near bits entry e =
     subst (λ (z : ℤ). NearHalves (z *ℤ pos binary64_unit) (pos matrix_unit *ℤ exact_value bits) binary64_unit) (sym (entry-only bits entry e))
@@ -50,7 +49,7 @@ signed-apart false k m p e =
     ⊎_elim (λ z. inl (omega (arith, z, e))) (λ z. inr (omega (arith, z, e)))
     (apart? (# k ⊗ # p) (# matrix_unit ⊗ # m) (nat_abs (pos k *ℤ pos p -ℤ pos matrix_unit *ℤ pos m)) refl)
 
-pub entry-tie : (bits : ℕ) (entry : ℤ) → entry_of_bits bits ≡ Entry entry → 2 * nat_abs (entry *ℤ pos binary64_unit -ℤ pos matrix_unit *ℤ exact_value bits) ≡ binary64_unit → nat_abs entry % 2 ≡ 0
+pub entry-tie : (bits : ℕ) (entry : ℤ) → entry_of_bits bits ≡ Ok entry → 2 * nat_abs (entry *ℤ pos binary64_unit -ℤ pos matrix_unit *ℤ exact_value bits) ≡ binary64_unit → nat_abs entry % 2 ≡ 0
 unfolding fitted_entry
 entry-tie bits entry e far =
     let k = nearest_even (matrix_unit * magnitude_of bits) binary64_unit in
@@ -76,7 +75,7 @@ signed_back true (negsuc n) m p P e = refl
 signed_back false (pos n) m p P e = refl
 signed_back false (negsuc n) m p P e = absurd (omega (arith, eq? (v (negsuc n) ⊗ # p) (# matrix_unit ⊗ # m) e, P))
 
-pub entry-exact : (bits : ℕ) (entry : ℤ) → is_finite bits ≡ true → nat_abs entry ≤ entry_limit → entry *ℤ pos binary64_unit ≡ pos matrix_unit *ℤ exact_value bits → entry_of_bits bits ≡ Entry entry
+pub entry-exact : (bits : ℕ) (entry : ℤ) → is_finite bits ≡ true → nat_abs entry ≤ entry_limit → entry *ℤ pos binary64_unit ≡ pos matrix_unit *ℤ exact_value bits → entry_of_bits bits ≡ Ok entry
 unfolding fitted_ok fitted_entry
 entry-exact bits entry f few e =
     let n = nat_abs entry in
@@ -85,16 +84,16 @@ entry-exact bits entry f few e =
     let within : m ≤ 2 * binary64_unit = omega (arith, size, mul-le-mul_right binary64_unit few) in
     let ok : fitted_ok bits ≡ true = ap (λ (b : Bool). b && leb m (2 * binary64_unit)) f ∙ le-leb m (2 * binary64_unit) within in
     let rounded : nearest_even (matrix_unit * m) binary64_unit ≡ n = ap (λ (k : ℕ). nearest_even k binary64_unit) (sym size) ∙ nearest_even-whole n binary64_unit unit-pos in
-    accepted-bits bits ok ∙ ap Entry (ap (signed (is_negative bits)) rounded ∙ signed_back (is_negative bits) entry m binary64_unit unit-pos e)
+    accepted-bits bits ok ∙ ap Ok (ap (signed (is_negative bits)) rounded ∙ signed_back (is_negative bits) entry m binary64_unit unit-pos e)
 
 -- ---- File 12: both zeros, and all that is at most half a unit, become 0
 
-pub entry-small : (bits : ℕ) → is_finite bits ≡ true → 2 * (matrix_unit * magnitude_of bits) ≤ binary64_unit → entry_of_bits bits ≡ Entry (pos 0)
+pub entry-small : (bits : ℕ) → is_finite bits ≡ true → 2 * (matrix_unit * magnitude_of bits) ≤ binary64_unit → entry_of_bits bits ≡ Ok (pos 0)
 unfolding fitted_ok fitted_entry
 entry-small bits f h =
     let m = magnitude_of bits in
     let ok : fitted_ok bits ≡ true = ap (λ (b : Bool). b && leb m (2 * binary64_unit)) f ∙ le-leb m (2 * binary64_unit) (omega (arith, h)) in
-    accepted-bits bits ok ∙ ap Entry (ap (signed (is_negative bits)) (nearest_even-small (matrix_unit * m) binary64_unit unit-pos h) ∙ nought (is_negative bits))
+    accepted-bits bits ok ∙ ap Ok (ap (signed (is_negative bits)) (nearest_even-small (matrix_unit * m) binary64_unit unit-pos h) ∙ nought (is_negative bits))
   where
     nought : (s : Bool) → signed s 0 ≡ pos 0
     nought true = refl

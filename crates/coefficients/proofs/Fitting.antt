@@ -1,22 +1,23 @@
 -- A binary64 number beside its bits, those that `to_bits` gives: its magnitude within 2, and the entry that it becomes.
 -- Assumes nothing.
-use Rattle.std.proofs.Common.{◌≡◌, ℕ, zero, suc, ◌+◌, ◌*◌, ◌/◌, ◌^◌, ◌<◌, ◌≤◌, Bool, true, false, cond, not, ◌&&◌, ◌||◌, T, eqb, ltb, leb, ℤ, pos, nat_abs, sym, refl, ap, ◌∙◌, subst, ap₂, true≢false, lt_of_lt_of_le, mul-le-mul_right, div-lt_iff_lt-mul, mul-one, le_of_mul-le-mul_right, arith, lit≤, ltb-false, ltb-true, le-ltb, lt-ltb, eqb-true, le-leb, leb-false, leb-true}
+use Rattle.std.proofs.Common.{Ok, Err, ◌≡◌, ℕ, zero, suc, ◌+◌, ◌*◌, ◌/◌, ◌^◌, ◌<◌, ◌≤◌, Bool, true, false, cond, not, ◌&&◌, ◌||◌, T, eqb, ltb, leb, ℤ, pos, nat_abs, sym, refl, ap, ◌∙◌, subst, ap₂, true≢false, lt_of_lt_of_le, mul-le-mul_right, div-lt_iff_lt-mul, mul-one, le_of_mul-le-mul_right, arith, lit≤, ltb-false, ltb-true, le-ltb, eqb-true, le-leb, leb-false, leb-true}
 use mathlib.Core.Bool.{false≢true}
 use native.Mathlib.Decide.{dec_lt}
 use borrow.Author.Tests.{lt-leb, eqb-false}
-use lib.Ieee.{Float, nan, inf, fin, binary64, up, down, fits, mul, neg, lt, le, eq, of_int, of_bits, to_bits, is_nan}
+use lib.Ieee.{Float, nan, inf, fin, binary64, up, down, fits, mul, lt, le, eq, of_int, of_bits, to_bits, is_nan}
 use lib.Ieee.Fits.{down_pos}
 use lib.Ieee.Bits.{is_true, of_bits-to_bits, to_bits-of_bits, of_bits-fits}
 use lib.Ieee.Exact.{HasValue}
 use lib.Ieee.Scale.{finite}
 use lib.Ieee.Positive.{num, den, den_pos}
+use Rattle.std.specs.Float.{float_with_sign}
 use Rattle.stepping.specs.Limits.{matrix_unit, entry_limit}
 use Rattle.integers.proofs.Booleans.{and-true}
 use Rattle.coefficients.specs.Binary64.{is_negative, is_finite, binary64_unit, magnitude_of, signed}
 use Rattle.integers.specs.Whole.{nearest_even}
 use Rattle.coefficients.specs.Entries.{fitted_ok, fitted_entry, entry_of_bits, entry_of}
 use Rattle.coefficients.specs.declared.Coefficient.TheVariants.{Fitted}
-use Rattle.coefficients.specs.declared.EntryAnswer.TheVariants.{Entry, Refused}
+use Rattle.coefficients.specs.declared.EntryRefusal.{EntryRefusal}
 use Rattle.coefficients.specs.Inner.{InRange}
 use Rattle.integers.proofs.NearestEven.{nearest_even-same, nearest_even-le}
 use Rattle.coefficients.proofs.Values.{Cut, factor, unit-pos, bits-value, bits-infinite, scaled_value, value-cut, whole_below}
@@ -29,9 +30,8 @@ two_is = refl
 
 -- ---- the magnitude of a number
 
--- As the code takes it: the number itself, or its opposite where it is below 0.
 abbrev pub absolute_of : Float → Float
-absolute_of x = cond (lt x (fin false 0 (pos 0))) (neg x) x
+absolute_of x = float_with_sign false x
 
 -- x and the number of these bits have the same magnitude
 pub record SameMagnitude (x : Float) (bits : ℕ) : Type 0 where
@@ -124,53 +124,30 @@ low-positive : (m : ℕ) (e : ℤ) → lt (fin false m e) (fin false 0 (pos 0)) 
 unfolding lt
 low-positive m e = le-ltb (m * up e * 1) (0 * 1 * down e) (omega arith)
 
--- from the magnitude as it is taken
-module _ (s : Bool) (m : ℕ) (e : ℤ) (h : T (fits binary64 (fin s m e))) where
-  abbrev x : Float
-  x = fin s m e
-
-  abbrev n : ℕ
-  n = nearest_even (matrix_unit * (m * up e)) (down e)
-
-  -- where it has the sign 0
-  plain : absolute_of x ≡ fin false m e → signed (lt x (fin false 0 (pos 0))) n ≡ signed s n → Checked x (to_bits binary64 x)
-  plain size sign = record {
-    test = ap (λ (y : Float). le y (fin false 1 (pos 1))) size ∙ le-two m e ∙ sym (ok-is s m e h);
-    low = ap (λ (y : Float). lt y (fin false 0 (pos 0))) size ∙ low-positive m e;
-    entry = λ t. ap (λ (y : Float). signed (lt x (fin false 0 (pos 0))) (nearest_even (matrix_unit * num y) (den y))) size ∙ sign ∙ sym (entry-is s m e h);
-  }
-
--- of -0, whose magnitude as it is taken has the sign 1
-below_two : (m : ℕ) (e : ℤ) → le (fin true m e) (fin false 1 (pos 1)) ≡ true
-unfolding le lt
-below_two m e = ap (λ (b : Bool). b || eq (fin true m e) (fin false 1 (pos 1))) (lt-ltb 0 (m * up e * 1 + 1 * 2 * down e) (omega (arith, down_pos e)))
-
-negative-zero : (m : ℕ) (e : ℤ) (h : T (fits binary64 (fin true m e))) → lt (fin true m e) (fin false 0 (pos 0)) ≡ false → m * up e ≡ 0 → Checked (fin true m e) (to_bits binary64 (fin true m e))
-negative-zero m e h l z =
-    let x = fin true m e in
-    let size : absolute_of x ≡ x = ap (λ (b : Bool). cond b (neg x) x) l in
-    let n = nearest_even (matrix_unit * (m * up e)) (down e) in
-    let none : n ≡ 0 = omega (arith, nearest_even-le (matrix_unit * (m * up e)) (down e) 0 (down_pos e) (omega (arith, z))) in
-    record {
-      test = ap (λ (y : Float). le y (fin false 1 (pos 1))) size ∙ below_two m e ∙ sym (ok-is true m e h ∙ le-leb (m * up e) (2 * down e) (omega (arith, z)));
-      low = ap (λ (y : Float). lt y (fin false 0 (pos 0))) size ∙ l;
-      entry = λ t. ap₂ (λ (b : Bool) (y : Float). signed b (nearest_even (matrix_unit * num y) (den y))) l size ∙ ap pos none ∙ sym (entry-is true m e h ∙ ap (signed true) none);
-    }
-
 refused : (x : Float) (b : ℕ) → le (absolute_of x) (fin false 1 (pos 1)) ≡ false → lt (absolute_of x) (fin false 0 (pos 0)) ≡ false → fitted_ok b ≡ false → Checked x b
 refused x b t l n = record { test = t ∙ sym n; low = l; entry = λ e. absurd (true≢false (sym e ∙ n)) }
 
-pub checked : (x : Float) → T (fits binary64 x) → Checked x (to_bits binary64 x)
-unfolding le lt eq neg
-checked nan h = refused nan (to_bits binary64 nan) refl refl (infinite-bits nan (to_bits binary64 nan) (of_bits-to_bits binary64 nan h) refl)
-checked (inf true) h = refused (inf true) (to_bits binary64 (inf true)) refl refl (infinite-bits (inf true) (to_bits binary64 (inf true)) (of_bits-to_bits binary64 (inf true) h) refl)
-checked (inf false) h = refused (inf false) (to_bits binary64 (inf false)) refl refl (infinite-bits (inf false) (to_bits binary64 (inf false)) (of_bits-to_bits binary64 (inf false) h) refl)
-checked (fin false m e) h = plain false m e h (ap (λ (b : Bool). cond b (fin true m e) (fin false m e)) (low-positive m e)) (ap (λ (b : Bool). signed b (nearest_even (matrix_unit * (m * up e)) (down e))) (low-positive m e))
-checked (fin true m e) h = cases (ltb 0 (m * up e * 1 + 0 * 1 * down e)) refl
+-- of -0 the sign is lost, and with it nothing
+sign-is : (s : Bool) (m : ℕ) (e : ℤ) → signed (lt (fin s m e) (fin false 0 (pos 0))) (nearest_even (matrix_unit * (m * up e)) (down e)) ≡ signed s (nearest_even (matrix_unit * (m * up e)) (down e))
+unfolding lt
+sign-is false m e = ap (λ (b : Bool). signed b (nearest_even (matrix_unit * (m * up e)) (down e))) (low-positive m e)
+sign-is true m e = cases (ltb 0 (m * up e * 1 + 0 * 1 * down e)) refl
   where
-    cases : (b : Bool) → ltb 0 (m * up e * 1 + 0 * 1 * down e) ≡ b → Checked (fin true m e) (to_bits binary64 (fin true m e))
-    cases true l = plain true m e h (ap (λ (b : Bool). cond b (fin false m e) (fin true m e)) l) (ap (λ (b : Bool). signed b (nearest_even (matrix_unit * (m * up e)) (down e))) l)
-    cases false l = negative-zero m e h l (omega (arith, ltb-false 0 (m * up e * 1 + 0 * 1 * down e) l))
+    n : ℕ
+    n = nearest_even (matrix_unit * (m * up e)) (down e)
+
+    cases : (b : Bool) → ltb 0 (m * up e * 1 + 0 * 1 * down e) ≡ b → signed b n ≡ signed true n
+    cases true l = refl
+    cases false l =
+        let zero-is : m * up e ≡ 0 = omega (arith, ltb-false 0 (m * up e * 1 + 0 * 1 * down e) l) in
+        let none : n ≡ 0 = omega (arith, nearest_even-le (matrix_unit * (m * up e)) (down e) 0 (down_pos e) (omega (arith, zero-is))) in
+        ap pos none ∙ sym (ap (signed true) none)
+
+pub checked : (x : Float) → T (fits binary64 x) → Checked x (to_bits binary64 x)
+unfolding float_with_sign le lt eq
+checked nan h = refused nan (to_bits binary64 nan) refl refl (infinite-bits nan (to_bits binary64 nan) (of_bits-to_bits binary64 nan h) refl)
+checked (inf s) h = refused (inf s) (to_bits binary64 (inf s)) refl refl (infinite-bits (inf s) (to_bits binary64 (inf s)) (of_bits-to_bits binary64 (inf s) h) refl)
+checked (fin s m e) h = record { test = le-two m e ∙ sym (ok-is s m e h); low = low-positive m e; entry = λ t. sign-is s m e ∙ sym (entry-is s m e h) }
 
 -- ---- from 0 to 2: the halves that the code counts
 
@@ -216,13 +193,13 @@ counted (fin true m e) h r = let z : m * up e ≡ 0 = omega (arith, ltb-false 0 
 
 -- ---- from the bits and back
 
-pub refused-bits : (bits : ℕ) → fitted_ok bits ≡ false → entry_of_bits bits ≡ Refused 15
+pub refused-bits : (bits : ℕ) → fitted_ok bits ≡ false → entry_of_bits bits ≡ Err EntryRefusal.Fitted
 unfolding entry_of_bits
-refused-bits bits e = ap (λ (b : Bool). cond b (Entry (fitted_entry bits)) (Refused 15)) e
+refused-bits bits e = ap (λ (b : Bool). cond b (Ok (fitted_entry bits)) (Err EntryRefusal.Fitted)) e
 
-pub accepted-bits : (bits : ℕ) → fitted_ok bits ≡ true → entry_of_bits bits ≡ Entry (fitted_entry bits)
+pub accepted-bits : (bits : ℕ) → fitted_ok bits ≡ true → entry_of_bits bits ≡ Ok (fitted_entry bits)
 unfolding entry_of_bits
-accepted-bits bits e = ap (λ (b : Bool). cond b (Entry (fitted_entry bits)) (Refused 15)) e
+accepted-bits bits e = ap (λ (b : Bool). cond b (Ok (fitted_entry bits)) (Err EntryRefusal.Fitted)) e
 
 -- Limits 3: an entry that is not refused is within the limit of a matrix entry.
 pub nat_abs-signed : (b : Bool) (n : ℕ) → nat_abs (signed b n) ≡ n
@@ -250,7 +227,7 @@ entry_of-bits bits h = cases (is_nan (of_bits binary64 bits)) refl
     no_number (inf s) e = refl
     no_number (fin s m e) n = absurd (false≢true n)
 
-    refused-by : (b : ℕ) → of_bits binary64 b ≡ x → is_nan x ≡ true → entry_of_bits b ≡ Refused 15
+    refused-by : (b : ℕ) → of_bits binary64 b ≡ x → is_nan x ≡ true → entry_of_bits b ≡ Err EntryRefusal.Fitted
     refused-by b e n = refused-bits b (infinite-bits x b e (no_number x n))
 
     cases : (b : Bool) → is_nan x ≡ b → entry_of_bits (to_bits binary64 x) ≡ entry_of_bits bits

@@ -3,4 +3,5 @@ pub mod Fitting
 pub mod FittedLaws
 pub mod ZeroBits
 pub mod RowLaws
+pub mod RowSoFar
 pub mod WorkedEntries

@@ -14,37 +14,38 @@ ghost use Rattle.coefficients.specs.Inner.{magnitude_entry, InRange};
 
 use stepping::{ENTRY_LIMIT, MATRIX_UNIT};
 
-// Limits 3, of the magnitude of an entry.
-const ENTRY_LIMIT_U64: u64 = ENTRY_LIMIT as u64;
-
 // Refusals 15. The largest magnitude of a fitted entry.
 pub const FITTED_LIMIT: f64 = 2.0;
+
+// File 11. The bits of infinity. With the sign taken off, those of every NaN are above.
+const INFINITY_BITS: u64 = 0x7ff0_0000_0000_0000;
 
 // File 12. How many halves of a stored entry make 1.
 const HALVES: f64 = (2 * MATRIX_UNIT) as f64;
 
 // Forms 9. An entry as its row has it: counted in 1 / 65,536, or a binary64 number.
-#[derive(Clone, Copy)]
+#[derive(Clone, Copy, Debug, PartialEq)]
 pub enum Coefficient {
     Scaled(i32),
     Fitted(f64),
 }
 
-// The stored entry, or the number that a row with this entry is refused by: 5 where it is scaled, 15 where it is fitted.
-#[derive(Clone, Copy)]
-pub enum EntryAnswer {
-    Entry(i32),
-    Refused(u8),
+// Why a row is refused by one of its entries: by 5, a scaled one beyond Limits 3, or by 15, a fitted one that becomes no entry.
+#[derive(Clone, Copy, Debug, PartialEq, Eq)]
+pub enum EntryRefusal {
+    Scaled,
+    Fitted,
 }
 
 // Routines 18. The binary64 number of 64 bits; the one NaN for every pattern of a NaN.
 pub fn value_of(bits: u64) -> f64
     ensures { result ≡ from_bits binary64 bits }
 {
-    if 0x7ff0_0000_0000_0000 < bits % 0x8000_0000_0000_0000 {
-        return 0.0 / 0.0;
+    if INFINITY_BITS < bits % 0x8000_0000_0000_0000 {
+        f64::NAN
+    } else {
+        f64::from_bits(bits)
     }
-    f64::from_bits(bits)
 }
 
 // File 12. The whole number nearest to 65,536 times x, a tie to the even one.
@@ -66,34 +67,33 @@ fn rounded(x: f64) -> i32
 }
 
 // An entry within Limits 3, or number 5.
-fn scaled_entry(entry: i32) -> EntryAnswer
+fn scaled_entry(entry: i32) -> Result<i32, EntryRefusal>
     ensures { result ≡ scaled_entry entry }
 {
-    if arrays::magnitude(entry as i64) <= ENTRY_LIMIT_U64 {
-        return EntryAnswer::Entry(entry);
+    if (-ENTRY_LIMIT..=ENTRY_LIMIT).contains(&entry) {
+        Ok(entry)
+    } else {
+        Err(EntryRefusal::Scaled)
     }
-    EntryAnswer::Refused(5)
 }
 
-// The entry of a binary64 number.
-fn fitted_entry(x: f64) -> EntryAnswer
+// The entry of a binary64 number, or number 15.
+fn fitted_entry(x: f64) -> Result<i32, EntryRefusal>
     ensures { result ≡ entry_of_bits (to_bits binary64 x) }
 {
-    let magnitude = if x < 0.0 { -x } else { x };
+    let magnitude = x.abs();
     let negative = x < 0.0;
     if magnitude <= FITTED_LIMIT {
         let entry = rounded(magnitude);
-        if negative {
-            return EntryAnswer::Entry(-entry);
-        }
-        return EntryAnswer::Entry(entry);
+        Ok(if negative { -entry } else { entry })
+    } else {
+        Err(EntryRefusal::Fitted)
     }
-    EntryAnswer::Refused(15)
 }
 
-// Routines 18. The stored entry of a scaled or a fitted one, or the number that its row is refused by.
+// Routines 18. The stored entry of a scaled or a fitted one, or why its row is refused.
 #[inline(never)]
-pub fn entry_of(coefficient: Coefficient) -> EntryAnswer
+pub fn entry_of(coefficient: Coefficient) -> Result<i32, EntryRefusal>
     ensures { result ≡ entry_of coefficient }
 {
     match coefficient {
@@ -103,7 +103,7 @@ pub fn entry_of(coefficient: Coefficient) -> EntryAnswer
 }
 
 // Routines 18. The stored entry of the 64 bits of a fitted one, or number 15.
-pub fn entry_of_bits(bits: u64) -> EntryAnswer
+pub fn entry_of_bits(bits: u64) -> Result<i32, EntryRefusal>
     ensures { result ≡ entry_of_bits bits }
 {
     entry_of(Coefficient::Fitted(value_of(bits)))

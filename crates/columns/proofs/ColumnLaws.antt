@@ -33,13 +33,18 @@ pub column_zero-whole : (at width : ℕ) (body : List ℕ) (i : ℕ) → (width 
 column_zero-whole at width body i ne = ap (λ (b : Bool). cond b (is_zero (bits_at body at i)) (entry_zero body at i)) (ne_eqb width fitted_width ne)
 
 module _ (n : ℕ) (l : Layout) (body : List ℕ) where
+  -- with entries
+  pub unused_zero-some : (l.width ≡ 0 → ⊥) → unused_zero n l body ≡ all_below 6 (passes l.first n l.width body)
+  unfolding unused_zero
+  unused_zero-some ne = ap (λ (b : Bool). b || all_below 6 (passes l.first n l.width body)) (ne_eqb l.width 0 ne)
+
   -- ---- a body that passes
 
   pub unused_zero-at : unused_zero n l body ≡ true → 0 < l.width → (i : ℕ) → n ≤ i → i < 6 → column_zero l.first l.width body i ≡ true
   unfolding unused_zero
   unused_zero-at z some i h k =
       sym (passes-beyond l.first n l.width body i h)
-      ∙ all_below-at 6 (passes l.first n l.width body) (sym (ap (λ (b : Bool). b || all_below 6 (passes l.first n l.width body)) (ne_eqb l.width 0 (λ e. omega arith))) ∙ z) i k
+      ∙ all_below-at 6 (passes l.first n l.width body) (sym (unused_zero-some (λ e. omega arith)) ∙ z) i k
 
   -- ---- bodies that pass
 

@@ -5,21 +5,26 @@
 // No public function has a `requires`: any n, offset, layout and bytes get their answer. Bytes beyond the end of a body count as 0.
 #![tactic(auto)]
 
-ghost use Rattle.std.specs.Prelude.{◌≡◌, ◌<◌};
+ghost use Rattle.std.specs.Prelude.{◌≡◌, ◌<◌, drop};
 ghost use Rattle.coefficients.specs.Binary64.{is_zero};
-ghost use Rattle.columns.specs.Columns.{first_byte, entry_at, bits_at, six_at, fitted_at, held_row, column_zero, unused_zero};
+ghost use Rattle.columns.specs.Columns.{first_byte, entry_at, bits_at, six_at, held_row, column_zero, unused_zero};
 
 use coefficients::rows::FittedRow;
 use records::kinds::{FITTED_WIDTH, Layout};
+use std::array;
 
 // Routines 21. The byte that a body starts with.
 pub fn first_byte(body: &[u8]) -> usize
     ensures { result ≡ first_byte body.now }
 {
-    if body.len() < 1 {
-        return 0;
-    }
-    body[0] as usize
+    usize::from(body.first().copied().unwrap_or(0))
+}
+
+// The bytes of a body from the offset `at` on: none beyond its end.
+fn part_from(body: &[u8], at: usize) -> &[u8]
+    ensures { result.now ≡ drop at body.now }
+{
+    body.get(at..).unwrap_or(&[])
 }
 
 // Entry i of six at the offset `at` of a body.
@@ -27,57 +32,33 @@ fn entry_at(body: &[u8], at: usize, i: usize) -> i32
     requires { i < 6 }
     ensures { result ≡ entry_at body.now at i }
 {
-    if body.len() <= at {
-        return 0;
-    }
-    numbers::i32_at(body, at + 4 * i)
+    numbers::i32_at(part_from(body, at), 4 * i)
 }
 
 // Routines 21. The six entries at the offset `at` of a body.
 pub fn six_at(body: &[u8], at: usize) -> [i32; 6]
     ensures { result ≡ six_at body.now at }
 {
-    let a = entry_at(body, at, 0);
-    let b = entry_at(body, at, 1);
-    let c = entry_at(body, at, 2);
-    let d = entry_at(body, at, 3);
-    let e = entry_at(body, at, 4);
-    let f = entry_at(body, at, 5);
-    [a, b, c, d, e, f]
+    array::from_fn(|i| entry_at(body, at, i))
 }
 
 // The bits of fitted entry i of six at the offset `at` of a body.
+// Kept: two calls of one line; one function for both types would take the reading, the width and a contract over both as well.
 fn bits_at(body: &[u8], at: usize, i: usize) -> u64
     requires { i < 6 }
     ensures { result ≡ bits_at body.now at i }
 {
-    if body.len() <= at {
-        return 0;
-    }
-    numbers::u64_at(body, at + FITTED_WIDTH * i)
-}
-
-// Its value.
-fn fitted_at(body: &[u8], at: usize, i: usize) -> f64
-    requires { i < 6 }
-    ensures { result ≡ fitted_at body.now at i }
-{
-    coefficients::value_of(bits_at(body, at, i))
+    numbers::u64_at(part_from(body, at), FITTED_WIDTH * i)
 }
 
 // Routines 21, Forms 11. The fitted row of a body, with its entries at the offset `at`.
 pub fn fitted_row(body: &[u8], at: usize) -> FittedRow
     ensures { result ≡ held_row body.now at }
 {
-    let number = first_byte(body);
-    let a = fitted_at(body, at, 0);
-    let b = fitted_at(body, at, 1);
-    let c = fitted_at(body, at, 2);
-    let d = fitted_at(body, at, 3);
-    let e = fitted_at(body, at, 4);
-    let f = fitted_at(body, at, 5);
-    let values = [a, b, c, d, e, f];
-    FittedRow { number, values }
+    FittedRow {
+        number: first_byte(body),
+        values: array::from_fn(|i| coefficients::value_of(bits_at(body, at, i))),
+    }
 }
 
 // File 11. The bits are those of a zero, of either sign: none but the sign is set.
@@ -87,32 +68,29 @@ fn is_zero(bits: u64) -> bool
     bits % 0x8000_0000_0000_0000 == 0
 }
 
-// Entry i of a body is zero, its entries being of so many bytes from the offset `first` on. A fitted one has either zero.
-fn column_zero(first: usize, width: usize, body: &[u8], i: usize) -> bool
+// Entry i of a body of this layout is zero. A fitted one has either zero.
+fn column_zero(layout: &Layout, body: &[u8], i: usize) -> bool
     requires { i < 6 }
-    ensures { result ≡ column_zero first width body.now i }
+    ensures { result ≡ column_zero layout.now.first layout.now.width body.now i }
 {
-    if width == FITTED_WIDTH {
-        return is_zero(bits_at(body, first, i));
+    if layout.width == FITTED_WIDTH {
+        is_zero(bits_at(body, layout.first, i))
+    } else {
+        entry_at(body, layout.first, i) == 0
     }
-    entry_at(body, first, i) == 0
 }
 
 // Routines 19. The entries beyond the first n of a body of this layout are zero, or it has no entries.
 pub fn unused_zero(n: usize, layout: Layout, body: &[u8]) -> bool
     ensures { result ≡ unused_zero n layout body.now }
 {
-    let first = layout.first;
-    let width = layout.width;
-    if width == 0 {
+    if layout.width == 0 {
         return true;
     }
-    let mut i = n;
-    while i < 6 {
-        if !column_zero(first, width, body, i) {
+    for i in n..6 {
+        if !column_zero(&layout, body, i) {
             return false;
         }
-        i += 1;
     }
     true
 }

@@ -5,7 +5,7 @@
 // standard output takes nothing more, the program says so on standard error and stops.
 #![tactic(auto)]
 
-ghost use Rattle.std.specs.Prelude.{◌≡◌, ℕ, ◌≤◌, List, length, OnOk};
+ghost use Rattle.std.specs.Prelude.{ℕ, ◌≤◌, List, length, OnOk};
 ghost use Rattle.std.specs.Io.KnownBytes.{Appends, Consumes};
 ghost use Rattle.listing.specs.Listing.{reply_text};
 
@@ -15,35 +15,21 @@ use std::io;
 use std::io::{Read, Write};
 use streams::{read_full, tell};
 
-// The bytes of a file. The contract gives the length alone, here and below.
-fn file_space() -> [u8; MOST_READ]
-    ensures { 2048 ≡ length result }
-{
-    [0u8; MOST_READ]
-}
-
-fn text_space() -> [u8; ROOM]
-    ensures { 270000 ≡ length result }
-{
-    [0u8; ROOM]
-}
-
 // Reads a file and writes the reply to it, where the bytes that are left to read and those that were written are known.
 fn answer<R: Read, W: Write>(input: &mut R, output: &mut W) -> io::Result<()>
     ensures { OnOk result ((file : List ℕ) × (length file ≤ 2048)
         × Consumes (R.remaining input.old) (R.remaining input.new) file
         × Appends (W.contents output.old) (W.contents output.new) (reply_text file)) }
 {
-    let mut file = file_space();
+    let mut file = [0u8; MOST_READ];
     let read = read_full(input, &mut file);
-    let mut text = text_space();
+    let mut text = [0u8; ROOM];
     let count = reply(&file[..read], &mut text);
     output.write_all(&text[..count])
 }
 
 fn main(rt: HostRuntime) {
-    let written = answer(&mut rt.stdin(), &mut rt.stdout());
-    if let Err(error) = written {
+    if let Err(error) = answer(&mut rt.stdin(), &mut rt.stdout()) {
         tell(&rt, "envelope: standard output", error);
     }
 }

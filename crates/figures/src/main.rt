@@ -13,6 +13,7 @@ use cells::{letter, output};
 use std::{env, io};
 
 // Runs the routine that a row names, by its first two letters. A row of -1 tells that there is none.
+// Kept: a match, since a table of routines would have to be searched and says no more.
 fn ask(rt: &impl Print, first: u8, second: u8, cells: &[i64; 258]) -> io::Result<()> {
     match first {
         b'w' => walks::walk(rt, cells),
@@ -32,7 +33,7 @@ fn ask(rt: &impl Print, first: u8, second: u8, cells: &[i64; 258]) -> io::Result
 }
 
 fn run(rt: &impl Print, row: &[u8]) -> io::Result<()> {
-    let mut cells = cells::list_of(0);
+    let mut cells = [0i64; 258];
     cells::read(row, &mut cells);
     ask(rt, letter(row, 1), letter(row, 2), &cells)?;
     output::end(rt)

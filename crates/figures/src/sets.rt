@@ -2,7 +2,7 @@
 use crate::walks::six_of;
 use cells::output::{answer, natural, number, pair};
 use cells::{count, entry};
-use reachability::sets::{Set, Shape, Supported};
+use reachability::sets::{Set, Shape};
 use std::io;
 
 fn shape_of(number: usize) -> Shape {
@@ -17,7 +17,7 @@ fn shape_of(number: usize) -> Shape {
 fn points_of(cells: &[i64; 258], section: u8) -> [i32; 96] {
     let mut points = [0i32; 96];
     for k in 0..6u8 {
-        points[(k / 2 * 6 + k % 2) as usize] = entry(cells, section % 128 + 3 + k);
+        points[usize::from(k / 2 * 6 + k % 2)] = entry(cells, section % 128 + 3 + k);
     }
     points
 }
@@ -35,18 +35,21 @@ pub fn set_of(cells: &[i64; 258], section: u8) -> Set {
 pub fn support(rt: &impl Print, cells: &[i64; 258]) -> io::Result<()> {
     let r = six_of(cells, 0x21);
     match reachability::sets::support(count(cells, 0x02), set_of(cells, 0x30), &r) {
-        Supported::Value(v) => {
+        Some(v) => {
             natural(rt, 0)?;
             number(rt, v)
         }
-        Supported::Refused => answer(rt, 11, 0),
+        None => answer(rt, 11, 0),
     }
 }
 
 // The number, and the reach in the first two coordinates.
 pub fn reach(rt: &impl Print, cells: &[i64; 258]) -> io::Result<()> {
-    let a = reachability::sets::reach(count(cells, 0x02), set_of(cells, 0x30));
-    let reaches = a.reaches;
-    natural(rt, a.number as u64)?;
+    let found = reachability::sets::reach(count(cells, 0x02), set_of(cells, 0x30));
+    let (number, reaches) = match found {
+        Some(reaches) => (0, reaches),
+        None => (11, [0; 6]),
+    };
+    natural(rt, number)?;
     pair(rt, reaches)
 }

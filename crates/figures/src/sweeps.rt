@@ -2,11 +2,11 @@
 use crate::sets::set_of;
 use crate::walks::matrix_of;
 use cells::output::{answer, list, natural};
-use cells::{count, entry, length_of, list_of};
+use cells::{count, entry};
 use reachability::model::{Model, Questions};
 use reachability::motion::Motion;
-use reachability::sweep::Swept;
-use reachability::verdicts::Judged;
+use reachability::refusals::CallRefusal;
+use reachability::verdicts::Verdict;
 use std::io;
 
 // What the first guard watches.
@@ -33,10 +33,7 @@ fn entries_of(cells: &[i64; 258]) -> [i32; 96] {
 
 // The first two coordinates of the drift.
 fn drift_of(cells: &[i64; 258]) -> [i32; 6] {
-    let mut drift = [0i32; 6];
-    drift[0] = entry(cells, 0x71);
-    drift[1] = entry(cells, 0x72);
-    drift
+    [entry(cells, 0x71), entry(cells, 0x72), 0, 0, 0, 0]
 }
 
 // The model of a row: one direction with two entries, and the first guard's direction and level.
@@ -65,27 +62,31 @@ fn told(rt: &impl Print, number: u64, verdict: u64, figure: u64) -> io::Result<(
     answer(rt, verdict, figure)
 }
 
+// The number, no verdict, and the step with growth.
+fn refused(rt: &impl Print, refusal: CallRefusal) -> io::Result<()> {
+    match refusal {
+        CallRefusal::Invalid => told(rt, 11, 0, 0),
+        CallRefusal::Missing => told(rt, 12, 0, 0),
+        CallRefusal::WrongLength => told(rt, 13, 0, 0),
+        CallRefusal::Growth(k) => told(rt, 14, 0, k as u64),
+    }
+}
+
 // The number, no verdict, and the spare figure or the step.
-fn swept(rt: &impl Print, a: Swept) -> io::Result<()> {
+fn swept(rt: &impl Print, a: Result<u32, CallRefusal>) -> io::Result<()> {
     match a {
-        Swept::Spare(h) => told(rt, 0, 0, h as u64),
-        Swept::Invalid => told(rt, 11, 0, 0),
-        Swept::NoDirection => told(rt, 12, 0, 0),
-        Swept::WrongLength => told(rt, 13, 0, 0),
-        Swept::Growth(k) => told(rt, 14, 0, k as u64),
+        Ok(h) => told(rt, 0, 0, u64::from(h)),
+        Err(refusal) => refused(rt, refusal),
     }
 }
 
 // The number, the verdict (0 none, 1 HIT, 2 UNKNOWN, 3 CLEAR), and the step.
-fn judged(rt: &impl Print, a: Judged) -> io::Result<()> {
+fn judged(rt: &impl Print, a: Result<Verdict, CallRefusal>) -> io::Result<()> {
     match a {
-        Judged::Hit(k) => told(rt, 0, 1, k as u64),
-        Judged::Unknown(k) => told(rt, 0, 2, k as u64),
-        Judged::Clear => told(rt, 0, 3, 0),
-        Judged::Invalid => told(rt, 11, 0, 0),
-        Judged::NoGuard => told(rt, 12, 0, 0),
-        Judged::WrongLength => told(rt, 13, 0, 0),
-        Judged::Growth(k) => told(rt, 14, 0, k as u64),
+        Ok(Verdict::Hit(k)) => told(rt, 0, 1, k as u64),
+        Ok(Verdict::Unknown(k)) => told(rt, 0, 2, k as u64),
+        Ok(Verdict::Clear) => told(rt, 0, 3, 0),
+        Err(refusal) => refused(rt, refusal),
     }
 }
 
@@ -113,19 +114,16 @@ fn lend(
             let a = judge::judge(model_of(cells), count(cells, 0x61), bounds, slacks);
             judged(rt, a)?;
         }
-        _ => judged(
-            rt,
-            judge::verdict(Swept::Spare(0), cells[0x53], bounds, slacks),
-        )?,
+        _ => judged(rt, judge::verdict(Ok(0), cells[0x53], bounds, slacks))?,
     }
     lists(rt, bounds, slacks)
 }
 
 // The same by lists with 7 in each bound and 9 in each slack.
 pub fn run(rt: &impl Print, routine: u8, cells: &[i64; 258]) -> io::Result<()> {
-    let mut bounds = list_of(7);
-    let mut slacks = list_of(9);
-    let b = length_of(count(cells, 0x62), &bounds);
-    let s = length_of(count(cells, 0x63), &slacks);
+    let mut bounds = [7i64; 258];
+    let mut slacks = [9i64; 258];
+    let b = count(cells, 0x62).min(bounds.len());
+    let s = count(cells, 0x63).min(slacks.len());
     lend(rt, routine, cells, &mut bounds[..b], &mut slacks[..s])
 }

@@ -2,7 +2,7 @@
 use cells::output::{answer, natural, number, pair};
 use cells::{count, entry};
 use std::io;
-use stepping::{GROWTH_LIMIT, Spare, Stepped, sum_of};
+use stepping::GROWTH_LIMIT;
 
 // The matrix of a row: the first two entries of its first two rows.
 pub fn matrix_of(cells: &[i64; 258]) -> [i32; 36] {
@@ -16,19 +16,20 @@ pub fn matrix_of(cells: &[i64; 258]) -> [i32; 36] {
 
 // Six numbers, of which a row has the first two.
 pub fn six_of(cells: &[i64; 258], at: u8) -> [i64; 6] {
-    [cells[at as usize], cells[at as usize + 1], 0, 0, 0, 0]
+    let at = usize::from(at);
+    [cells[at], cells[at + 1], 0, 0, 0, 0]
 }
 
 // The spare figure, or the given number and figure where there is none.
 fn spare_or(rt: &impl Print, most: u64, number: u64, figure: u64) -> io::Result<()> {
     match stepping::spare_bits(most) {
-        Spare::Bits(h) => answer(rt, 0, h as u64),
-        Spare::NoSpare => answer(rt, number, figure),
+        Some(h) => answer(rt, 0, u64::from(h)),
+        None => answer(rt, number, figure),
     }
 }
 
 pub fn spare(rt: &impl Print, cells: &[i64; 258]) -> io::Result<()> {
-    spare_or(rt, arrays::magnitude(cells[0x02]), 11, 0)
+    spare_or(rt, cells[0x02].unsigned_abs(), 11, 0)
 }
 
 // How a walk ends: its last step, the growth sum there, and the largest growth sum of its steps.
@@ -47,14 +48,14 @@ fn walked(
     r: &mut [i64; 6],
     e: &mut [i64; 6],
 ) -> Ending {
-    let mut sum = sum_of(stepping::growth(n, r, e));
+    let mut sum = stepping::growth(n, r, e).unwrap_or(0);
     let mut most = sum;
     for k in 0..steps {
         if GROWTH_LIMIT < sum {
             return Ending { step: k, sum, most };
         }
-        sum = sum_of(stepping::step(n, matrix, r, e));
-        most = arrays::larger(most, sum);
+        sum = stepping::step(n, matrix, r, e).unwrap_or(0);
+        most = most.max(sum);
     }
     Ending {
         step: steps,
@@ -95,10 +96,10 @@ pub fn last(rt: &impl Print, cells: &[i64; 258]) -> io::Result<()> {
 }
 
 // The number and the growth sum.
-fn stepped(rt: &impl Print, a: Stepped) -> io::Result<()> {
+fn stepped(rt: &impl Print, a: Option<u64>) -> io::Result<()> {
     match a {
-        Stepped::Sum(sum) => answer(rt, 0, sum),
-        Stepped::Refused => answer(rt, 11, 0),
+        Some(sum) => answer(rt, 0, sum),
+        None => answer(rt, 11, 0),
     }
 }
 

@@ -1,9 +1,9 @@
 -- Reading 3, File 3, File 10 and Routines 22: a model as it is filled. Definitions only. In order: the blank model; a model with
 -- another set; six numbers put in as a row; the shape that a point gives its set; the input set that was left out. Assumes nothing.
-use Rattle.std.specs.Prelude.{Bool, cond, List, ℕ, zero, suc, ◌+◌, ◌*◌, ltb, set, replicate, ℤ, pos}
+use Rattle.std.specs.Prelude.{Bool, cond, List, ℕ, zero, suc, ◌+◌, ◌*◌, ltb, set, replicate, ℤ, pos, Option, Some, None}
 use Rattle.integers.specs.Sums.{vector}
 use Rattle.records.specs.declared.kinds.Point.{Point}
-use Rattle.records.specs.declared.kinds.Point.TheVariants.{NoPoint, Lower, Upper, Centre, Generator, Vertex}
+use Rattle.records.specs.declared.kinds.Point.TheVariants.{Lower, Upper, Centre, Generator, Vertex}
 use Rattle.records.specs.Places.{input_place}
 use Rattle.reachability.specs.declared.sets.Shape.{Shape}
 use Rattle.reachability.specs.declared.sets.Shape.TheVariants.{Box, Zonotope, Vertices}
@@ -66,14 +66,14 @@ put_first (suc k) xs row six = set (put_first k xs row six) (6 * row + k) (vecto
 unfoldable pub put_row : List ℤ → ℕ → List ℤ → List ℤ
 put_row xs row six = put_first 6 xs row six
 
--- File 3, Routines 22: the shape of the set that a point belongs to.
-abbrev pub shape_of : Point → Shape
-shape_of NoPoint = Box
-shape_of Lower = Box
-shape_of Upper = Box
-shape_of Centre = Zonotope
-shape_of Generator = Zonotope
-shape_of Vertex = Vertices
+-- File 3, Routines 22: the shape of the set that a point belongs to, and a box for no point.
+abbrev pub shape_of : Option Point → Shape
+shape_of None = Box
+shape_of (Some Lower) = Box
+shape_of (Some Upper) = Box
+shape_of (Some Centre) = Zonotope
+shape_of (Some Generator) = Zonotope
+shape_of (Some Vertex) = Vertices
 
 -- File 10, Routines 22: the input set once a direction stands at a place. Before the places of the input set no record of it was
 -- read, and it is the box from zero to zero.

@@ -14,30 +14,28 @@ use records::kinds::Point;
 use records::places::INPUT;
 
 // Routines 22, Reading 3. A model that is zero everywhere.
+#[tactic(auto, unfolding(crate::specs::Models::zeros, crate::specs::Models::blank_set, crate::specs::Models::blank_model))]
 pub fn blank_model() -> Model
     ensures { result ≡ blank_model }
 {
+    let blank = Set {
+        shape: Shape::Box,
+        count: 0,
+        points: [0; 96],
+    };
     Model {
         n: 0,
         steps: 0,
-        motion: Motion { matrix: [0i32; 36] },
-        drift: [0i32; 6],
-        initial: Set {
-            shape: Shape::Box,
-            count: 0,
-            points: [0i32; 96],
-        },
-        input: Set {
-            shape: Shape::Box,
-            count: 0,
-            points: [0i32; 96],
-        },
+        motion: Motion { matrix: [0; 36] },
+        drift: [0; 6],
+        initial: blank,
+        input: blank,
         questions: Questions {
             directions: 0,
-            entries: [0i32; 96],
+            entries: [0; 96],
             guards: 0,
-            watched: [0usize; 16],
-            levels: [0i64; 16],
+            watched: [0; 16],
+            levels: [0; 16],
         },
     }
 }
@@ -49,27 +47,22 @@ pub fn put_row(xs: &mut [i32], row: usize, six: &[i32; 6])
     if xs.len() / 6 < row {
         return;
     }
-    let mut i: usize = 0;
-    while i < 6 {
+    for (i, x) in six.iter().enumerate() {
         let at = 6 * row + i;
         if at < xs.len() {
-            xs[at] = six[i];
+            xs[at] = *x;
         }
-        i += 1;
     }
 }
 
-// Routines 22. The shape of the set that such a point belongs to.
-pub fn shape_of(point: Point) -> Shape
+// Routines 22. The shape of the set that such a point belongs to, and a box for no point.
+pub fn shape_of(point: Option<Point>) -> Shape
     ensures { result ≡ shape_of point }
 {
     match point {
-        Point::NoPoint => Shape::Box,
-        Point::Lower => Shape::Box,
-        Point::Upper => Shape::Box,
-        Point::Centre => Shape::Zonotope,
-        Point::Generator => Shape::Zonotope,
-        Point::Vertex => Shape::Vertices,
+        None | Some(Point::Lower | Point::Upper) => Shape::Box,
+        Some(Point::Centre | Point::Generator) => Shape::Zonotope,
+        Some(Point::Vertex) => Shape::Vertices,
     }
 }
 
@@ -77,40 +70,37 @@ pub fn shape_of(point: Point) -> Shape
 pub fn set_of(input: bool, model: Model) -> Set
     ensures { result ≡ set_of input model }
 {
-    if input {
-        let set = model.input;
-        return set;
-    }
-    let set = model.initial;
-    set
+    if input { model.input } else { model.initial }
 }
 
 // Routines 22. A model with another initial set or, with `input`, another input set.
 pub fn with_set(input: bool, model: Model, set: Set) -> Model
     ensures { result ≡ set_set input model set }
 {
-    let mut next = model;
     if input {
-        next.input = set;
-        return next;
+        return Model {
+            input: set,
+            ..model
+        };
     }
-    next.initial = set;
-    next
+    Model {
+        initial: set,
+        ..model
+    }
 }
 
 // Routines 22, File 10. The input set once a direction stands at the place. Before the places of the input set no record of it was read,
 // and it is the box from zero to zero.
+#[tactic(auto, unfolding(reachability::specs::Sets::zero_box))]
 pub fn input_at(place: u8, model: Model) -> Set
     ensures { result ≡ input_at place model }
 {
-    let own = model.input;
     if place < INPUT {
-        let zero = Set {
+        return Set {
             shape: Shape::Box,
             count: 2,
-            points: [0i32; 96],
+            points: [0; 96],
         };
-        return zero;
     }
-    own
+    model.input
 }

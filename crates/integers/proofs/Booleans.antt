@@ -1,6 +1,8 @@
 -- Laws of tests: joined by && and ||, and as the choice between two values. Assumes nothing.
 use mathlib.Core.Path.{◌≡◌, refl, sym, ap, ◌∙◌}
 use mathlib.Core.Bool.{Bool, true, false, ◌&&◌, ◌||◌, cond}
+use Rattle.std.specs.Prelude.{Some, None}
+use Rattle.std.specs.Bool.{then_some}
 use Prim.Native.Nat.{ℕ}
 use native.Mathlib.Omega.{arith}
 
@@ -30,3 +32,8 @@ or-false a b t f = sym (ap (λ (x : Bool). x || b) f) ∙ t
 pub number-cond : {A : Type 0} (number : A → ℕ) (t : Bool) (x y : A) → number (cond t x y) ≡ cond t (number x) (number y)
 number-cond number true x y = refl
 number-cond number false x y = refl
+
+-- `then_some`, as the choice between two values
+pub then_some-cond : {A : Type 0} (t : Bool) (a : A) → then_some t a ≡ cond t (Some a) None
+then_some-cond true a = refl
+then_some-cond false a = refl

@@ -4,7 +4,8 @@ pub mod Order
 pub mod Rounding
 pub mod Sums
 pub mod RunningSum
-pub mod EarlyReturn
 pub mod Machine
+pub mod FromFn
+pub mod Chains
 pub mod Basics
 pub mod NearestEven

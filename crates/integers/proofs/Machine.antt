@@ -1,24 +1,23 @@
 -- Machine integers in proofs. A signed local is its bits: `to_z w` reads them and `of_z w` writes them.
 -- In order: bits that are 0; bytes; ranges; a product that is added to a sum; lists filled from the front, and of one value.
 -- Assumes nothing.
-use mathlib.Core.Path.{◌≡◌, refl, sym, ap, ap₂, subst, ◌∙◌}
-use mathlib.Core.Bool.{Bool, true, false, cond}
+use mathlib.Core.Path.{◌≡◌, refl, sym, ap, subst, ◌∙◌}
+use mathlib.Core.Bool.{Bool, cond}
 use mathlib.Core.List.{List, [], ◌∷◌, ◌++◌}
 use Prim.Native.Nat.{ℕ, zero, suc, ◌+◌, ◌^◌, ◌≤◌, ◌<◌}
 use native.Mathlib.Nat.{not-suc-le-zero, le_of_suc-le-suc, lt_of_le_of_lt}
 use native.Mathlib.Decide.{dec_lt}
 use native.Mathlib.Numerals.{add-one}
 use native.Mathlib.Omega.{arith}
-use borrow.Author.Tests.{eq-eqb, ne_eqb, eqb-true, eqb-false, lt-ltb, le-ltb}
-use lib.Dec.{T, eqb, leb, ltb}
-use lib.Pow.{pow_pos}
+use borrow.Author.Tests.{lt-ltb, le-ltb}
+use lib.Dec.{T, leb, ltb}
 use lib.ListN.{length, get_or, set, drop, replicate, get_or-append}
 use lib.Seq.{ext_get_or}
-use lib.IntN.{ℤ, pos, negsuc, nat_abs, ◌+ℤ◌, ◌*ℤ◌}
+use lib.IntN.{ℤ, pos, negsuc, nat_abs}
 use lib.Signed.{mag, shr_z, mag_shr}
-use mir.Syntax.{Width, w8, w32, w64}
+use mir.Syntax.{Width, w8}
 use mir.Val.{Fits, SFits, hbits, to_z, of_z}
-use mir.Facts.{to_z-of_z, to_z_pos, sfits_widen}
+use mir.Facts.{to_z-of_z, sfits_widen}
 use Rattle.integers.specs.Sums.{tabulate}
 
 -- ---- bits that are 0
@@ -26,23 +25,6 @@ use Rattle.integers.specs.Sums.{tabulate}
 pub zero-of-nat_abs : (z : ℤ) → nat_abs z ≡ 0 → z ≡ pos 0
 zero-of-nat_abs (pos n) e = ap pos e
 zero-of-nat_abs (negsuc n) e = absurd (omega arith)
-
-pub zero-of-bits : (w : Width) {z : ℤ} → SFits w z → of_z w z ≡ 0 → nat_abs z ≡ 0
-zero-of-bits w {z} f e = ap nat_abs (sym (to_z-of_z f) ∙ ap (to_z w) e ∙ to_z_pos w (pow_pos (hbits w)))
-
--- a test of the bits against 0 is a test of the magnitude
-pub eqb-of-bits-zero : (w : Width) {z : ℤ} → SFits w z → of_z w z ≡ 0 → eqb (nat_abs z) 0 ≡ true
-eqb-of-bits-zero w f e = eq-eqb _ 0 (zero-of-bits w f e)
-
-pub eqb-of-bits-nonzero : (w : Width) (z : ℤ) → (of_z w z ≡ 0 → ⊥) → eqb (nat_abs z) 0 ≡ false
-eqb-of-bits-nonzero w z h = ne_eqb (nat_abs z) 0 (λ e. h (ap (of_z w) (zero-of-nat_abs z e)))
-
-pub eqb-of-bits : (w : Width) {z : ℤ} → SFits w z → eqb (of_z w z) 0 ≡ eqb (nat_abs z) 0
-eqb-of-bits w {z} f = cases (eqb (of_z w z) 0) refl
-  where
-    cases : (b : Bool) → eqb (of_z w z) 0 ≡ b → eqb (of_z w z) 0 ≡ eqb (nat_abs z) 0
-    cases true e = e ∙ sym (eqb-of-bits-zero w f (eqb-true (of_z w z) 0 e))
-    cases false e = e ∙ sym (eqb-of-bits-nonzero w z (eqb-false (of_z w z) 0 e))
 
 -- ---- bytes
 
@@ -68,30 +50,11 @@ read-given w z h = to_z-of_z (record { sfits = h })
 pub read_wide : (w w' : Width) {z : ℤ} → T (leb (hbits w) (hbits w')) → SFits w z → to_z w' (of_z w' (to_z w (of_z w z))) ≡ z
 read_wide w w' t f = ap (λ (x : ℤ). to_z w' (of_z w' x)) (to_z-of_z f) ∙ to_z-of_z (sfits_widen t f)
 
--- the cast to the wider width
-pub fits-wide : (w w' : Width) {z : ℤ} → T (leb (hbits w) (hbits w')) → SFits w z → SFits w' (to_z w (of_z w z))
-fits-wide w w' t f = subst (SFits w') (sym (to_z-of_z f)) (sfits_widen t f)
-
 -- a number read from its bits, shifted right and read again: what is held is the quotient rounded toward minus infinity
 pub read-shifted : (w : Width) (z : ℤ) (m : ℕ) → mag z < 2 ^ hbits w → to_z w (of_z w (shr_z (to_z w (of_z w z)) m)) ≡ shr_z z m
 read-shifted w z m h = ap (λ (x : ℤ). to_z w (of_z w (shr_z x m))) (read-given w z h) ∙ read-given w (shr_z z m) (lt_of_le_of_lt (mag_shr z m) h)
 
 -- ---- sum + (a as i64) * b, for an i64 sum, an i32 a and an i64 b
-
-pub record ProductAdded (s a b : ℤ) : Type 0 where
-  pub product-fits : SFits w64 (to_z w64 (of_z w64 (to_z w32 (of_z w32 a))) *ℤ to_z w64 (of_z w64 b))
-  pub sum_fits : SFits w64 (s +ℤ to_z w64 (of_z w64 (to_z w64 (of_z w64 (to_z w32 (of_z w32 a))) *ℤ to_z w64 (of_z w64 b))))
-  pub is : to_z w64 (of_z w64 (s +ℤ to_z w64 (of_z w64 (to_z w64 (of_z w64 (to_z w32 (of_z w32 a))) *ℤ to_z w64 (of_z w64 b))))) ≡ s +ℤ a *ℤ b
-
-pub product-added : (s : ℤ) {a b : ℤ} → SFits w32 a → SFits w64 b → SFits w64 (a *ℤ b) → SFits w64 (s +ℤ a *ℤ b) → ProductAdded s a b
-product-added s {a} {b} fits-a fits-b product total =
-    let product_is = ap₂ ◌*ℤ◌ (read_wide w32 w64 tt fits-a) (to_z-of_z fits-b) in
-    let sum_is_lem = ap (λ (z : ℤ). s +ℤ z) (ap (λ (z : ℤ). to_z w64 (of_z w64 z)) product_is ∙ to_z-of_z product) in
-    record {
-      product-fits = subst (SFits w64) (sym product_is) product;
-      sum_fits = subst (SFits w64) (sym sum_is_lem) total;
-      is = ap (λ (z : ℤ). to_z w64 (of_z w64 z)) sum_is_lem ∙ to_z-of_z total;
-    }
 
 -- ---- a list filled from the front: the first i elements are f 0 up to f (i - 1), the rest is as it was
 

@@ -5,7 +5,7 @@ use mathlib.Core.Bool.{Bool, true, false, not}
 use Prim.Native.Nat.{ℕ, zero, suc, ◌+◌, ◌*◌, ◌≤◌}
 use native.Mathlib.Nat.{le_refl, mul-le-mul, mul-le-mul_left, le_trans}
 use native.Mathlib.Omega.{arith}
-use borrow.Author.Tests.{ltb-true, ltb-false, lt-leb, le-leb, leb-false}
+use borrow.Author.Tests.{ltb-true, leb-false}
 use lib.Dec.{T}
 use lib.IntN.{ℤ, pos, negsuc, neg_ℤ, nat_abs, ◌+ℤ◌, ◌-ℤ◌, ◌*ℤ◌}
 use lib.Signed.{le_z, lt_z, lt_z_no}
@@ -62,19 +62,6 @@ lt-of-lt_z (pos a) (negsuc b) e = let z : ◌≡◌ {A = ℕ} 0 1 = cc in absurd
 lt-of-lt_z (negsuc a) (pos b) e = le! (v (negsuc a) ⊕ # 1) (# b) (omega arith)
 lt-of-lt_z (negsuc a) (negsuc b) e = le! (v (negsuc a) ⊕ # 1) (v (negsuc b)) (omega (arith, ltb-true b a e))
 
--- the same as values of the other test
-pub le_z-of-lt_z : (a b : ℤ) → lt_z a b ≡ true → le_z b a ≡ false
-le_z-of-lt_z (pos a) (pos b) e = lt-leb b a (ltb-true a b e)
-le_z-of-lt_z (pos a) (negsuc b) e = let z : ◌≡◌ {A = ℕ} 0 1 = cc in absurd (omega arith)
-le_z-of-lt_z (negsuc a) (pos b) e = refl
-le_z-of-lt_z (negsuc a) (negsuc b) e = lt-leb a b (ltb-true b a e)
-
-pub le_z-of-lt_z-false : (a b : ℤ) → lt_z a b ≡ false → le_z b a ≡ true
-le_z-of-lt_z-false (pos a) (pos b) e = le-leb b a (ltb-false a b e)
-le_z-of-lt_z-false (pos a) (negsuc b) e = refl
-le_z-of-lt_z-false (negsuc a) (pos b) e = let z : ◌≡◌ {A = ℕ} 0 1 = cc in absurd (omega arith)
-le_z-of-lt_z-false (negsuc a) (negsuc b) e = le-leb a b (ltb-false b a e)
-
 pub ⩽-of-le_z : (a b : ℤ) → le_z a b ≡ true → a ⩽ b
 ⩽-of-le_z a b e = record { le = subst T (sym e) tt }
 
@@ -90,15 +77,6 @@ lt-of-le_z-false (pos a) (pos b) e = le! (# b ⊕ # 1) (# a) (omega (arith, leb-
 lt-of-le_z-false (pos a) (negsuc b) e = le! (v (negsuc b) ⊕ # 1) (# a) (omega arith)
 lt-of-le_z-false (negsuc a) (pos b) e = let z : ◌≡◌ {A = ℕ} 0 1 = cc in absurd (omega arith)
 lt-of-le_z-false (negsuc a) (negsuc b) e = le! (v (negsuc b) ⊕ # 1) (v (negsuc a)) (omega (arith, leb-false b a e))
-
--- below 0 and from 0 on
-pub negative-is : (x : ℤ) → lt_z x (pos 0) ≡ true → (a : ℕ) × (x ≡ negsuc a)
-negative-is (pos n) e = absurd (omega (arith, ltb-true n 0 e))
-negative-is (negsuc n) e = (n, refl)
-
-pub natural-is : (x : ℤ) → lt_z x (pos 0) ≡ false → (a : ℕ) × (x ≡ pos a)
-natural-is (pos n) e = (n, refl)
-natural-is (negsuc n) e = let z : ◌≡◌ {A = ℕ} 0 1 = cc in absurd (omega arith)
 
 -- ---- magnitude
 

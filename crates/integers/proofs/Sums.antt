@@ -86,6 +86,10 @@ pub sum_ℕ-suc : (n : ℕ) (f : ℕ → ℕ) → sum_ℕ (suc n) f ≡ sum_ℕ 
 unfolding sum_ℕ
 sum_ℕ-suc n f = refl
 
+-- what a loop keeps: the sum of the terms passed, and of one more
+pub sum_ℕ-next : (n : ℕ) (f : ℕ → ℕ) {s a : ℕ} → s ≡ sum_ℕ n f → a ≡ f n → s + a ≡ sum_ℕ (n + 1) f
+sum_ℕ-next n f h k = ap₂ ◌+◌ h k ∙ sym (ap (λ (j : ℕ). sum_ℕ j f) (add-one n) ∙ sum_ℕ-suc n f)
+
 pub sum_ℕ-cong : (n : ℕ) {f g : ℕ → ℕ} → ((i : ℕ) → i < n → f i ≡ g i) → sum_ℕ n f ≡ sum_ℕ n g
 unfolding sum_ℕ
 sum_ℕ-cong zero e = refl
@@ -215,6 +219,10 @@ pub max_ℕ-suc : (n : ℕ) (f : ℕ → ℕ) → max_ℕ (suc n) f ≡ max (max
 unfolding max_ℕ
 max_ℕ-suc n f = refl
 
+-- what a loop keeps: the largest of the terms passed, and of one more
+pub max_ℕ-next : (n : ℕ) (f : ℕ → ℕ) {m a : ℕ} → m ≡ max_ℕ n f → a ≡ f n → max m a ≡ max_ℕ (n + 1) f
+max_ℕ-next n f h k = ap₂ max h k ∙ sym (ap (λ (j : ℕ). max_ℕ j f) (add-one n) ∙ max_ℕ-suc n f)
+
 pub max_ℕ-cong : (n : ℕ) {f g : ℕ → ℕ} → ((i : ℕ) → i < n → f i ≡ g i) → max_ℕ n f ≡ max_ℕ n g
 unfolding max_ℕ
 max_ℕ-cong zero e = refl
@@ -239,10 +247,9 @@ pub all_below-suc : (n : ℕ) (f : ℕ → Bool) → all_below (suc n) f ≡ all
 unfolding all_below
 all_below-suc n f = refl
 
--- holds so far and here: holds one further
-pub all_below-more : (n : ℕ) (f : ℕ → Bool) → all_below n f ≡ true → f n ≡ true → all_below (n + 1) f ≡ true
-unfolding all_below
-all_below-more n f h k = subst (λ (m : ℕ). all_below m f ≡ true) (sym (add-one n)) (ap₂ ◌&&◌ h k)
+-- what a loop keeps: the test of the places passed, and of one more
+pub all_below-next : (n : ℕ) (f : ℕ → Bool) {t u : Bool} → t ≡ all_below n f → u ≡ f n → t && u ≡ all_below (n + 1) f
+all_below-next n f h k = ap₂ ◌&&◌ h k ∙ sym (ap (λ (m : ℕ). all_below m f) (add-one n) ∙ all_below-suc n f)
 
 -- fails here: fails
 pub all_below-fails : (n : ℕ) (f : ℕ → Bool) (i : ℕ) → i < n → f i ≡ false → all_below n f ≡ false

@@ -1,92 +1,45 @@
--- What a judge makes of a sweep. In order: the lengths of two lists; the number of a verdict; the verdict over the lists that a sweep
--- left is the model's; what a sweep answered and left settles what a judge answers and leaves. Assumes nothing.
+-- What a judge makes of a sweep. In order: the lengths of two lists; the verdict over the lists that a sweep left is the
+-- model's; what a sweep answered and left settles what a judge answers and leaves. Assumes nothing.
 use mathlib.Core.Path.{◌≡◌, refl, sym, ap, ap₂, ◌∙◌}
-use mathlib.Core.Bool.{Bool, true, false, cond, ◌&&◌}
+use mathlib.Core.Bool.{Bool, true, false, cond}
 use mathlib.Core.List.{List}
 use Prim.Native.Nat.{ℕ, suc, ◌-◌, ◌≤◌, ◌<◌, suc-le-suc}
-use native.Mathlib.Nat.{lt_of_lt_of_le}
 use native.Mathlib.Omega.{arith}
-use borrow.Author.Tests.{lt-ltb, le-ltb, le-leb, lt-leb, eq-eqb, ne_eqb, eqb-true}
+use borrow.Author.Tests.{lt-ltb, le-ltb, le-leb, eq-eqb, eqb-true}
 use lib.Dec.{leb, ltb, eqb}
 use lib.ListN.{length, get_or}
 use lib.IntN.{ℤ, pos}
+use Rattle.std.specs.Prelude.{Ok, Err, IfOk}
 use Rattle.integers.specs.Sums.{vector}
 use Rattle.integers.proofs.Machine.{length-tabulate}
-use Rattle.integers.proofs.Booleans.{and-false, and-skip, and-stop}
+use Rattle.integers.proofs.Booleans.{and-skip}
 use Rattle.limits.specs.Limits.{steps_ok}
 use Rattle.reachability.specs.Limits.{accepted}
-use Rattle.reachability.specs.Recurrence.{first_place, growth_step, spare_figure, bound, slack}
-use Rattle.reachability.specs.Verdicts.{hit_at, unknown_at, verdict_below, verdict}
+use Rattle.reachability.specs.Recurrence.{growth_step, spare_figure, bound, slack}
+use Rattle.reachability.specs.Verdicts.{verdict_below, verdict}
 use Rattle.reachability.specs.Accuracy.{VerdictHolds}
-use Rattle.reachability.specs.Answers.{sweep_answer, lengths_ok, bounds_of, slacks_of, swept_number, SweepLeaves}
+use Rattle.reachability.specs.Answers.{Swept, sweep_answer, lengths_ok, bounds_of, slacks_of, swept_number, SweepLeaves}
 use Rattle.reachability.specs.declared.model.Model.{Model}
-use Rattle.reachability.specs.declared.sweep.Swept.{Swept}
-use Rattle.reachability.specs.declared.sweep.Swept.TheVariants as S
-use Rattle.reachability.specs.declared.verdicts.Judged.{Judged}
-use Rattle.reachability.specs.declared.verdicts.Judged.TheVariants as J
+use Rattle.reachability.specs.declared.refusals.CallRefusal.TheVariants.{Invalid, Missing, WrongLength, Growth}
+use Rattle.reachability.specs.declared.verdicts.Verdict.{Verdict}
 use Rattle.reachability.proofs.model.Facts.{ModelFacts, model-facts}
 use Rattle.reachability.proofs.VerdictLaws.{verdict-cong}
 use Rattle.reachability.proofs.AccuracyRule.{accuracy-rule, bounds-at, slacks-at, verdict-lists}
-use Rattle.judge.specs.Answers.{judged_number, judged_figure, judge_number, judge_figure, lists_ok, list_answer, unless_refused, swept_verdict, VerdictAnswers, judge_answer, JudgeLeaves}
+use Rattle.judge.specs.Answers.{Judged, judged_number, verdict_step, judged_figure, judge_number, judge_figure, lists_ok, list_answer, unless_refused, swept_verdict, judge_answer, JudgeLeaves}
 
--- ---- two lists are K + 1 long for one K, or not
+-- ---- two lists are K + 1 long for one K
 
 module _ (lb ls : ℕ) where
-  pub lists-apart : (ls ≡ lb → ⊥) → lists_ok lb ls ≡ false
-  lists-apart f = and-stop (steps_ok (lb - 1)) (ne_eqb ls lb f)
-
-  no_steps : steps_ok (lb - 1) ≡ false → lists_ok lb ls ≡ false
-  no_steps f = ap (λ (t : Bool). eqb ls lb && t) f ∙ and-false (eqb ls lb)
-
-  pub lists-short : lb < 2 → lists_ok lb ls ≡ false
-  lists-short h = no_steps (and-stop (leb (lb - 1) 256) (lt-leb 1 (lb - 1) (omega arith)))
-
-  pub lists-long : 257 < lb → lists_ok lb ls ≡ false
-  lists-long h = no_steps (ap (λ (t : Bool). leb 1 (lb - 1) && t) (lt-leb (lb - 1) 256 (omega arith)) ∙ and-false (leb 1 (lb - 1)))
-
   pub lists-ok : ls ≡ lb → 2 ≤ lb → lb ≤ 257 → lists_ok lb ls ≡ true
   lists-ok e l h = and-skip (steps_ok (lb - 1)) (eq-eqb ls lb e) ∙ and-skip (leb (lb - 1) 256) (le-leb 1 (lb - 1) (omega arith)) ∙ le-leb (lb - 1) 256 (omega arith)
 
--- ---- numbers
-
--- a verdict is no refusal
-pub verdict-number : (n : ℕ) (level : ℤ) (b s : ℕ → ℤ) → judged_number (verdict_below n level b s) ≡ 0
-verdict-number n level b s = cases (ltb (first_place n (hit_at level b s)) n) (ltb (first_place n (unknown_at level b)) n) _ _
-  where
-    cases : (t u : Bool) (h k : ℕ) → judged_number (cond t (J.Hit h) (cond u (J.Unknown k) J.Clear)) ≡ 0
-    cases true u h k = refl
-    cases false true h k = refl
-    cases false false h k = refl
-
-list-number : (level : ℤ) (b s : List ℤ) → judged_number (list_answer level b s) ≡ cond (lists_ok (length b) (length s)) 0 13
-list-number level b s = cases (lists_ok (length b) (length s))
-  where
-    cases : (t : Bool) → judged_number (cond t (verdict_below (length b) level (vector b) (vector s)) J.WrongLength) ≡ cond t 0 13
-    cases true = verdict-number (length b) level (vector b) (vector s)
-    cases false = refl
-
--- the number of the sweep's refusal, or of the answer where it refused nothing
-unless_refused-number : (w : Swept) (x : Judged) → judged_number (unless_refused w x) ≡ cond (eqb (swept_number w) 0) (judged_number x) (swept_number w)
-unless_refused-number (S.Spare h) x = refl
-unless_refused-number S.Invalid x = refl
-unless_refused-number S.NoDirection x = refl
-unless_refused-number S.WrongLength x = refl
-unless_refused-number (S.Growth k) x = refl
-
-pub verdict-answers : (w : Swept) (level : ℤ) (b s : List ℤ) (a : Judged) → a ≡ swept_verdict w level b s → VerdictAnswers w level b s a
-verdict-answers w level b s a e =
-    record {
-      answer = e;
-      number = ap judged_number e ∙ unless_refused-number w (list_answer level b s) ∙ ap (λ (n : ℕ). cond (eqb (swept_number w) 0) n (swept_number w)) (list-number level b s);
-    }
-
 -- ---- the verdict over the lists that a sweep left
 
-list-answer : (m : Model) → ModelFacts m → (d : ℕ) (level : ℤ) → list_answer level (bounds_of m d) (slacks_of m d) ≡ verdict m d level
+list-answer : (m : Model) → ModelFacts m → (d : ℕ) (level : ℤ) → list_answer level (bounds_of m d) (slacks_of m d) ≡ Ok (verdict m d level)
 list-answer m facts d level =
-    ap₂ (λ (n k : ℕ). cond (lists_ok n k) (verdict_below n level (vector (bounds_of m d)) (vector (slacks_of m d))) J.WrongLength) (length-tabulate (suc m.steps) (bound m d)) (length-tabulate (suc m.steps) (λ k. pos (slack m d k)))
-    ∙ ap (λ (t : Bool). cond t (verdict_below (suc m.steps) level (vector (bounds_of m d)) (vector (slacks_of m d))) J.WrongLength) (lists-ok (suc m.steps) (suc m.steps) refl (suc-le-suc facts.steps-least) (suc-le-suc facts.steps-most))
-    ∙ verdict-cong (suc m.steps) level (vector (bounds_of m d)) (vector (slacks_of m d)) (bound m d) (λ k. pos (slack m d k)) (bounds-at m d) (slacks-at m d)
+    ap₂ (λ (n k : ℕ). cond (lists_ok n k) (Ok (verdict_below n level (vector (bounds_of m d)) (vector (slacks_of m d)))) (Err WrongLength)) (length-tabulate (suc m.steps) (bound m d)) (length-tabulate (suc m.steps) (λ k. pos (slack m d k)))
+    ∙ ap (λ (t : Bool). cond t (Ok (verdict_below (suc m.steps) level (vector (bounds_of m d)) (vector (slacks_of m d)))) (Err WrongLength)) (lists-ok (suc m.steps) (suc m.steps) refl (suc-le-suc facts.steps-least) (suc-le-suc facts.steps-most))
+    ∙ ap Ok (verdict-cong (suc m.steps) level (vector (bounds_of m d)) (vector (slacks_of m d)) (bound m d) (λ k. pos (slack m d k)) (bounds-at m d) (slacks-at m d))
 
 -- ---- what a judge makes of a sweep's answer
 
@@ -100,19 +53,19 @@ module _ (m : Model) (g : ℕ) where
   -- the number and the figure of the answer
   module _ (lb ls : ℕ) where
     number_is : judged_number (judge_answer m g lb ls) ≡ judge_number m g lb ls
-    number_is = split (accepted m) (ltb g m.questions.guards) (lengths_ok m lb ls) (leb (growth_step m d) m.steps) (growth_step m d) (verdict m d level) (verdict-number (suc m.steps) level (bound m d) (λ k. pos (slack m d k)))
+    number_is = split (accepted m) (ltb g m.questions.guards) (lengths_ok m lb ls) (leb (growth_step m d) m.steps) (growth_step m d) (verdict m d level)
       where
-        split : (a b c t : Bool) (k : ℕ) (v : Judged) → judged_number v ≡ 0 → judged_number (cond a (cond b (cond c (cond t (J.Growth k) v) J.WrongLength) J.NoGuard) J.Invalid) ≡ cond a (cond b (cond c (cond t 14 0) 13) 12) 11
-        split true true true true k v z = refl
-        split true true true false k v z = z
-        split true true false t k v z = refl
-        split true false c t k v z = refl
-        split false b c t k v z = refl
+        split : (a b c t : Bool) (k : ℕ) (v : Verdict) → judged_number (cond a (cond b (cond c (cond t (Err (Growth k)) (Ok v)) (Err WrongLength)) (Err Missing)) (Err Invalid)) ≡ cond a (cond b (cond c (cond t 14 0) 13) 12) 11
+        split true true true true k v = refl
+        split true true true false k v = refl
+        split true true false t k v = refl
+        split true false c t k v = refl
+        split false b c t k v = refl
 
     figure-is : judged_figure (judge_answer m g lb ls) ≡ judge_figure m g lb ls
     figure-is = split (accepted m) (ltb g m.questions.guards) (lengths_ok m lb ls) (leb (growth_step m d) m.steps) (growth_step m d) (verdict m d level)
       where
-        split : (a b c t : Bool) (k : ℕ) (v : Judged) → judged_figure (cond a (cond b (cond c (cond t (J.Growth k) v) J.WrongLength) J.NoGuard) J.Invalid) ≡ cond (eqb (cond a (cond b (cond c (cond t 14 0) 13) 12) 11) 0) (judged_figure v) (cond (eqb (cond a (cond b (cond c (cond t 14 0) 13) 12) 11) 14) k 0)
+        split : (a b c t : Bool) (k : ℕ) (v : Verdict) → judged_figure (cond a (cond b (cond c (cond t (Err (Growth k)) (Ok v)) (Err WrongLength)) (Err Missing)) (Err Invalid)) ≡ cond (eqb (cond a (cond b (cond c (cond t 14 0) 13) 12) 11) 0) (verdict_step v) (cond (eqb (cond a (cond b (cond c (cond t 14 0) 13) 12) 11) 14) k 0)
         split true true true true k v = refl
         split true true true false k v = refl
         split true true false t k v = refl
@@ -120,7 +73,7 @@ module _ (m : Model) (g : ℕ) where
         split false b c t k v = refl
 
   -- a refusal before the sweep keeps both lists
-  pub judge-refuses : (b s : List ℤ) (a : Judged) → eqb (judged_number a) 0 ≡ false → a ≡ judge_answer m g (length b) (length s) → VerdictHolds m d level (vector s) a → JudgeLeaves m g b s a b s
+  pub judge-refuses : (b s : List ℤ) (a : Judged) → eqb (judged_number a) 0 ≡ false → a ≡ judge_answer m g (length b) (length s) → IfOk a (VerdictHolds m d level (vector s)) → JudgeLeaves m g b s a b s
   judge-refuses b s a none h holds =
       record {
         answer = h;
@@ -134,28 +87,25 @@ module _ (m : Model) (g : ℕ) where
 
   module _ (lb ls : ℕ) where
     abbrev lengthed : Judged
-    lengthed = cond (lengths_ok m lb ls) (cond (leb (growth_step m d) m.steps) (J.Growth (growth_step m d)) (verdict m d level)) J.WrongLength
+    lengthed = cond (lengths_ok m lb ls) (cond (leb (growth_step m d) m.steps) (Err (Growth (growth_step m d))) (Ok (verdict m d level))) (Err WrongLength)
 
-    pub answer-invalid : accepted m ≡ false → J.Invalid ≡ judge_answer m g lb ls
-    answer-invalid f = sym (ap (λ (t : Bool). cond t (cond (ltb g m.questions.guards) lengthed J.NoGuard) J.Invalid) f)
+    pub answer-invalid : accepted m ≡ false → Err Invalid ≡ judge_answer m g lb ls
+    answer-invalid f = sym (ap (λ (t : Bool). cond t (cond (ltb g m.questions.guards) lengthed (Err Missing)) (Err Invalid)) f)
 
-    accepted-answer : accepted m ≡ true → judge_answer m g lb ls ≡ cond (ltb g m.questions.guards) lengthed J.NoGuard
-    accepted-answer ok = ap (λ (t : Bool). cond t (cond (ltb g m.questions.guards) lengthed J.NoGuard) J.Invalid) ok
+    accepted-answer : accepted m ≡ true → judge_answer m g lb ls ≡ cond (ltb g m.questions.guards) lengthed (Err Missing)
+    accepted-answer ok = ap (λ (t : Bool). cond t (cond (ltb g m.questions.guards) lengthed (Err Missing)) (Err Invalid)) ok
 
-    pub answer-no-guard : accepted m ≡ true → m.questions.guards ≤ g → J.NoGuard ≡ judge_answer m g lb ls
-    answer-no-guard ok h = sym (accepted-answer ok ∙ ap (λ (t : Bool). cond t lengthed J.NoGuard) (le-ltb g m.questions.guards h))
+    pub answer-no-guard : accepted m ≡ true → m.questions.guards ≤ g → Err Missing ≡ judge_answer m g lb ls
+    answer-no-guard ok h = sym (accepted-answer ok ∙ ap (λ (t : Bool). cond t lengthed (Err Missing)) (le-ltb g m.questions.guards h))
 
   module _ (ok : accepted m ≡ true) (inside : g < m.questions.guards) where
-    pub guard-below : g < 16
-    guard-below = lt_of_lt_of_le inside (model-facts m ok).guards-most
-
-    swept-answer : (lb ls : ℕ) → unless_refused (sweep_answer m d lb ls) (verdict m d level) ≡ judge_answer m g lb ls
+    swept-answer : (lb ls : ℕ) → unless_refused (sweep_answer m d lb ls) (Ok (verdict m d level)) ≡ judge_answer m g lb ls
     swept-answer lb ls =
-        ap₂ (λ (s t : Bool). unless_refused (cond s (cond t (cond (lengths_ok m lb ls) (cond (leb (growth_step m d) m.steps) (S.Growth (growth_step m d)) (S.Spare (spare_figure m d))) S.WrongLength) S.NoDirection) S.Invalid) (verdict m d level)) ok (lt-ltb d m.questions.directions ((model-facts m ok).watches g inside))
+        ap₂ (λ (s t : Bool). unless_refused (cond s (cond t (cond (lengths_ok m lb ls) (cond (leb (growth_step m d) m.steps) (Err (Growth (growth_step m d))) (Ok (spare_figure m d))) (Err WrongLength)) (Err Missing)) (Err Invalid)) (Ok (verdict m d level))) ok (lt-ltb d m.questions.directions ((model-facts m ok).watches g inside))
         ∙ cases (lengths_ok m lb ls) (leb (growth_step m d) m.steps)
-        ∙ sym (accepted-answer lb ls ok ∙ ap (λ (t : Bool). cond t (lengthed lb ls) J.NoGuard) (lt-ltb g m.questions.guards inside))
+        ∙ sym (accepted-answer lb ls ok ∙ ap (λ (t : Bool). cond t (lengthed lb ls) (Err Missing)) (lt-ltb g m.questions.guards inside))
       where
-        cases : (s t : Bool) → unless_refused (cond s (cond t (S.Growth (growth_step m d)) (S.Spare (spare_figure m d))) S.WrongLength) (verdict m d level) ≡ cond s (cond t (J.Growth (growth_step m d)) (verdict m d level)) J.WrongLength
+        cases : (s t : Bool) → unless_refused (cond s (cond t (Err (Growth (growth_step m d))) (Ok (spare_figure m d))) (Err WrongLength)) (Ok (verdict m d level)) ≡ cond s (cond t (Err (Growth (growth_step m d))) (Ok (verdict m d level))) (Err WrongLength)
         cases true true = refl
         cases true false = refl
         cases false t = refl
@@ -173,32 +123,23 @@ module _ (m : Model) (g : ℕ) where
           verdict = rw is (holds a w.slacks);
         }
       where
-        told : (a : Swept) → b ≡ cond (eqb (swept_number a) 0) (bounds_of m d) b₀ → s ≡ cond (eqb (swept_number a) 0) (slacks_of m d) s₀ → swept_verdict a level b s ≡ unless_refused a (verdict m d level)
-        told (S.Spare h) p q = ap₂ (list_answer level) p q ∙ list-answer m (model-facts m ok) d level
-        told S.Invalid p q = refl
-        told S.NoDirection p q = refl
-        told S.WrongLength p q = refl
-        told (S.Growth k) p q = refl
+        told : (a : Swept) → b ≡ cond (eqb (swept_number a) 0) (bounds_of m d) b₀ → s ≡ cond (eqb (swept_number a) 0) (slacks_of m d) s₀ → swept_verdict a level b s ≡ unless_refused a (Ok (verdict m d level))
+        told (Ok h) p q = ap₂ (list_answer level) p q ∙ list-answer m (model-facts m ok) d level
+        told (Err r) p q = refl
 
-        is : r ≡ unless_refused a (verdict m d level)
+        is : r ≡ unless_refused a (Ok (verdict m d level))
         is = e ∙ told a w.bounds w.slacks
 
         answered : r ≡ judge_answer m g (length b₀) (length s₀)
-        answered = is ∙ ap (λ (x : Swept). unless_refused x (verdict m d level)) w.answer ∙ swept-answer (length b₀) (length s₀)
+        answered = is ∙ ap (λ (x : Swept). unless_refused x (Ok (verdict m d level))) w.answer ∙ swept-answer (length b₀) (length s₀)
 
-        refuses : (a : Swept) → eqb (judged_number (unless_refused a (verdict m d level))) 0 ≡ eqb (swept_number a) 0
-        refuses (S.Spare h) = ap (λ (n : ℕ). eqb n 0) (verdict-number (suc m.steps) level (bound m d) (λ k. pos (slack m d k)))
-        refuses S.Invalid = refl
-        refuses S.NoDirection = refl
-        refuses S.WrongLength = refl
-        refuses (S.Growth k) = refl
+        refuses : (a : Swept) → eqb (judged_number (unless_refused a (Ok (verdict m d level)))) 0 ≡ eqb (swept_number a) 0
+        refuses (Ok h) = refl
+        refuses (Err r) = refl
 
         same : eqb (judged_number r) 0 ≡ eqb (swept_number a) 0
         same = ap (λ (x : Judged). eqb (judged_number x) 0) is ∙ refuses a
 
-        holds : (a : Swept) → s ≡ cond (eqb (swept_number a) 0) (slacks_of m d) s₀ → VerdictHolds m d level (vector s) (unless_refused a (verdict m d level))
-        holds (S.Spare h) q = rw q (verdict-lists m d (accuracy-rule m ok) level)
-        holds S.Invalid q = tt
-        holds S.NoDirection q = tt
-        holds S.WrongLength q = tt
-        holds (S.Growth k) q = tt
+        holds : (a : Swept) → s ≡ cond (eqb (swept_number a) 0) (slacks_of m d) s₀ → IfOk (unless_refused a (Ok (verdict m d level))) (VerdictHolds m d level (vector s))
+        holds (Ok h) q = rw q (verdict-lists m d (accuracy-rule m ok) level)
+        holds (Err r) q = tt

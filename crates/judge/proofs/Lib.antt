@@ -1,2 +1,4 @@
 pub mod Answers
+pub mod Positions
+pub mod Ends
 pub mod MarkedCases

@@ -2,6 +2,7 @@
 use mathlib.Core.Path.{◌≡◌, refl, sym, ap, ◌∙◌}
 use mathlib.Core.Bool.{Bool, true, cond, ◌&&◌}
 use mathlib.Core.List.{List}
+use Rattle.std.specs.Prelude.{None, Some}
 use Prim.Native.Nat.{ℕ, ◌+◌, ◌*◌}
 use native.Mathlib.Omega.{arith}
 use lib.ListN.{take}
@@ -18,11 +19,11 @@ use Rattle.reachability.specs.declared.sets.Set.{Set}
 use Rattle.judge.specs.Cases.{none, ◌and◌, AllHold, cases}
 
 -- What `reach` answers of a set that breaks no rule.
-reached : {n : ℕ} {s : Set} {xs : List ℤ} → dimension_ok n && set_ok n s.shape s.count s.points ≡ true → xs ≡ tabulate 6 (λ i. pos (reach_at s i)) → ReachAnswer n s 0 xs
+reached : {n : ℕ} {s : Set} {xs : List ℤ} → dimension_ok n && set_ok n s.shape s.count s.points ≡ true → xs ≡ tabulate 6 (λ i. pos (reach_at s i)) → ReachAnswer n s (Some xs)
 reached {n} {s} ok e =
     record {
-      number_is = sym (ap (λ (b : Bool). cond b 0 11) ok);
-      reaches-are = e ∙ sym (ap (λ (b : Bool). cond b (tabulate 6 (λ i. pos (reach_at s i))) (tabulate 6 (λ i. pos 0))) ok);
+      answer = ap Some e ∙ sym (ap (λ (b : Bool). cond b (Some (tabulate 6 (λ i. pos (reach_at s i)))) None) ok);
+      number = sym (ap (λ (b : Bool). cond b 0 11) ok);
     }
 
 -- Two sets that begin with the same points.

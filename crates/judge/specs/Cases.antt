@@ -4,22 +4,19 @@
 -- direction 0 and judges of guard 0, with K + 1 elements in both lists. Where the specification names no K, it is the last step that
 -- has a figure.
 -- In order: stored values; sayings; the sets and models; the cases. Not here: the theorem (`proofs.MarkedCases`). Assumes nothing.
-use Rattle.std.specs.Prelude.{◌≡◌, List, [], ◌∷◌, ◌++◌, ℕ, zero, suc, length, replicate, ℤ, pos, neg_ℤ}
+use Rattle.std.specs.Prelude.{Some, ◌≡◌, List, [], ◌∷◌, ◌++◌, ℕ, zero, suc, length, replicate, ℤ, pos, neg_ℤ, Ok, Err}
 use Rattle.integers.specs.Sums.{vector}
 use Rattle.reachability.specs.Sets.{support_answer, ReachAnswer}
 use Rattle.reachability.specs.OneMore.{OneMore}
 use Rattle.reachability.specs.Recurrence.{working, error_total, raw_slack}
-use Rattle.reachability.specs.Answers.{sweep_answer, swept_number, bounds_of, slacks_of}
+use Rattle.reachability.specs.Answers.{Swept, sweep_answer, swept_number, bounds_of, slacks_of}
 use Rattle.reachability.specs.declared.sets.Shape.{Shape}
 use Rattle.reachability.specs.declared.sets.Shape.TheVariants.{Box, Zonotope, Vertices}
 use Rattle.reachability.specs.declared.sets.Set.{Set}
-use Rattle.reachability.specs.declared.sets.Supported.TheVariants.{Value}
 use Rattle.reachability.specs.declared.model.Model.{Model}
-use Rattle.reachability.specs.declared.sweep.Swept.{Swept}
-use Rattle.reachability.specs.declared.sweep.Swept.TheVariants.{Spare, Growth}
-use Rattle.reachability.specs.declared.verdicts.Judged.{Judged}
-use Rattle.reachability.specs.declared.verdicts.Judged.TheVariants.{Hit, Unknown, Clear}
-use Rattle.judge.specs.Answers.{judge_answer}
+use Rattle.reachability.specs.declared.refusals.CallRefusal.TheVariants.{Growth}
+use Rattle.reachability.specs.declared.verdicts.Verdict.TheVariants.{Hit, Unknown, Clear}
+use Rattle.judge.specs.Answers.{Judged, judge_answer}
 
 -- ---- stored values
 
@@ -109,8 +106,8 @@ Holds (e_at m k e) = (working m 0 k k).e 0 ≡ e
 Holds (error_total_at m k t) = error_total m 0 k ≡ t
 Holds (raw_slack_at m k s) = raw_slack m 0 k ≡ s
 Holds (judges m a) = judged m ≡ a
-Holds (supports n s r v) = support_answer n s (padded 6 r) ≡ Value v
-Holds (reaches n s xs) = ReachAnswer n s 0 (padded 6 xs)
+Holds (supports n s r v) = support_answer n s (padded 6 r) ≡ Some v
+Holds (reaches n s xs) = ReachAnswer n s (Some (padded 6 xs))
 Holds (grows s t) = OneMore s t
 
 abbrev pub Case : Type 0
@@ -217,11 +214,11 @@ case1 =
 
 -- Figures 2.
 abbrev pub case2 : Case
-case2 = judges (kept (pos 21 ∷ [])) Clear ∷ []
+case2 = judges (kept (pos 21 ∷ [])) (Ok Clear) ∷ []
 
 -- Figures 3.
 abbrev pub case3 : Case
-case3 = judges (kept (pos 22 ∷ [])) Clear ∷ []
+case3 = judges (kept (pos 22 ∷ [])) (Ok Clear) ∷ []
 
 -- Figures 4.
 abbrev pub case4 : Case
@@ -254,11 +251,11 @@ case6 =
 
 -- Figures 7.
 abbrev pub case7 : Case
-case7 = numbered (doubled 10) 0 ∷ sweeps (doubled 10) (Spare 0) ∷ []
+case7 = numbered (doubled 10) 0 ∷ sweeps (doubled 10) (Ok 0) ∷ []
 
 -- Figures 8.
 abbrev pub case8 : Case
-case8 = numbered (doubled 11) 14 ∷ sweeps (doubled 11) (Growth 11) ∷ []
+case8 = numbered (doubled 11) 14 ∷ sweeps (doubled 11) (Err (Growth 11)) ∷ []
 
 -- Figures 9.
 abbrev pub case9 : Case
@@ -303,7 +300,7 @@ case18 =
     r_at (widened 15 (pos 2)) 15 (pos 1073741633)
     ∷ e_at (widened 15 (pos 2)) 15 884
     ∷ numbered (widened 15 (pos 2)) 14
-    ∷ sweeps (widened 15 (pos 2)) (Growth 15)
+    ∷ sweeps (widened 15 (pos 2)) (Err (Growth 15))
     ∷ []
 
 -- Figures 19.
@@ -312,7 +309,7 @@ case19 =
     r_at (widened 10 (pos 2)) 10 (pos 134217710)
     ∷ e_at (widened 10 (pos 2)) 10 108
     ∷ numbered (widened 10 (pos 2)) 0
-    ∷ sweeps (widened 10 (pos 2)) (Spare 2)
+    ∷ sweeps (widened 10 (pos 2)) (Ok 2)
     ∷ []
 
 -- Figures 20.
@@ -321,7 +318,7 @@ case20 =
     r_at (widened 10 (pos 16)) 10 (pos 1073741727)
     ∷ e_at (widened 10 (pos 16)) 10 108
     ∷ numbered (widened 10 (pos 16)) 0
-    ∷ sweeps (widened 10 (pos 16)) (Spare 0)
+    ∷ sweeps (widened 10 (pos 16)) (Ok 0)
     ∷ []
 
 -- Figures 21.
@@ -381,7 +378,7 @@ case27 =
 
 -- Figures 30.
 abbrev pub case30 : Case
-case30 = judges (kept (pos 20 ∷ [])) (Hit 2) ∷ []
+case30 = judges (kept (pos 20 ∷ [])) (Ok (Hit 2)) ∷ []
 
 -- Figures 31.
 abbrev pub case31 : Case
@@ -389,14 +386,14 @@ case31 =
     numbered (fed []) 0
     ∷ bounds (fed []) (pos 0 ∷ pos 1 ∷ pos 2 ∷ pos 2 ∷ [])
     ∷ slacks (fed []) (pos 0 ∷ pos 0 ∷ pos 1 ∷ pos 1 ∷ [])
-    ∷ judges (fed (pos 0 ∷ [])) (Hit 1)
-    ∷ judges (fed (pos 1 ∷ [])) (Unknown 2)
-    ∷ judges (fed (pos 2 ∷ [])) Clear
+    ∷ judges (fed (pos 0 ∷ [])) (Ok (Hit 1))
+    ∷ judges (fed (pos 1 ∷ [])) (Ok (Unknown 2))
+    ∷ judges (fed (pos 2 ∷ [])) (Ok Clear)
     ∷ []
 
 -- Figures 32.
 abbrev pub case32 : Case
-case32 = judges (kept (neg_ℤ (pos 9223372036854775808) ∷ [])) (Hit 0) ∷ judges (kept (pos 9223372036854775807 ∷ [])) Clear ∷ []
+case32 = judges (kept (neg_ℤ (pos 9223372036854775808) ∷ [])) (Ok (Hit 0)) ∷ judges (kept (pos 9223372036854775807 ∷ [])) (Ok Clear) ∷ []
 
 -- Figures 1 to 12, 16 to 22, 24 to 27 and 30 to 32, in one list.
 abbrev pub cases : List Case

@@ -5,7 +5,7 @@
 #![tactic(auto)]
 
 ghost use Rattle.std.specs.Prelude.{◌≡◌, ◌<◌};
-ghost use Rattle.limits.specs.Limits.{frame_ok, all_zero, directions_ok, guard_ok, guards_ok, value_ok, direction_ok, corners_ordered};
+ghost use Rattle.limits.specs.Limits.{frame_ok, directions_ok, guard_ok, guards_ok, value_ok, direction_ok, corners_ordered, all_zero};
 
 use stepping::{GROWTH_LIMIT, MOST_COORDINATES};
 
@@ -30,19 +30,9 @@ pub const MOST_GUARDS: usize = 16;
 pub fn frame_ok(n: usize, steps: usize, matrix: &[i32; 36]) -> bool
     ensures { result ≡ frame_ok n steps matrix.now }
 {
-    if n < 1 {
-        return false;
-    }
-    if MOST_COORDINATES < n {
-        return false;
-    }
-    if steps < 1 {
-        return false;
-    }
-    if MOST_STEPS < steps {
-        return false;
-    }
-    stepping::matrix_ok(n, matrix)
+    (1..=MOST_COORDINATES).contains(&n)
+        && (1..=MOST_STEPS).contains(&steps)
+        && stepping::matrix_ok(n, matrix)
 }
 
 // Each of the six entries of direction k is zero.
@@ -50,40 +40,17 @@ fn all_zero(entries: &[i32; 96], k: usize) -> bool
     requires { k < 16 }
     ensures { result ≡ all_zero entries.now k }
 {
-    let mut i: usize = 0;
-    while i < 6 {
-        if entries[6 * k + i] != 0 {
-            return false;
-        }
-        i += 1;
-    }
-    true
+    (0..6).all(|i| entries[6 * k + i] == 0)
 }
 
 // Limits 5, 6 and 9. 1 to 16 directions, each entry from -1,000 to 1,000, none of them zero, zero beyond n and beyond the count.
 pub fn directions_ok(n: usize, count: usize, entries: &[i32; 96]) -> bool
     ensures { result ≡ directions_ok n count entries.now }
 {
-    if count < 1 {
-        return false;
-    }
-    if MOST_DIRECTIONS < count {
-        return false;
-    }
-    if !arrays::zero_outside(count, n, entries) {
-        return false;
-    }
-    if !arrays::all_between(LEAST_DIRECTION, DIRECTION_LIMIT, entries) {
-        return false;
-    }
-    let mut k: usize = 0;
-    while k < count {
-        if all_zero(entries, k) {
-            return false;
-        }
-        k += 1;
-    }
-    true
+    (1..=MOST_DIRECTIONS).contains(&count)
+        && arrays::zero_outside(count, n, entries)
+        && arrays::all_between(LEAST_DIRECTION, DIRECTION_LIMIT, entries)
+        && (0..count).all(|k| !all_zero(entries, k))
 }
 
 // A guard below the count is on a direction; one beyond it is zero.
@@ -91,12 +58,10 @@ fn guard_ok(directions: usize, guards: usize, g: usize, watched: usize, level: i
     ensures { result ≡ guard_ok directions guards g watched level }
 {
     if g < guards {
-        return watched < directions;
+        watched < directions
+    } else {
+        watched == 0 && level == 0
     }
-    if watched != 0 {
-        return false;
-    }
-    level == 0
 }
 
 // Limits 7 and 9. 0 to 16 guards, each on a direction, zero beyond the count.
@@ -108,60 +73,27 @@ pub fn guards_ok(
 ) -> bool
     ensures { result ≡ guards_ok directions guards watched.now levels.now }
 {
-    if MOST_GUARDS < guards {
-        return false;
-    }
-    let mut g: usize = 0;
-    while g < 16 {
-        if !guard_ok(directions, guards, g, watched[g], levels[g]) {
-            return false;
-        }
-        g += 1;
-    }
-    true
+    guards <= MOST_GUARDS
+        && (0..MOST_GUARDS).all(|g| guard_ok(directions, guards, g, watched[g], levels[g]))
 }
 
 // Refusals 11. A direction r for a set: no value beyond n, and no magnitude above 1,073,741,824.
 pub fn direction_ok(n: usize, r: &[i64; 6]) -> bool
     ensures { result ≡ direction_ok n r.now }
 {
-    let mut i: usize = 0;
-    while i < 6 {
-        if !value_ok(n, i, r[i]) {
-            return false;
-        }
-        i += 1;
-    }
-    true
+    r.iter().enumerate().all(|(i, x)| value_ok(n, i, *x))
 }
 
 // One value of r: at most 1,073,741,824 in magnitude, and zero from n on.
 fn value_ok(n: usize, i: usize, x: i64) -> bool
     ensures { result ≡ value_ok n i x }
 {
-    let m = arrays::magnitude(x);
-    if GROWTH_LIMIT < m {
-        return false;
-    }
-    if n <= i {
-        return m == 0;
-    }
-    true
+    x.unsigned_abs() <= GROWTH_LIMIT && (i < n || x == 0)
 }
 
 // Limits 8. The corners of a box: n is at most 6, and in each of the n coordinates the first point is not above the second.
 pub fn corners_ordered(n: usize, points: &[i32; 96]) -> bool
     ensures { result ≡ corners_ordered n points.now }
 {
-    if MOST_COORDINATES < n {
-        return false;
-    }
-    let mut i: usize = 0;
-    while i < n {
-        if points[6 + i] < points[i] {
-            return false;
-        }
-        i += 1;
-    }
-    true
+    n <= MOST_COORDINATES && (0..n).all(|i| points[i] <= points[6 + i])
 }

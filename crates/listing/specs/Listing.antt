@@ -1,16 +1,14 @@
 -- Listing 1 to 7 and Routines 15: the whole text that the program `envelope` writes for a file. Definitions only. Assumes nothing.
-use Rattle.std.specs.Prelude.{cond, List, [], ◌++◌, ◌≡◌, ℕ, suc, leb, ℤ, pos, length, drop}
+use Rattle.std.specs.Prelude.{cond, List, [], ◌++◌, ◌≡◌, ℕ, suc, leb, ℤ, pos, length, drop, Ok, Err, Result}
 use Rattle.reachability.specs.Recurrence.{bound, slack}
-use Rattle.reachability.specs.Answers.{sweep_answer}
+use Rattle.reachability.specs.Answers.{Swept, sweep_answer}
 use Rattle.reachability.specs.declared.model.Model.{Model}
-use Rattle.reachability.specs.declared.sweep.Swept.{Swept}
-use Rattle.reachability.specs.declared.sweep.Swept.TheVariants as S
-use Rattle.reachability.specs.declared.verdicts.Judged.{Judged}
-use Rattle.reachability.specs.declared.verdicts.Judged.TheVariants as J
-use Rattle.judge.specs.Answers.{judge_answer}
+use Rattle.reachability.specs.declared.refusals.CallRefusal.TheVariants.{Invalid, Missing, WrongLength, Growth}
+use Rattle.reachability.specs.declared.verdicts.Verdict.TheVariants.{Hit, Unknown, Clear}
+use Rattle.judge.specs.Answers.{Judged, judge_answer}
 use Rattle.reader.specs.Reading.{read_model}
-use Rattle.reader.specs.declared.Status.{Status}
-use Rattle.reader.specs.declared.Status.TheVariants.{Read, Refused}
+use Rattle.reader.specs.FileNumbers.{file_number}
+use Rattle.reader.specs.declared.refusals.Refused.{Refused}
 use Rattle.text.specs.Text.{word, decimal, signed_decimal, line, each}
 
 -- Listing 4: the line of a step.
@@ -19,11 +17,11 @@ row_text k b s = decimal k ++ word " " ++ signed_decimal b ++ word " " ++ signed
 
 -- Listing 4, and Listing 5 for growth. A direction of an accepted model has no other refusal with lists of K + 1.
 abbrev pub swept_text : Model → ℕ → Swept → List ℕ
-swept_text m d (S.Spare h) = line (word "dir ") d (word " spare ") h ++ each (suc m.steps) (λ k. row_text k (bound m d k) (pos (slack m d k)))
-swept_text m d (S.Growth k) = line (word "dir ") d (word " growth ") k
-swept_text m d S.Invalid = []
-swept_text m d S.NoDirection = []
-swept_text m d S.WrongLength = []
+swept_text m d (Ok h) = line (word "dir ") d (word " spare ") h ++ each (suc m.steps) (λ k. row_text k (bound m d k) (pos (slack m d k)))
+swept_text m d (Err (Growth k)) = line (word "dir ") d (word " growth ") k
+swept_text m d (Err Invalid) = []
+swept_text m d (Err Missing) = []
+swept_text m d (Err WrongLength) = []
 
 -- The answer of a sweep into two lists of K + 1.
 abbrev pub sweep_of : Model → ℕ → Swept
@@ -34,13 +32,13 @@ direction_text m d = swept_text m d (sweep_of m d)
 
 -- Listing 6, and Listing 5 for growth. A guard of an accepted model has no other refusal.
 abbrev pub judged_text : ℕ → Judged → List ℕ
-judged_text g (J.Hit k) = line (word "guard ") g (word " HIT ") k
-judged_text g (J.Unknown k) = line (word "guard ") g (word " UNKNOWN ") k
-judged_text g J.Clear = word "guard " ++ decimal g ++ word " CLEAR\n"
-judged_text g (J.Growth k) = line (word "guard ") g (word " GROWTH ") k
-judged_text g J.Invalid = []
-judged_text g J.NoGuard = []
-judged_text g J.WrongLength = []
+judged_text g (Ok (Hit k)) = line (word "guard ") g (word " HIT ") k
+judged_text g (Ok (Unknown k)) = line (word "guard ") g (word " UNKNOWN ") k
+judged_text g (Ok Clear) = word "guard " ++ decimal g ++ word " CLEAR\n"
+judged_text g (Err (Growth k)) = line (word "guard ") g (word " GROWTH ") k
+judged_text g (Err Invalid) = []
+judged_text g (Err Missing) = []
+judged_text g (Err WrongLength) = []
 
 -- The answer of a judge with two lists of K + 1.
 abbrev pub judge_of : Model → ℕ → Judged
@@ -54,13 +52,13 @@ unfoldable pub listing_text : Model → List ℕ
 listing_text m = line (word "model ") m.n (word " ") m.steps ++ each m.questions.directions (direction_text m) ++ each m.questions.guards (guard_text m)
 
 -- Listing 7 for a refused file.
-abbrev pub status_text : Status → Model → List ℕ
-status_text Read m = listing_text m
-status_text (Refused number offset) m = line (word "refused ") number (word " at ") offset
+abbrev pub status_text : Result Model Refused → List ℕ
+status_text (Ok m) = listing_text m
+status_text (Err e) = line (word "refused ") (file_number e.refusal) (word " at ") e.offset
 
 -- Listing 1: what the program writes for a file.
 unfoldable pub reply_text : List ℕ → List ℕ
-reply_text file = status_text (read_model file).status (read_model file).model
+reply_text file = status_text (read_model file)
 
 -- Routines 15: room for every reply.
 abbrev pub reply_room : ℕ

@@ -3,18 +3,14 @@
 -- `slack_limit` and `steps_within` say is answered, or is one of judge *Cases*. Where the specification names no K, it is the last step
 -- that has a figure.
 -- In order: sayings; the models; the cases. Not here: the theorem (`proofs.MarkedCases`). Assumes nothing.
-use Rattle.std.specs.Prelude.{◌≡◌, List, [], ◌∷◌, ◌++◌, ℕ, suc, ℤ, pos, neg_ℤ}
+use Rattle.std.specs.Prelude.{◌≡◌, Bool, true, false, List, [], ◌∷◌, ◌++◌, ℕ, suc, ℤ, pos, neg_ℤ, Result, Ok, Err}
 use Rattle.integers.specs.Sums.{tabulate}
 use Rattle.reachability.specs.declared.model.Model.{Model}
 use Rattle.judge.specs.Cases.{interval, model_of, single, drifting, zero_box, Saying, numbered, bounds, slacks, e_at, error_total_at, Case, Holds, All, cases}
 use Rattle.calm.specs.Calm.{slack_limit}
 use Rattle.calm.specs.Answers.{calm_answer, limit_answer, steps_answer}
-use Rattle.calm.specs.declared.Calmness.{Calmness}
-use Rattle.calm.specs.declared.Calmness.TheVariants as C
-use Rattle.calm.specs.declared.Limited.{Limited}
-use Rattle.calm.specs.declared.Limited.TheVariants as L
-use Rattle.calm.specs.declared.Within.{Within}
-use Rattle.calm.specs.declared.Within.TheVariants as W
+use Rattle.calm.specs.declared.CalmRefusal.{CalmRefusal}
+use Rattle.calm.specs.declared.CalmRefusal.TheVariants.{Invalid, NotCalm, NoStep, TooSmall}
 
 -- ---- sayings
 
@@ -22,10 +18,10 @@ pub data Marked : Type 0 where
   -- One of judge *Cases*.
   judged : Saying → Marked
   -- Whether a model is calm; the limits of all its steps, and the answer for one; the answer for a slack.
-  calms : Model → Calmness → Marked
+  calms : Model → Result Bool CalmRefusal → Marked
   limits : Model → List ℤ → Marked
-  limit_at : Model → ℕ → Limited → Marked
-  stays : Model → ℕ → Within → Marked
+  limit_at : Model → ℕ → Result ℕ CalmRefusal → Marked
+  stays : Model → ℕ → Result ℕ CalmRefusal → Marked
 
 abbrev pub IsSo : Marked → Type 0
 IsSo (judged s) = Holds s
@@ -69,17 +65,17 @@ rounded_input = drifting 5 (pos 65535) (pos 80000) zero_box (interval (pos 0) (p
 -- Figures 33.
 abbrev pub case33 : List Marked
 case33 =
-    calms (still (pos 65536)) C.Yes
-    ∷ calms (still (neg_ℤ (pos 65536))) C.Yes
-    ∷ calms (still (pos 65537)) C.No
-    ∷ calms (still (neg_ℤ (pos 65537))) C.No
-    ∷ calms (square ((pos 0 ∷ pos 65536 ∷ []) ∷ (pos 0 ∷ pos 65536 ∷ []) ∷ [])) C.No
-    ∷ calms (square ((pos 0 ∷ pos 0 ∷ []) ∷ (pos 65536 ∷ pos 65536 ∷ []) ∷ [])) C.Yes
-    ∷ limit_at (still (pos 65537)) 2 L.NotCalm
-    ∷ stays (still (pos 65537)) 1 W.NotCalm
-    ∷ calms (still (pos 131073)) C.Invalid
-    ∷ limit_at (still (pos 131073)) 2 L.Invalid
-    ∷ stays (still (pos 131073)) 1 W.Invalid
+    calms (still (pos 65536)) (Ok true)
+    ∷ calms (still (neg_ℤ (pos 65536))) (Ok true)
+    ∷ calms (still (pos 65537)) (Ok false)
+    ∷ calms (still (neg_ℤ (pos 65537))) (Ok false)
+    ∷ calms (square ((pos 0 ∷ pos 65536 ∷ []) ∷ (pos 0 ∷ pos 65536 ∷ []) ∷ [])) (Ok false)
+    ∷ calms (square ((pos 0 ∷ pos 0 ∷ []) ∷ (pos 65536 ∷ pos 65536 ∷ []) ∷ [])) (Ok true)
+    ∷ limit_at (still (pos 65537)) 2 (Err NotCalm)
+    ∷ stays (still (pos 65537)) 1 (Err NotCalm)
+    ∷ calms (still (pos 131073)) (Err Invalid)
+    ∷ limit_at (still (pos 131073)) 2 (Err Invalid)
+    ∷ stays (still (pos 131073)) 1 (Err Invalid)
     ∷ []
 
 -- Figures 34.
@@ -90,13 +86,13 @@ case34 =
     ∷ judged (error_total_at rounded 4 1500000)
     ∷ judged (bounds rounded (pos 500000 ∷ pos 499993 ∷ pos 499985 ∷ pos 499978 ∷ pos 499971 ∷ []))
     ∷ judged (slacks rounded (pos 0 ∷ pos 1 ∷ pos 2 ∷ pos 2 ∷ pos 3 ∷ []))
-    ∷ calms rounded C.Yes
+    ∷ calms rounded (Ok true)
     ∷ limits rounded (pos 2 ∷ pos 2 ∷ pos 2 ∷ pos 3 ∷ pos 3 ∷ [])
-    ∷ limit_at rounded 4 (L.Limit 3)
-    ∷ limit_at rounded 5 L.NoStep
-    ∷ stays rounded 1 W.TooSmall
-    ∷ stays rounded 2 (W.Step 2)
-    ∷ stays rounded 3 (W.Step 4)
+    ∷ limit_at rounded 4 (Ok 3)
+    ∷ limit_at rounded 5 (Err NoStep)
+    ∷ stays rounded 1 (Err TooSmall)
+    ∷ stays rounded 2 (Ok 2)
+    ∷ stays rounded 3 (Ok 4)
     ∷ []
 
 -- Figures 35.
@@ -107,7 +103,7 @@ case35 =
     ∷ judged (bounds rounded_input (pos 0 ∷ pos 180000 ∷ pos 359998 ∷ pos 539992 ∷ pos 719984 ∷ pos 899974 ∷ []))
     ∷ judged (slacks rounded_input (pos 0 ∷ pos 0 ∷ pos 1 ∷ pos 2 ∷ pos 2 ∷ pos 3 ∷ []))
     ∷ limits rounded_input (pos 2 ∷ pos 2 ∷ pos 2 ∷ pos 2 ∷ pos 3 ∷ pos 3 ∷ [])
-    ∷ stays rounded_input 2 (W.Step 3)
+    ∷ stays rounded_input 2 (Ok 3)
     ∷ []
 
 -- Figures 1 to 12, 16 to 22, 24 to 27 and 30 to 35, in one list.

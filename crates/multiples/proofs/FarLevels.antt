@@ -22,7 +22,7 @@ use Rattle.reachability.specs.WalkInner.{errors_limit}
 use Rattle.reachability.specs.Recurrence.{working, place_sum, sum_at, grows_at, first_place, growth_step, initial_support, entering_support_of, entering_reach_of, error_at, support_total, error_total, raw_bound, raw_slack, bound, slack}
 use Rattle.reachability.specs.Verdicts.{hit_at, unknown_at, verdict}
 use Rattle.reachability.specs.declared.model.Model.{Model}
-use Rattle.reachability.specs.declared.verdicts.Judged.TheVariants.{Hit, Clear}
+use Rattle.reachability.specs.declared.verdicts.Verdict.TheVariants.{Hit, Clear}
 use Rattle.reachability.proofs.FirstPlace.{first_place-before, first_place-is, first_place-none}
 use Rattle.reachability.proofs.VerdictLaws.{reaches-above, reaches-not, verdict-hit, verdict-clear}
 use Rattle.reachability.proofs.model.Facts.{ModelFacts, model-facts}

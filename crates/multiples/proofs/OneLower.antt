@@ -9,7 +9,7 @@ use lib.Signed.{le_z}
 use Rattle.integers.proofs.SignedParts.{v, #, ◌⊕◌, ◌⊖◌, le!, le?}
 use Rattle.integers.proofs.Order.{⩽-of-le_z, lt-of-le_z-false}
 use Rattle.reachability.specs.Verdicts.{reaches, hit_at, unknown_at, verdict_below}
-use Rattle.reachability.specs.declared.verdicts.Judged.TheVariants.{Hit, Unknown, Clear}
+use Rattle.reachability.specs.declared.verdicts.Verdict.TheVariants.{Hit, Unknown, Clear}
 use Rattle.reachability.proofs.FirstPlace.{first_place-cong}
 use Rattle.reachability.proofs.VerdictLaws.{reaches-above, reaches-not}
 use Rattle.multiples.specs.OneLower.{verdict_before}

@@ -20,8 +20,8 @@ use Rattle.reachability.specs.Recurrence.{slack}
 use Rattle.reachability.specs.Verdicts.{reaches, verdict}
 use Rattle.reachability.specs.Accuracy.{ReachedBy, WithinSlackOf, VerdictHolds, AccuracyRule}
 use Rattle.reachability.specs.declared.model.Model.{Model}
-use Rattle.reachability.specs.declared.verdicts.Judged.{Judged}
-use Rattle.reachability.specs.declared.verdicts.Judged.TheVariants.{Hit, Unknown, Clear, Invalid, NoGuard, WrongLength, Growth}
+use Rattle.reachability.specs.declared.verdicts.Verdict.{Verdict}
+use Rattle.reachability.specs.declared.verdicts.Verdict.TheVariants.{Hit, Unknown, Clear}
 use Rattle.reachability.proofs.model.Facts.{model-facts}
 use Rattle.reachability.proofs.VerdictLaws.{reaches-lower, reaches-scale, reaches-unscale}
 use Rattle.reachability.proofs.AccuracyRule.{largest-there, accuracy-rule}
@@ -127,14 +127,10 @@ module _ (m : Model) (entries levels : List ℤ) (d factor : ℕ) (least : 1 ≤
           near = subst (λ (z : ℤ). Near z (pos (matrix_unit ^ k) *ℤ (pos factor *ℤ level)) (matrix_unit ^ k * s)) (largest-multiple k x.0 w.exact x.1 w.largest) w.near;
         }
 
-    verdict-back : ((k : ℕ) → k ≤ m.steps → (x : ℤ) × Largest m (direction m d) k x) → (judged : ℤ) (a : Judged) → VerdictHolds m' d judged (λ k. pos (slack m' d k)) a → MultipliedVerdictHolds m d factor level judged (slack m' d) a
+    verdict-back : ((k : ℕ) → k ≤ m.steps → (x : ℤ) × Largest m (direction m d) k x) → (judged : ℤ) (a : Verdict) → VerdictHolds m' d judged (λ k. pos (slack m' d k)) a → MultipliedVerdictHolds m d factor level judged (slack m' d) a
     verdict-back there judged (Hit k) h = λ low. (h.0, reached-back k (reached-lower k (pos factor *ℤ level) judged low h.1))
     verdict-back there judged (Unknown k) h = λ same. (h.0, within-back k (slack m' d k) (there k h.0) (subst (λ (z : ℤ). WithinSlackOf m' d z k (pos (slack m' d k))) same h.1))
     verdict-back there judged Clear h = λ high k l w. h k l (reached-lower k judged (pos factor *ℤ level) high (reached-forth k w))
-    verdict-back there judged Invalid h = tt
-    verdict-back there judged NoGuard h = tt
-    verdict-back there judged WrongLength h = tt
-    verdict-back there judged (Growth k) h = tt
 
   -- ---- the rule
 

@@ -4,7 +4,7 @@ use Rattle.std.specs.Prelude.{◌≡◌, ℕ, ℤ, pos, neg_ℤ, ◌+ℤ◌}
 use Rattle.integers.specs.Whole.{◌⩽◌}
 use Rattle.reachability.specs.Verdicts.{verdict}
 use Rattle.reachability.specs.declared.model.Model.{Model}
-use Rattle.reachability.specs.declared.verdicts.Judged.TheVariants.{Hit, Clear}
+use Rattle.reachability.specs.declared.verdicts.Verdict.TheVariants.{Hit, Clear}
 
 -- 2^43.
 abbrev pub far_level : ℕ

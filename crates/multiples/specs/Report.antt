@@ -13,8 +13,8 @@ use Rattle.reachability.specs.Recurrence.{bound, slack}
 use Rattle.reachability.specs.Verdicts.{verdict}
 use Rattle.reachability.specs.Accuracy.{ReachedBy}
 use Rattle.reachability.specs.declared.model.Model.{Model}
-use Rattle.reachability.specs.declared.verdicts.Judged.{Judged}
-use Rattle.reachability.specs.declared.verdicts.Judged.TheVariants.{Hit, Unknown, Clear, Invalid, NoGuard, WrongLength, Growth}
+use Rattle.reachability.specs.declared.verdicts.Verdict.{Verdict}
+use Rattle.reachability.specs.declared.verdicts.Verdict.TheVariants.{Hit, Unknown, Clear}
 
 -- Report 2: the model with other entries of directions and other levels of guards. All else is the model's.
 abbrev pub with_entries : Model → List ℤ → List ℤ → Model
@@ -58,15 +58,11 @@ pub record MultipleWithinSlackOf (m : Model) (d factor : ℕ) (level : ℤ) (k s
 
 -- Report 2, by Accuracy 4, 5 and 6: what a verdict on the level `judged` says of the runs, in direction d and of the level `level`,
 -- neither of them multiplied. `judged` is the factor times `level`, or the end of the 64 bits on its side: then HIT still says what it
--- says where it is not below that product, and CLEAR where it is not above. s is the slack at each step. A refusal says nothing.
-abbrev pub MultipliedVerdictHolds : Model → ℕ → ℕ → (level judged : ℤ) → (ℕ → ℕ) → Judged → Type 0
+-- says where it is not below that product, and CLEAR where it is not above. s is the slack at each step.
+abbrev pub MultipliedVerdictHolds : Model → ℕ → ℕ → (level judged : ℤ) → (ℕ → ℕ) → Verdict → Type 0
 MultipliedVerdictHolds m d factor level judged s (Hit k) = pos factor *ℤ level ⩽ judged → (k ≤ m.steps) × ReachedBy m d level k
 MultipliedVerdictHolds m d factor level judged s (Unknown k) = judged ≡ pos factor *ℤ level → (k ≤ m.steps) × MultipleWithinSlackOf m d factor level k (s k)
 MultipliedVerdictHolds m d factor level judged s Clear = judged ⩽ pos factor *ℤ level → (k : ℕ) → k ≤ m.steps → ReachedBy m d level k → ⊥
-MultipliedVerdictHolds m d factor level judged s Invalid = Unit {0}
-MultipliedVerdictHolds m d factor level judged s NoGuard = Unit {0}
-MultipliedVerdictHolds m d factor level judged s WrongLength = Unit {0}
-MultipliedVerdictHolds m d factor level judged s (Growth k) = Unit {0}
 
 -- Report 2: the numbers of m' in direction d, said of the runs of m in its own direction d, at every step 0 to K: its bound divided by
 -- the factor is a bound, and some run comes to its bound - slack divided by the factor. Its verdict on any level says of the level

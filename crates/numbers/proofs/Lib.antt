@@ -1,3 +1,4 @@
+pub mod FromFn
 pub mod LittleEndian
 pub mod TwosComplement
 pub mod Written

@@ -3,46 +3,19 @@
 // No public function has a `requires`: any bytes and any offset get their answer.
 #![tactic(auto)]
 
-ghost use Rattle.std.specs.Prelude.{◌≡◌, ◌+◌, ◌*◌, ◌^◌, ◌≤◌, ◌<◌, get_or};
-ghost use Rattle.numbers.specs.Numbers.{little_endian, twos_complement, signed_at};
+ghost use Rattle.std.specs.Prelude.{◌≡◌, ◌+◌, ◌<◌, ℕ, get_or};
+ghost use Rattle.numbers.specs.Numbers.{little_endian, signed_at};
 
-// The byte at the offset `at` + `j`.
-fn byte_at(bytes: &[u8], at: usize, j: usize) -> u64
-    ensures { result ≡ get_or bytes.now (at + j) 0 }
-{
-    if bytes.len() <= at {
-        return 0;
-    }
-    if bytes.len() - at <= j {
-        return 0;
-    }
-    bytes[at + j] as u64
-}
+use std::array;
 
-// The number of `count` bytes at the offset `at`.
-fn unsigned_at(bytes: &[u8], at: usize, count: usize) -> u64
-    requires { count ≤ 8 }
-    ensures { result ≡ little_endian count bytes.now at }
+// The N bytes from the offset `at` on.
+fn bytes_at<const N: usize>(bytes: &[u8], at: usize) -> [u8; N]
+    ensures { (i : ℕ) → i < N → get_or result i 0 ≡ get_or bytes.now (at + i) 0 }
 {
-    let mut n: u64 = 0;
-    let mut j = count;
-    while 0 < j {
-        n = n * 256 + byte_at(bytes, at, j - 1);
-        j -= 1;
-    }
-    n
-}
-
-// The number that n stands for in two's complement, `half` being the least number that stands for one below 0.
-fn signed(n: u64, half: u64) -> i64
-    requires half_bound { half ≤ 2 ^ 63 }
-    requires n_bound { n < 2 * half }
-    ensures { result ≡ twos_complement half n }
-{
-    if n < half {
-        n as i64
-    } else {
-        -1 - ((half - 1 - (n - half)) as i64)
+    let rest = bytes.get(at..).unwrap_or(&[]);
+    match rest.first_chunk() {
+        Some(whole) => *whole,
+        None => array::from_fn(|i| rest.get(i).copied().unwrap_or(0)),
     }
 }
 
@@ -50,26 +23,26 @@ fn signed(n: u64, half: u64) -> i64
 pub fn u16_at(bytes: &[u8], at: usize) -> u16
     ensures { result ≡ little_endian 2 bytes.now at }
 {
-    unsigned_at(bytes, at, 2) as u16
+    u16::from_le_bytes(bytes_at(bytes, at))
 }
 
 // Routines 13. The number of eight bytes at the offset `at`.
 pub fn u64_at(bytes: &[u8], at: usize) -> u64
     ensures { result ≡ little_endian 8 bytes.now at }
 {
-    unsigned_at(bytes, at, 8)
+    u64::from_le_bytes(bytes_at(bytes, at))
 }
 
 // Routines 13. The signed number of four bytes at the offset `at`.
 pub fn i32_at(bytes: &[u8], at: usize) -> i32
     ensures { result ≡ signed_at 4 bytes.now at }
 {
-    signed(unsigned_at(bytes, at, 4), 0x8000_0000) as i32
+    i32::from_le_bytes(bytes_at(bytes, at))
 }
 
 // Routines 13. The signed number of eight bytes at the offset `at`.
 pub fn i64_at(bytes: &[u8], at: usize) -> i64
     ensures { result ≡ signed_at 8 bytes.now at }
 {
-    signed(unsigned_at(bytes, at, 8), 0x8000_0000_0000_0000)
+    i64::from_le_bytes(bytes_at(bytes, at))
 }

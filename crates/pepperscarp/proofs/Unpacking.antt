@@ -3,39 +3,37 @@
 use mathlib.Core.Path.{◌≡◌, refl}
 use mathlib.Core.Bool.{Bool, true, false, cond}
 use mathlib.Core.List.{List}
+use Rattle.std.specs.Prelude.{Result, Ok, Err}
 use mathlib.Core.Logic.{inl, inr}
 use Prim.Native.Nat.{ℕ, ◌/◌, ◌%◌, ◌<◌}
 use native.Mathlib.Omega.{arith}
 use lib.Dec.{eqb, leb, ltb}
 use lib.ListN.{length, get_or}
+use Rattle.std.specs.Prelude.{Option, Some, None}
 use Rattle.stepping.specs.Refusals.{stepped_number}
-use Rattle.stepping.specs.declared.Stepped.{Stepped}
-use Rattle.stepping.specs.declared.Stepped.TheVariants as P
+use Rattle.reachability.specs.declared.model.Model.{Model}
 use Rattle.reachability.specs.Limits.{accepted}
 use Rattle.reachability.specs.Recurrence.{growth_step}
-use Rattle.reachability.specs.Answers.{swept_number, swept_figure, lengths_ok, sweep_number}
-use Rattle.reachability.specs.declared.sweep.Swept.{Swept}
-use Rattle.reachability.specs.declared.sweep.Swept.TheVariants as S
-use Rattle.reachability.specs.declared.verdicts.Judged.{Judged}
-use Rattle.reachability.specs.declared.verdicts.Judged.TheVariants as J
-use Rattle.judge.specs.Answers.{judged_number, judged_figure, judge_number}
-use Rattle.reader.specs.declared.Status.{Status}
-use Rattle.reader.specs.declared.Status.TheVariants.{Read, Refused}
+use Rattle.reachability.specs.Answers.{call_number, Swept, swept_number, swept_figure, lengths_ok, sweep_number}
+use Rattle.judge.specs.Answers.{Judged, judged_number, judged_figure, judge_number}
+use Rattle.std.specs.Prelude.{Ok, Err}
+use Rattle.reachability.specs.declared.refusals.CallRefusal.{CallRefusal}
+use Rattle.reachability.specs.declared.refusals.CallRefusal.TheVariants.{Invalid, Missing, WrongLength, Growth}
+use Rattle.reachability.specs.declared.verdicts.Verdict.TheVariants.{Hit, Unknown, Clear}
+use Rattle.reader.specs.FileNumbers.{file_number}
+use Rattle.reader.specs.declared.refusals.Refused.{Refused}
 use Rattle.reader.specs.Reading.{read_model}
 use Rattle.reader.proofs.ReadModels.{read_model-accepted}
 use Rattle.reader.proofs.Answers.{FileNumber, read_model-told}
-use Rattle.writer.specs.declared.Rewritten.TheVariants as W
+use Rattle.std.specs.Prelude.{Result, Ok, Err}
+use Rattle.writer.specs.declared.RewriteRefusal.TheVariants as W
 use Rattle.writer.specs.Writing.{file_of}
 use Rattle.writer.specs.Answers.{rewritten_number, rewritten_figure, rewritten_as, rewrite_answer}
 use Rattle.calm.specs.Calm.{calm_model, first_above}
-use Rattle.calm.specs.Answers.{calmness_number, calmness_figure, calm_number, by_calmness, limited_number, limited_figure, limit_number, within_number, within_figure, steps_number}
-use Rattle.calm.specs.declared.Calmness.{Calmness}
-use Rattle.calm.specs.declared.Calmness.TheVariants as C
-use Rattle.calm.specs.declared.Limited.{Limited}
-use Rattle.calm.specs.declared.Limited.TheVariants as L
-use Rattle.calm.specs.declared.Within.{Within}
-use Rattle.calm.specs.declared.Within.TheVariants as I
-use Rattle.pepperscarp.specs.Packing.{packed, stepped_figure, judged_verdict, stepped_packed, swept_packed, judged_packed, rewritten_packed, calmed_packed, limited_packed, stayed_packed}
+use Rattle.calm.specs.Answers.{refusal_number, calmness_number, calmness_figure, calm_number, by_calmness, limited_number, limited_figure, limit_number, within_number, within_figure, steps_number}
+use Rattle.pepperscarp.specs.Packing.{packed, stepped_figure, judged_verdict, stepped_packed, swept_packed, judged_packed, rewritten_packed, calmed_packed, limited_packed, stayed_packed, refused_packed}
+use Rattle.calm.specs.declared.CalmRefusal.{CalmRefusal}
+use Rattle.calm.specs.declared.CalmRefusal.TheVariants as R
 
 -- ---- any three
 
@@ -54,86 +52,80 @@ small : {number : ℕ} → FileNumber number → number < 256
 small (inl h) = omega (arith, h)
 small (inr h) = omega (arith, h.1)
 
-pub refused-unpacks : (file : List ℕ) (number offset : ℕ) → (read_model file).status ≡ Refused number offset → Unpacks (packed number 0 offset) number 0 offset
-refused-unpacks file number offset e = packed-unpacks number 0 offset (small (read_model-told file number offset e).known) (omega arith)
+pub refused-unpacks : (file : List ℕ) (e : Refused) → read_model file ≡ Err e → Unpacks (refused_packed e) (file_number e.refusal) 0 e.offset
+refused-unpacks file e is = packed-unpacks (file_number e.refusal) 0 e.offset (small (read_model-told file e is).known) (omega arith)
 
-pub stepped-unpacks : (a : Stepped) → Unpacks (stepped_packed a) (stepped_number a) 0 (stepped_figure a)
+pub stepped-unpacks : (a : Option ℕ) → Unpacks (stepped_packed a) (stepped_number a) 0 (stepped_figure a)
 stepped-unpacks a = packed-unpacks (stepped_number a) 0 (stepped_figure a) (small a) (omega arith)
   where
-    small : (a : Stepped) → stepped_number a < 256
-    small (P.Sum s) = omega arith
-    small P.Refused = omega arith
+    small : (a : Option ℕ) → stepped_number a < 256
+    small (Some s) = omega arith
+    small None = omega arith
+
+call-small : (r : CallRefusal) → call_number r < 256
+call-small Invalid = omega arith
+call-small Missing = omega arith
+call-small WrongLength = omega arith
+call-small (Growth k) = omega arith
 
 pub swept-unpacks : (a : Swept) → Unpacks (swept_packed a) (swept_number a) 0 (swept_figure a)
 swept-unpacks a = packed-unpacks (swept_number a) 0 (swept_figure a) (small a) (omega arith)
   where
     small : (a : Swept) → swept_number a < 256
-    small (S.Spare h) = omega arith
-    small S.Invalid = omega arith
-    small S.NoDirection = omega arith
-    small S.WrongLength = omega arith
-    small (S.Growth k) = omega arith
+    small (Ok h) = omega arith
+    small (Err r) = call-small r
 
 pub judged-unpacks : (a : Judged) → Unpacks (judged_packed a) (judged_number a) (judged_verdict a) (judged_figure a)
 judged-unpacks a = packed-unpacks (judged_number a) (judged_verdict a) (judged_figure a) (small a) (few a)
   where
     small : (a : Judged) → judged_number a < 256
-    small (J.Hit k) = omega arith
-    small (J.Unknown k) = omega arith
-    small J.Clear = omega arith
-    small J.Invalid = omega arith
-    small J.NoGuard = omega arith
-    small J.WrongLength = omega arith
-    small (J.Growth k) = omega arith
+    small (Ok v) = omega arith
+    small (Err r) = call-small r
 
     few : (a : Judged) → judged_verdict a < 256
-    few (J.Hit k) = omega arith
-    few (J.Unknown k) = omega arith
-    few J.Clear = omega arith
-    few J.Invalid = omega arith
-    few J.NoGuard = omega arith
-    few J.WrongLength = omega arith
-    few (J.Growth k) = omega arith
+    few (Ok (Hit k)) = omega arith
+    few (Ok (Unknown k)) = omega arith
+    few (Ok Clear) = omega arith
+    few (Err r) = omega arith
 
 pub rewritten-unpacks : (file : List ℕ) (room : ℕ) → Unpacks (rewritten_packed (rewrite_answer file room)) (rewritten_number (rewrite_answer file room)) 0 (rewritten_figure (rewrite_answer file room))
-rewritten-unpacks file room = by (read_model file).status refl
+rewritten-unpacks file room = by (read_model file) refl
   where
-    size : ℕ
-    size = length (file_of (read_model file).model)
+    either : (size : ℕ) (t : Bool) → Unpacks (rewritten_packed (cond t (Ok size) (Err W.Short))) (rewritten_number (cond t (Ok size) (Err W.Short))) 0 (rewritten_figure (cond t (Ok size) (Err W.Short)))
+    either size true = packed-unpacks 0 0 size (omega arith) (omega arith)
+    either size false = packed-unpacks 22 0 0 (omega arith) (omega arith)
 
-    either : (t : Bool) → Unpacks (rewritten_packed (cond t (W.Length size) W.Short)) (rewritten_number (cond t (W.Length size) W.Short)) 0 (rewritten_figure (cond t (W.Length size) W.Short))
-    either true = packed-unpacks 0 0 size (omega arith) (omega arith)
-    either false = packed-unpacks 22 0 0 (omega arith) (omega arith)
+    by : (r : Result Model Refused) → read_model file ≡ r → Unpacks (rewritten_packed (rewritten_as r room)) (rewritten_number (rewritten_as r room)) 0 (rewritten_figure (rewritten_as r room))
+    by (Ok m) e = either (length (file_of m)) (leb (length (file_of m)) room)
+    by (Err e) is = refused-unpacks file e is
 
-    by : (s : Status) → (read_model file).status ≡ s → Unpacks (rewritten_packed (rewritten_as s size room)) (rewritten_number (rewritten_as s size room)) 0 (rewritten_figure (rewritten_as s size room))
-    by Read e = either (leb size room)
-    by (Refused number offset) e = refused-unpacks file number offset e
+-- the number of a refusal of the routines of calm models
+refusal-small : (e : CalmRefusal) → refusal_number e < 256
+refusal-small R.Invalid = omega arith
+refusal-small R.NotCalm = omega arith
+refusal-small R.NoStep = omega arith
+refusal-small R.TooSmall = omega arith
 
-pub calmed-unpacks : (a : Calmness) → Unpacks (calmed_packed a) (calmness_number a) 0 (calmness_figure a)
+pub calmed-unpacks : (a : Result Bool CalmRefusal) → Unpacks (calmed_packed a) (calmness_number a) 0 (calmness_figure a)
 calmed-unpacks a = packed-unpacks (calmness_number a) 0 (calmness_figure a) (small a) (omega arith)
   where
-    small : (a : Calmness) → calmness_number a < 256
-    small C.Yes = omega arith
-    small C.No = omega arith
-    small C.Invalid = omega arith
+    small : (a : Result Bool CalmRefusal) → calmness_number a < 256
+    small (Ok b) = omega arith
+    small (Err e) = refusal-small e
 
-pub limited-unpacks : (a : Limited) → Unpacks (limited_packed a) (limited_number a) 0 (limited_figure a)
-limited-unpacks a = packed-unpacks (limited_number a) 0 (limited_figure a) (small a) (omega arith)
+-- a limit, or the steps within a slack
+figure-unpacks : (a : Result ℕ CalmRefusal) → Unpacks (packed (limited_number a) 0 (limited_figure a)) (limited_number a) 0 (limited_figure a)
+figure-unpacks a = packed-unpacks (limited_number a) 0 (limited_figure a) (small a) (omega arith)
   where
-    small : (a : Limited) → limited_number a < 256
-    small (L.Limit l) = omega arith
-    small L.Invalid = omega arith
-    small L.NotCalm = omega arith
-    small L.NoStep = omega arith
+    small : (a : Result ℕ CalmRefusal) → limited_number a < 256
+    small (Ok l) = omega arith
+    small (Err e) = refusal-small e
 
-pub stayed-unpacks : (a : Within) → Unpacks (stayed_packed a) (within_number a) 0 (within_figure a)
-stayed-unpacks a = packed-unpacks (within_number a) 0 (within_figure a) (small a) (omega arith)
-  where
-    small : (a : Within) → within_number a < 256
-    small (I.Step k) = omega arith
-    small I.Invalid = omega arith
-    small I.NotCalm = omega arith
-    small I.TooSmall = omega arith
+pub limited-unpacks : (a : Result ℕ CalmRefusal) → Unpacks (limited_packed a) (limited_number a) 0 (limited_figure a)
+limited-unpacks a = figure-unpacks a
+
+pub stayed-unpacks : (a : Result ℕ CalmRefusal) → Unpacks (stayed_packed a) (within_number a) 0 (within_figure a)
+stayed-unpacks a = figure-unpacks a
 
 -- ---- number 11: a model that was read is accepted
 
@@ -145,37 +137,32 @@ other true true false t e z = omega arith
 other true false c t e z = omega arith
 other false b c t e z = let n : ◌≡◌ {A = ℕ} 0 1 = cc in omega arith
 
-pub sweep-never-11 : (file : List ℕ) (d lb ls : ℕ) → (read_model file).status ≡ Read → sweep_number (read_model file).model d lb ls ≡ 11 → ⊥
-sweep-never-11 file d lb ls e z =
-    let m = (read_model file).model in
+pub sweep-never-11 : (file : List ℕ) (d lb ls : ℕ) {m : Model} → read_model file ≡ Ok m → sweep_number m d lb ls ≡ 11 → ⊥
+sweep-never-11 file d lb ls {m} e z =
     other (accepted m) (ltb d m.questions.directions) (lengths_ok m lb ls) (leb (growth_step m d) m.steps) (read_model-accepted file e) z
 
-pub judge-never-11 : (file : List ℕ) (g lb ls : ℕ) → (read_model file).status ≡ Read → judge_number (read_model file).model g lb ls ≡ 11 → ⊥
-judge-never-11 file g lb ls e z =
-    let m = (read_model file).model in
+pub judge-never-11 : (file : List ℕ) (g lb ls : ℕ) {m : Model} → read_model file ≡ Ok m → judge_number m g lb ls ≡ 11 → ⊥
+judge-never-11 file g lb ls {m} e z =
     other (accepted m) (ltb g m.questions.guards) (lengths_ok m lb ls) (leb (growth_step m (get_or m.questions.watched g 0)) m.steps) (read_model-accepted file e) z
 
 -- nor is a file that is rewritten
 pub rewrite-never-11 : (file : List ℕ) (room : ℕ) → rewritten_number (rewrite_answer file room) ≡ 11 → ⊥
-rewrite-never-11 file room = by (read_model file).status refl
+rewrite-never-11 file room = by (read_model file) refl
   where
-    size : ℕ
-    size = length (file_of (read_model file).model)
-
-    either : (t : Bool) → rewritten_number (cond t (W.Length size) W.Short) ≡ 11 → ⊥
-    either true z = omega arith
-    either false z = omega arith
+    either : (size : ℕ) (t : Bool) → rewritten_number (cond t (Ok size) (Err W.Short)) ≡ 11 → ⊥
+    either size true z = omega arith
+    either size false z = omega arith
 
     known : {number : ℕ} → FileNumber number → number ≡ 11 → ⊥
     known (inl h) z = omega (arith, h)
     known (inr h) z = omega (arith, h.0)
 
-    by : (s : Status) → (read_model file).status ≡ s → rewritten_number (rewritten_as s size room) ≡ 11 → ⊥
-    by Read e z = either (leb size room) z
-    by (Refused number offset) e z = known (read_model-told file number offset e).known z
+    by : (r : Result Model Refused) → read_model file ≡ r → rewritten_number (rewritten_as r room) ≡ 11 → ⊥
+    by (Ok m) e z = either (length (file_of m)) (leb (length (file_of m)) room) z
+    by (Err e) is z = known (read_model-told file e is).known z
 
 -- nor a question about a calm model: x is the number that is answered where it is calm
-calm-other : (a b : Bool) (x : ℕ) → a ≡ true → (x ≡ 11 → ⊥) → by_calmness (cond a (cond b C.Yes C.No) C.Invalid) 11 26 x ≡ 11 → ⊥
+calm-other : (a b : Bool) (x : ℕ) → a ≡ true → (x ≡ 11 → ⊥) → by_calmness (cond a (Ok b) (Err R.Invalid)) 11 26 x ≡ 11 → ⊥
 calm-other true true x e o z = o z
 calm-other true false x e o z = omega arith
 calm-other false b x e o z = let n : ◌≡◌ {A = ℕ} 0 1 = cc in omega arith
@@ -184,19 +171,17 @@ either : (a b : ℕ) (t : Bool) → (a ≡ 11 → ⊥) → (b ≡ 11 → ⊥) �
 either a b true p q z = p z
 either a b false p q z = q z
 
-pub calm-never-11 : (file : List ℕ) → (read_model file).status ≡ Read → calm_number (read_model file).model ≡ 11 → ⊥
-calm-never-11 file e = of (accepted (read_model file).model) (read_model-accepted file e)
+pub calm-never-11 : (file : List ℕ) {m : Model} → read_model file ≡ Ok m → calm_number m ≡ 11 → ⊥
+calm-never-11 file {m} e = of (accepted m) (read_model-accepted file e)
   where
     of : (a : Bool) → a ≡ true → ◌≡◌ {A = ℕ} (cond a 0 11) 11 → ⊥
     of true t z = omega arith
     of false t z = let n : ◌≡◌ {A = ℕ} 0 1 = cc in omega arith
 
-pub limit-never-11 : (file : List ℕ) (k : ℕ) → (read_model file).status ≡ Read → limit_number (read_model file).model k ≡ 11 → ⊥
-limit-never-11 file k e =
-    let m = (read_model file).model in
+pub limit-never-11 : (file : List ℕ) (k : ℕ) {m : Model} → read_model file ≡ Ok m → limit_number m k ≡ 11 → ⊥
+limit-never-11 file k {m} e =
     calm-other (accepted m) (calm_model m) _ (read_model-accepted file e) (either 0 27 (leb k m.steps) (λ z. omega arith) (λ z. omega arith))
 
-pub within-never-11 : (file : List ℕ) (s : ℕ) → (read_model file).status ≡ Read → steps_number (read_model file).model s ≡ 11 → ⊥
-within-never-11 file s e =
-    let m = (read_model file).model in
+pub within-never-11 : (file : List ℕ) (s : ℕ) {m : Model} → read_model file ≡ Ok m → steps_number m s ≡ 11 → ⊥
+within-never-11 file s {m} e =
     calm-other (accepted m) (calm_model m) _ (read_model-accepted file e) (either 28 0 (eqb (first_above m s) 0) (λ z. omega arith) (λ z. omega arith))

@@ -7,14 +7,19 @@
 
 mod packing;
 
+ghost use Rattle.std.specs.Prelude.{◌≡◌, Ok, Err};
+ghost use Rattle.reader.specs.declared.refusals.Refused.{Refused};
+ghost use Rattle.reader.specs.Reading.{read_model};
+ghost use Rattle.pepperscarp.specs.Packing.{refused_packed};
 ghost use Rattle.listing.specs.Listing.{ReplyLeaves};
 ghost use Rattle.pepperscarp.specs.Replies.{StepReply, SweepReply, JudgeReply, WriteReply, CalmReply, LimitReply, WithinReply};
 
 use calm::{calm, slack_limit, steps_within};
 use judge::judge;
 use listing::reply;
+use reachability::model::Model;
 use reachability::sweep::sweep;
-use reader::{Status, read};
+use reader::read;
 use stepping::step;
 use writer::rewrite;
 
@@ -38,15 +43,10 @@ pub fn pepperscarp_sweep(
 ) -> u64
     ensures { SweepReply file.now direction bounds.old slacks.old result bounds.new slacks.new }
 {
-    let reading = read(file);
-    let status = reading.status;
-    match status {
-        Status::Refused(number, offset) => packing::refused(number, offset),
-        Status::Read => {
-            let model = reading.model;
-            let answer = sweep(model, direction, bounds, slacks);
-            packing::swept(answer)
-        }
+    // Kept: (c) the contract of `of_model` can't say that a closure that is not called leaves its lists as they were.
+    match read(file) {
+        Ok(model) => packing::swept(sweep(model, direction, bounds, slacks)),
+        Err(refused) => packing::refused(refused),
     }
 }
 
@@ -55,15 +55,10 @@ pub fn pepperscarp_sweep(
 pub fn pepperscarp_judge(file: &[u8], guard: usize, bounds: &mut [i64], slacks: &mut [i64]) -> u64
     ensures { JudgeReply file.now guard bounds.old slacks.old result bounds.new slacks.new }
 {
-    let reading = read(file);
-    let status = reading.status;
-    match status {
-        Status::Refused(number, offset) => packing::refused(number, offset),
-        Status::Read => {
-            let model = reading.model;
-            let answer = judge(model, guard, bounds, slacks);
-            packing::judged(answer)
-        }
+    // Kept: (c) the contract of `of_model` can't say that a closure that is not called leaves its lists as they were.
+    match read(file) {
+        Ok(model) => packing::judged(judge(model, guard, bounds, slacks)),
+        Err(refused) => packing::refused(refused),
     }
 }
 
@@ -84,21 +79,24 @@ pub fn pepperscarp_write(file: &[u8], out: &mut [u8]) -> u64
     packing::rewritten(answer)
 }
 
+// C interface 5. The answer to a file: its number and offset where it is refused, else what `reply` makes of its model.
+fn of_model<F: FnOnce(Model) -> u64>(file: &[u8], reply: F) -> u64
+    requires { (m : Model) → read_model file.now ≡ Ok m → F.pre reply m }
+    ensures refused { (e : Refused) → read_model file.now ≡ Err e → result ≡ refused_packed e }
+    ensures read { (m : Model) → read_model file.now ≡ Ok m → F.post reply m result }
+{
+    match read(file) {
+        Ok(model) => reply(model),
+        Err(refused) => packing::refused(refused),
+    }
+}
+
 // C interface 5 and 10. Whether the file's model is calm: the figure is 1 where it is, and 0 where it is not. Refusals: 1 to 10 or 15 to
 // 17 with the offset as the figure, where the file is refused.
 pub fn pepperscarp_calm(file: &[u8]) -> u64
     ensures { CalmReply file.now result }
 {
-    let reading = read(file);
-    let status = reading.status;
-    match status {
-        Status::Refused(number, offset) => packing::refused(number, offset),
-        Status::Read => {
-            let model = reading.model;
-            let answer = calm(model);
-            packing::calmed(answer)
-        }
-    }
+    of_model(file, |model| packing::calmed(calm(model)))
 }
 
 // C interface 5 and 11. What no slack of the file's model is above at a step: the figure is the limit. Refusals: those of the file; 26
@@ -106,16 +104,7 @@ pub fn pepperscarp_calm(file: &[u8]) -> u64
 pub fn pepperscarp_slack_limit(file: &[u8], step: usize) -> u64
     ensures { LimitReply file.now step result }
 {
-    let reading = read(file);
-    let status = reading.status;
-    match status {
-        Status::Refused(number, offset) => packing::refused(number, offset),
-        Status::Read => {
-            let model = reading.model;
-            let answer = slack_limit(model, step);
-            packing::limited(answer)
-        }
-    }
+    of_model(file, |model| packing::limited(slack_limit(model, step)))
 }
 
 // C interface 5 and 12. Up to which step the limit stays at or below the slack: the figure is the step. Refusals: those of the file; 26
@@ -123,14 +112,5 @@ pub fn pepperscarp_slack_limit(file: &[u8], step: usize) -> u64
 pub fn pepperscarp_steps_within(file: &[u8], slack: u64) -> u64
     ensures { WithinReply file.now slack result }
 {
-    let reading = read(file);
-    let status = reading.status;
-    match status {
-        Status::Refused(number, offset) => packing::refused(number, offset),
-        Status::Read => {
-            let model = reading.model;
-            let answer = steps_within(model, slack);
-            packing::stayed(answer)
-        }
-    }
+    of_model(file, |model| packing::stayed(steps_within(model, slack)))
 }

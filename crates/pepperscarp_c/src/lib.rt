@@ -1,5 +1,6 @@
 // The C interface, exported: each function of `pepperscarp` under its own name, with the same contract (C interface 2 to 12). The
 // header `c/pepperscarp.h` is for callers. There is nothing else here.
+// Kept: each contract twice, since an exported function has its own (C interface).
 #![tactic(auto)]
 
 ghost use Rattle.listing.specs.Listing.{ReplyLeaves};

@@ -27,8 +27,8 @@ use Rattle.reachability.specs.Verdicts.{hit_at, unknown_at, verdict}
 use Rattle.reachability.specs.Accuracy.{NoRunPasses, SomeRunWithin, ReachedBy, WithinSlackOf, VerdictHolds, Accurate, AccuracyRule}
 use Rattle.reachability.specs.Answers.{bounds_of, slacks_of}
 use Rattle.reachability.specs.declared.model.Model.{Model}
-use Rattle.reachability.specs.declared.verdicts.Judged.{Judged}
-use Rattle.reachability.specs.declared.verdicts.Judged.TheVariants.{Hit, Unknown, Clear, Invalid, NoGuard, WrongLength, Growth}
+use Rattle.reachability.specs.declared.verdicts.Verdict.{Verdict}
+use Rattle.reachability.specs.declared.verdicts.Verdict.TheVariants.{Hit, Unknown, Clear}
 use Rattle.reachability.proofs.sets.Laws.{SetLaws}
 use Rattle.reachability.proofs.sets.Shifted.{Shifted, shifted-laws}
 use Rattle.reachability.proofs.model.Facts.{ModelFacts, model-facts}
@@ -251,11 +251,7 @@ module _ (m : Model) (d : ℕ) where
   pub verdict-lists : AccuracyRule m → (level : ℤ) → VerdictHolds m d level (vector (slacks_of m d)) (verdict m d level)
   verdict-lists rule level = at-lists (verdict m d level) (rule.verdicts d level)
     where
-      at-lists : (a : Judged) → VerdictHolds m d level (λ k. pos (slack m d k)) a → VerdictHolds m d level (vector (slacks_of m d)) a
+      at-lists : (a : Verdict) → VerdictHolds m d level (λ k. pos (slack m d k)) a → VerdictHolds m d level (vector (slacks_of m d)) a
       at-lists (Hit k) h = h
       at-lists (Unknown k) h = (h.0, subst (WithinSlackOf m d level k) (sym (slacks-at k (suc-le-suc h.0))) h.1)
       at-lists Clear h = h
-      at-lists Invalid h = tt
-      at-lists NoGuard h = tt
-      at-lists WrongLength h = tt
-      at-lists (Growth k) h = tt

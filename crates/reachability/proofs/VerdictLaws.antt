@@ -12,7 +12,7 @@ use Rattle.integers.proofs.SignedParts.{v, #, ◌⊕◌, ◌⊗◌, le!, le?}
 use Rattle.integers.proofs.Order.{⩽-trans, ⩽-scale, le-of-lt_z-false, lt-of-lt_z}
 use Rattle.reachability.specs.Recurrence.{first_place}
 use Rattle.reachability.specs.Verdicts.{reaches, hit_at, unknown_at, verdict_below}
-use Rattle.reachability.specs.declared.verdicts.Judged.TheVariants.{Hit, Unknown, Clear}
+use Rattle.reachability.specs.declared.verdicts.Verdict.TheVariants.{Hit, Unknown, Clear}
 use Rattle.reachability.proofs.FirstPlace.{first_place-cong}
 
 -- ---- values against a level
@@ -73,9 +73,6 @@ module _ (n : ℕ) (level : ℤ) (b s : ℕ → ℤ) where
 
   no_hit : n ≤ h → verdict_below n level b s ≡ cond (ltb u n) (Unknown u) Clear
   no_hit l = ap (λ (t : Bool). cond t (Hit h) (cond (ltb u n) (Unknown u) Clear)) (le-ltb h n l)
-
-  pub verdict-unknown : n ≤ h → u < n → verdict_below n level b s ≡ Unknown u
-  verdict-unknown l k = no_hit l ∙ ap (λ (t : Bool). cond t (Unknown u) Clear) (lt-ltb u n k)
 
   pub verdict-clear : n ≤ h → n ≤ u → verdict_below n level b s ≡ Clear
   verdict-clear l k = no_hit l ∙ ap (λ (t : Bool). cond t (Unknown u) Clear) (le-ltb u n k)

@@ -10,8 +10,8 @@ use Rattle.reachability.specs.Runs.{Run, value, direction, denominator, Largest}
 use Rattle.reachability.specs.Recurrence.{bound, slack}
 use Rattle.reachability.specs.Verdicts.{reaches, verdict}
 use Rattle.reachability.specs.declared.model.Model.{Model}
-use Rattle.reachability.specs.declared.verdicts.Judged.{Judged}
-use Rattle.reachability.specs.declared.verdicts.Judged.TheVariants.{Hit, Unknown, Clear, Invalid, NoGuard, WrongLength, Growth}
+use Rattle.reachability.specs.declared.verdicts.Verdict.{Verdict}
+use Rattle.reachability.specs.declared.verdicts.Verdict.TheVariants.{Hit, Unknown, Clear}
 
 -- Accuracy 2: no run passes the bound b at step k.
 abbrev pub NoRunPasses : Model → ℕ → ℕ → ℤ → Type 0
@@ -42,15 +42,11 @@ pub record Accurate (m : Model) (d : ℕ) (b s : ℕ → ℤ) : Type 0 where
   pub slacks : (k : ℕ) → k ≤ m.steps → SomeRunWithin m d k (b k) (s k)
   pub exact : (k : ℕ) → k ≤ m.steps → (v : ℤ) × Largest m (direction m d) k v
 
--- Accuracy 4, 5 and 6: what CLEAR, HIT and UNKNOWN say of the runs. A refusal says nothing of them.
-abbrev pub VerdictHolds : Model → ℕ → ℤ → (ℕ → ℤ) → Judged → Type 0
+-- Accuracy 4, 5 and 6: what CLEAR, HIT and UNKNOWN say of the runs.
+abbrev pub VerdictHolds : Model → ℕ → ℤ → (ℕ → ℤ) → Verdict → Type 0
 VerdictHolds m d level s (Hit k) = (k ≤ m.steps) × ReachedBy m d level k
 VerdictHolds m d level s (Unknown k) = (k ≤ m.steps) × WithinSlackOf m d level k (s k)
 VerdictHolds m d level s Clear = (k : ℕ) → k ≤ m.steps → ReachedBy m d level k → ⊥
-VerdictHolds m d level s Invalid = Unit {0}
-VerdictHolds m d level s NoGuard = Unit {0}
-VerdictHolds m d level s WrongLength = Unit {0}
-VerdictHolds m d level s (Growth k) = Unit {0}
 
 -- Accuracy 1: the rule of a model, as one statement about the numbers of "Recurrence" and the verdicts of "Verdicts" (Accuracy 8).
 -- Every accepted model has it (`proofs.AccuracyRule`). It holds of every direction number, refused for growth or not, so all the

@@ -1,29 +1,44 @@
 -- Refusals 11 to 14 and Routines 1, 2 and 4: what a sweep answers and leaves, for every input. Definitions only.
 -- b₀ and s₀ are the lists as lent, b and s as left. Assumes nothing.
-use Rattle.std.specs.Prelude.{◌≡◌, Bool, cond, ◌&&◌, List, ℕ, suc, leb, ltb, eqb, length, ℤ, pos}
+use Rattle.std.specs.Prelude.{◌≡◌, Bool, cond, ◌&&◌, List, ℕ, suc, leb, ltb, eqb, length, ℤ, pos, Result, Ok, Err}
 use Rattle.integers.specs.Sums.{vector, tabulate}
 use Rattle.reachability.specs.Limits.{accepted}
 use Rattle.reachability.specs.Recurrence.{growth_step, spare_figure, bound, slack}
 use Rattle.reachability.specs.Accuracy.{Accurate}
 use Rattle.reachability.specs.declared.model.Model.{Model}
-use Rattle.reachability.specs.declared.sweep.Swept.{Swept}
-use Rattle.reachability.specs.declared.sweep.Swept.TheVariants as S
+use Rattle.reachability.specs.declared.refusals.CallRefusal.{CallRefusal}
+use Rattle.reachability.specs.declared.refusals.CallRefusal.TheVariants.{Invalid, Missing, WrongLength, Growth}
+
+-- Forms 7: the number of a refusal.
+abbrev pub call_number : CallRefusal → ℕ
+call_number Invalid = 11
+call_number Missing = 12
+call_number WrongLength = 13
+call_number (Growth k) = 14
+
+-- Forms 7: the figure of a refusal, the first step with growth, 0 where there is none.
+abbrev pub call_figure : CallRefusal → ℕ
+call_figure Invalid = 0
+call_figure Missing = 0
+call_figure WrongLength = 0
+call_figure (Growth k) = k
 
 -- Forms 7: the number of an answer, 0 where nothing is refused.
+abbrev pub answer_number : {A : Type 0} → Result A CallRefusal → ℕ
+answer_number (Ok x) = 0
+answer_number (Err r) = call_number r
+
+-- What a sweep answers: the spare figure, or a refusal.
+abbrev pub Swept : Type 0
+Swept = Result ℕ CallRefusal
+
 abbrev pub swept_number : Swept → ℕ
-swept_number (S.Spare h) = 0
-swept_number S.Invalid = 11
-swept_number S.NoDirection = 12
-swept_number S.WrongLength = 13
-swept_number (S.Growth k) = 14
+swept_number a = answer_number a
 
 -- Forms 7, C interface 3: the figure of an answer, the spare figure or the first step with growth, 0 where there is neither.
 abbrev pub swept_figure : Swept → ℕ
-swept_figure (S.Spare h) = h
-swept_figure S.Invalid = 0
-swept_figure S.NoDirection = 0
-swept_figure S.WrongLength = 0
-swept_figure (S.Growth k) = k
+swept_figure (Ok h) = h
+swept_figure (Err r) = call_figure r
 
 -- Refusals 13: both lists have K + 1 elements.
 abbrev pub lengths_ok : Model → ℕ → ℕ → Bool
@@ -35,10 +50,10 @@ sweep_answer m d lb ls =
     cond (accepted m)
     (cond (ltb d m.questions.directions)
     (cond (lengths_ok m lb ls)
-    (cond (leb (growth_step m d) m.steps) (S.Growth (growth_step m d)) (S.Spare (spare_figure m d)))
-    S.WrongLength)
-    S.NoDirection)
-    S.Invalid
+    (cond (leb (growth_step m d) m.steps) (Err (Growth (growth_step m d))) (Ok (spare_figure m d)))
+    (Err WrongLength))
+    (Err Missing))
+    (Err Invalid)
 
 -- Routines 1: the number of a sweep, and its figure.
 abbrev pub sweep_number : Model → ℕ → ℕ → ℕ → ℕ

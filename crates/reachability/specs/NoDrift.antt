@@ -7,7 +7,7 @@ use Rattle.reachability.specs.Sets.{points, support_of, reach_of}
 use Rattle.reachability.specs.Recurrence.{errors_by, supports_by, raw_bound_of, raw_slack_of, bound, slack}
 use Rattle.reachability.specs.Verdicts.{verdict_below, verdict}
 use Rattle.reachability.specs.declared.model.Model.{Model}
-use Rattle.reachability.specs.declared.verdicts.Judged.{Judged}
+use Rattle.reachability.specs.declared.verdicts.Verdict.{Verdict}
 
 -- The drift is zero in each of the n coordinates.
 abbrev pub NoDrift : Model → Type 0
@@ -28,7 +28,7 @@ abbrev pub sets_slack : Model → ℕ → ℕ → ℕ
 sets_slack m d k = slack_of (raw_bound_of (sets_supports m d k) (sets_errors m d k)) (raw_slack_of (sets_errors m d k))
 
 -- Verdicts 2 to 4.
-abbrev pub sets_verdict : Model → ℕ → ℤ → Judged
+abbrev pub sets_verdict : Model → ℕ → ℤ → Verdict
 sets_verdict m d level = verdict_below (suc m.steps) level (sets_bound m d) (λ k. pos (sets_slack m d k))
 
 -- Recurrence 17: of every direction, level and step. Growth and the spare figure look at neither set nor drift.

@@ -1,11 +1,10 @@
 -- Sets 16 to 19: what one point more makes of a support and of a reach. Definitions only, for laws of what `support`, `reach` and
 -- `reach_within` answer; no contract cites them. Assumes nothing.
-use Rattle.std.specs.Prelude.{◌≡◌, true, List, ℕ, ◌+◌, ◌≤◌, ◌<◌, ℤ, pos, nat_abs, ◌+ℤ◌}
+use Rattle.std.specs.Prelude.{◌≡◌, true, List, Some, ℕ, ◌+◌, ◌≤◌, ◌<◌, ℤ, pos, nat_abs, ◌+ℤ◌}
 use Rattle.integers.specs.Sums.{vector, dot}
 use Rattle.reachability.specs.Sets.{points, larger, reach_of, support_answer, ReachAnswer, reach_within}
 use Rattle.reachability.specs.declared.sets.Shape.TheVariants.{Box, Zonotope, Vertices}
 use Rattle.reachability.specs.declared.sets.Set.{Set}
-use Rattle.reachability.specs.declared.sets.Supported.TheVariants.{Value}
 
 -- Sets 16: t has one point more than s.
 pub record OneMore (s t : Set) : Type 0 where
@@ -25,8 +24,8 @@ reach_at s i = reach_of s.shape s.count (points s.points) i
 -- magnitude of the new point's coordinate. `support` and `reach` speak of what the routines answer where neither call is refused,
 -- `reach-so-far` of any first points (Sets 19).
 pub record GrownBy (more : ℤ → ℤ → ℤ) (n : ℕ) (s t : Set) : Type 0 where
-  pub support : (r : List ℤ) (v w : ℤ) → support_answer n s r ≡ Value v → support_answer n t r ≡ Value w → w ≡ more v (dot n (vector r) (new_point s t))
-  pub reach : (xs ys : List ℤ) → ReachAnswer n s 0 xs → ReachAnswer n t 0 ys → (i : ℕ) → i < 6 → vector ys i ≡ more (vector xs i) (pos (nat_abs (new_point s t i)))
+  pub support : (r : List ℤ) (v w : ℤ) → support_answer n s r ≡ Some v → support_answer n t r ≡ Some w → w ≡ more v (dot n (vector r) (new_point s t))
+  pub reach : (xs ys : List ℤ) → ReachAnswer n s (Some xs) → ReachAnswer n t (Some ys) → (i : ℕ) → i < 6 → vector ys i ≡ more (vector xs i) (pos (nat_abs (new_point s t i)))
   pub reach-so-far : 1 ≤ s.count → (i : ℕ) → i < 6 → pos (reach_at t i) ≡ more (pos (reach_at s i)) (pos (nat_abs (new_point s t i)))
 
 -- Sets 17: one vertex more makes the larger of the two.

@@ -2,7 +2,7 @@
 -- and File 10; Limits 4 and 8; and Routines 11, what the set routines answer. Definitions only. A set's points are p 0, p 1, ..;
 -- p k i is coordinate i of point k.
 -- Assumes nothing.
-use Rattle.std.specs.Prelude.{◌≡◌, Bool, true, cond, ◌&&◌, List, ℕ, zero, suc, ◌+◌, ◌-◌, ◌<◌, max, leb, eqb, replicate, ℤ, pos, neg_ℤ, nat_abs, ◌+ℤ◌, ◌*ℤ◌}
+use Rattle.std.specs.Prelude.{◌≡◌, Bool, true, cond, ◌&&◌, List, ℕ, zero, suc, ◌+◌, ◌-◌, ◌<◌, max, leb, eqb, replicate, Option, None, Some, ℤ, pos, neg_ℤ, nat_abs, ◌+ℤ◌, ◌*ℤ◌}
 use Rattle.std.specs.Int.Signed.{lt_z, le_z}
 use Rattle.integers.specs.Whole.{◌⩽◌}
 use Rattle.integers.specs.Sums.{vector, matrix, sum, sum_ℕ, max_ℕ, dot, all_below, tabulate}
@@ -12,8 +12,6 @@ use Rattle.limits.specs.Limits.{direction_ok}
 use Rattle.reachability.specs.declared.sets.Shape.{Shape}
 use Rattle.reachability.specs.declared.sets.Shape.TheVariants.{Box, Zonotope, Vertices}
 use Rattle.reachability.specs.declared.sets.Set.{Set}
-use Rattle.reachability.specs.declared.sets.Supported.{Supported}
-use Rattle.reachability.specs.declared.sets.Supported.TheVariants.{Value, Refused}
 
 -- Sets 1: point k of a stored block.
 abbrev pub points : List ℤ → ℕ → ℕ → ℤ
@@ -108,23 +106,35 @@ set_ok n shape count xs = count_ok shape count && (zero_outside count n xs && (r
 abbrev pub support_ok : ℕ → Set → List ℤ → Bool
 support_ok n s r = dimension_ok n && (set_ok n s.shape s.count s.points && direction_ok n r)
 
-abbrev pub support_answer : ℕ → Set → List ℤ → Supported
-support_answer n s r = cond (support_ok n s r) (Value (support_of n s.shape s.count (points s.points) (vector r))) Refused
+abbrev pub support_answer : ℕ → Set → List ℤ → Option ℤ
+support_answer n s r = cond (support_ok n s r) (Some (support_of n s.shape s.count (points s.points) (vector r))) None
 
 -- Forms 7: the number of an answer.
-abbrev pub support_number : Supported → ℕ
-support_number (Value v) = 0
-support_number Refused = 11
+abbrev pub support_number : Option ℤ → ℕ
+support_number (Some v) = 0
+support_number None = 11
 
 -- Routines 11: what `support` answers, the value or number 11.
-pub record Supports (n : ℕ) (s : Set) (r : List ℤ) (a : Supported) : Type 0 where
+pub record Supports (n : ℕ) (s : Set) (r : List ℤ) (a : Option ℤ) : Type 0 where
   pub answer : a ≡ support_answer n s r
   pub number : support_number a ≡ cond (support_ok n s r) 0 11
 
--- Routines 11: what `reach` answers, number 11 with six zeros, or 0 with the six reaches.
-pub record ReachAnswer (n : ℕ) (s : Set) (number : ℕ) (reaches : List ℤ) : Type 0 where
-  pub number_is : number ≡ cond (dimension_ok n && set_ok n s.shape s.count s.points) 0 11
-  pub reaches-are : reaches ≡ cond (dimension_ok n && set_ok n s.shape s.count s.points) (tabulate 6 (λ i. pos (reach_of s.shape s.count (points s.points) i))) (tabulate 6 (λ i. pos 0))
+-- Refusals 11: nothing that `reach` is given breaks a rule.
+abbrev pub reach_asked : ℕ → Set → Bool
+reach_asked n s = dimension_ok n && set_ok n s.shape s.count s.points
+
+abbrev pub reach_answer : ℕ → Set → Option (List ℤ)
+reach_answer n s = cond (reach_asked n s) (Some (tabulate 6 (λ i. pos (reach_of s.shape s.count (points s.points) i)))) None
+
+-- Forms 7: the number of an answer.
+abbrev pub reach_number : Option (List ℤ) → ℕ
+reach_number (Some xs) = 0
+reach_number None = 11
+
+-- Routines 11: what `reach` answers, the six reaches or number 11.
+pub record ReachAnswer (n : ℕ) (s : Set) (a : Option (List ℤ)) : Type 0 where
+  pub answer : a ≡ reach_answer n s
+  pub number : reach_number a ≡ cond (reach_asked n s) 0 11
 
 -- Refusals 6: what a reader tests of a set point by point, beside a box's corners: the reach of the points so far.
 abbrev pub reach_within : Shape → ℕ → List ℤ → Bool

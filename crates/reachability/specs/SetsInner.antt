@@ -5,11 +5,18 @@ use Rattle.integers.specs.Sums.{vector}
 use Rattle.stepping.specs.Limits.{growth_limit}
 use Rattle.reachability.specs.Sets.{reach_of, reach_limit, points}
 use Rattle.reachability.specs.declared.sets.Shape.{Shape}
+use Rattle.reachability.specs.declared.sets.Shape.TheVariants.{Box, Zonotope, Vertices}
 
 -- A count that some shape allows.
 pub record Counted (count : ℕ) : Type 0 where
   pub some : 1 ≤ count
   pub most : count ≤ 16
+
+-- A shape whose support and reach are taken point by point.
+abbrev pub Pointwise : Shape → Type 0
+Pointwise Box = ⊥
+Pointwise Zonotope = Unit {0}
+Pointwise Vertices = Unit {0}
 
 -- Coordinates within the reach limit, and a direction within the growth limit.
 pub record Tested (xs r : List ℤ) : Type 0 where
@@ -26,9 +33,3 @@ product_limit = growth_limit * reach_limit
 
 abbrev pub term_limit : ℕ
 term_limit = 6 * product_limit
-
--- A product can be added to a sum of at most five such.
-pub record TimesAdd (sum a b : ℤ) : Type 0 where
-  pub sum-small : nat_abs sum ≤ 5 * product_limit
-  pub value-small : nat_abs a ≤ growth_limit
-  pub coordinate-small : nat_abs b ≤ reach_limit

@@ -1,16 +1,16 @@
--- What the functions of a walk ask and leave, of any direction, matrix and set. r and e are the walk's working direction as it is
--- stored; `entered`, `errors` and `largest` are what it has gathered. Definitions only; no public contract cites them. What these say of
+-- What the functions of a walk ask and leave, of any direction, matrix and set. w is the walk before, w' after. Definitions only; no public contract cites them. What these say of
 -- the walks of a model is in `proofs.walk`. Assumes nothing.
-use Rattle.std.specs.Prelude.{◌≡◌, List, ℕ, ◌+◌, ◌*◌, ◌≤◌, ◌<◌, max, T, ℤ, pos, nat_abs, ◌+ℤ◌}
+use Rattle.std.specs.Prelude.{◌≡◌, List, ℕ, ◌+◌, ◌*◌, ◌≤◌, ◌<◌, max, T, ℤ, pos, nat_abs, ◌+ℤ◌, Option}
 use Rattle.std.specs.Int.Signed.{non_neg}
 use Rattle.integers.specs.Sums.{vector, magnitudes, dot_ℕ, tabulate}
 use Rattle.stepping.specs.Limits.{error_limit}
 use Rattle.stepping.specs.Recurrence.{half_up, Rounds}
 use Rattle.stepping.specs.Refusals.{First, Steps, growth_answer, sum_of}
-use Rattle.stepping.specs.declared.Stepped.{Stepped}
 use Rattle.reachability.specs.Sets.{points, support_of, reach_limit}
 use Rattle.reachability.specs.SetsInner.{Counted, Tested, term_limit}
 use Rattle.reachability.specs.declared.sets.Shape.{Shape}
+use Rattle.reachability.specs.declared.sets.Set.{Set}
+use Rattle.reachability.specs.declared.walk.Walk.{Walk}
 
 -- The most that e · reach can come to. For a support it is `term_limit`.
 abbrev pub errors_limit : ℕ
@@ -44,27 +44,27 @@ pub record TermsAsk (shape : Shape) (count : ℕ) (xs reaches r e : List ℤ) : 
 -- ---- a walk
 
 -- A walk that has gathered at most 257 terms, and a set for one more.
-pub record WalkAsks (shape : Shape) (count : ℕ) (xs reaches r e : List ℤ) (entered : ℤ) (errors : ℕ) : Type 0 where
-  pub terms : TermsAsk shape count xs reaches r e
-  pub entered-small : nat_abs entered ≤ 257 * term_limit
-  pub errors-small : errors ≤ 257 * errors_limit
+pub record WalkAsks (s : Set) (reaches : List ℤ) (w : Walk) : Type 0 where
+  pub terms : TermsAsk s.shape s.count s.points reaches w.r w.e
+  pub entered-small : nat_abs w.entered ≤ 257 * term_limit
+  pub errors-small : w.errors ≤ 257 * errors_limit
 
 -- Recurrence 2: a walk at its start, of the direction d.
-pub record Begins (n : ℕ) (d r e : List ℤ) (entered : ℤ) (errors largest : ℕ) : Type 0 where
-  pub first : First d r e
-  pub entered-is : entered ≡ pos 0
-  pub errors-are : errors ≡ 0
-  pub largest-is : largest ≡ sum_of (growth_answer n r e)
+pub record Begins (n : ℕ) (d : List ℤ) (w : Walk) : Type 0 where
+  pub first : First d w.r w.e
+  pub entered-is : w.entered ≡ pos 0
+  pub errors-are : w.errors ≡ 0
+  pub largest-is : w.largest ≡ sum_of (growth_answer n w.r w.e)
 
 -- Recurrence 3 to 6, 10 and 11: a walk one move further back, by any matrix.
-pub record Backs (mat : List ℤ) (shape : Shape) (count : ℕ) (xs reaches r e : List ℤ) (entered : ℤ) (errors largest : ℕ) (r' e' : List ℤ) (entered' : ℤ) (errors' largest' : ℕ) : Type 0 where
-  pub answer : Stepped
-  pub steps : Steps 6 mat r e answer r' e'
-  pub entered-is : entered' ≡ entered +ℤ term_support shape count xs r
-  pub errors-are : errors' ≡ errors + term_errors e reaches
-  pub largest-is : largest' ≡ max largest (sum_of answer)
+pub record Backs (mat : List ℤ) (s : Set) (reaches : List ℤ) (w w' : Walk) : Type 0 where
+  pub answer : Option ℕ
+  pub steps : Steps 6 mat w.r w.e answer w'.r w'.e
+  pub entered-is : w'.entered ≡ w.entered +ℤ term_support s.shape s.count s.points w.r
+  pub errors-are : w'.errors ≡ w.errors + term_errors w.e reaches
+  pub largest-is : w'.largest ≡ max w.largest (sum_of answer)
 
 -- Recurrence 11 to 14: the bound and the slack at the end of a walk.
-abbrev pub Ends : Shape → ℕ → (xs reaches r e : List ℤ) → ℤ → ℕ → (b s : ℤ) → Type 0
-Ends shape count xs reaches r e entered errors b s =
-    Rounds ((term_support shape count xs r +ℤ entered) +ℤ pos (half_up (term_errors e reaches + errors))) (2 * half_up (term_errors e reaches + errors)) b s
+abbrev pub Ends : Set → List ℤ → Walk → (bound slack : ℤ) → Type 0
+Ends s reaches w bound slack =
+    Rounds ((term_support s.shape s.count s.points w.r +ℤ w.entered) +ℤ pos (half_up (term_errors w.e reaches + w.errors))) (2 * half_up (term_errors w.e reaches + w.errors)) bound slack

@@ -1,86 +1,68 @@
 // What enters at a move: the input, together with the drift (Runs 9).
-ghost use Rattle.std.specs.Prelude.{◌≡◌, ◌+◌, leb, length, nat_abs, pos};
+ghost use Rattle.std.specs.Prelude.{◌≡◌, ◌<◌, pos};
 ghost use Rattle.integers.specs.Sums.{tabulate};
-ghost use Rattle.reachability.specs.Sets.{reach_limit};
 ghost use Rattle.reachability.specs.Entering.{entering_reach, entering_within};
-ghost use Rattle.reachability.specs.Moved.{moved_count, moved_points};
+ghost use Rattle.reachability.specs.Moved.{moved_count, moved_set};
 ghost use Rattle.reachability.specs.EnteringInner.{EnteringSmall, Movable};
 
-use crate::sets::{MOST_POINTS, REACH_LIMIT, Shape, reach_at, reaches_of};
-
-// A reach and a drift come to no more than the limit.
-fn both_within(reach: u64, drift: i32) -> bool
-    ensures { result ≡ leb (reach + nat_abs drift) reach_limit }
-{
-    if REACH_LIMIT < reach {
-        return false;
-    }
-    arrays::magnitude(drift as i64) <= REACH_LIMIT - reach
-}
+use crate::sets::{MOST_POINTS, REACH_LIMIT, Set, Shape, reach_at};
+use std::array;
 
 // Routines 6. Of the first `count` points of an input set, 1 to 16 of them, the reach and the drift together are within the limit in
-// each coordinate (Limits 11). It asks no whole set, so that a reader can test a set point by point.
+// each coordinate (Limits 11).
+// Kept: no method, since it is asked of so many points of a block and of no whole set: a reader tests a set point by point.
 pub fn entering_within(shape: Shape, count: usize, points: &[i32; 96], drift: &[i32; 6]) -> bool
     ensures { result ≡ entering_within shape count points.now drift.now }
 {
-    if count < 1 {
+    if !(1..=MOST_POINTS).contains(&count) {
         return false;
     }
-    if MOST_POINTS < count {
-        return false;
-    }
-    let mut i: usize = 0;
-    while i < 6 {
-        if !both_within(reach_at(shape, count, points, i), drift[i]) {
+    for i in 0..6 {
+        let size = u64::from(drift[i].unsigned_abs());
+        let sum = reach_at(shape, count, points, i).saturating_add(size);
+        if REACH_LIMIT < sum {
             return false;
         }
-        i += 1;
     }
     true
 }
 
-// Recurrence 16. The reach of what enters in each of the six coordinates, where it is within its limit.
-pub(crate) fn entering_reaches(
-    shape: Shape,
-    count: usize,
-    points: &[i32; 96],
-    drift: &[i32; 6],
-) -> [i64; 6]
-    requires { EnteringSmall shape count points.now drift.now }
-    ensures { result ≡ tabulate 6 (λ i. pos (entering_reach shape count points.now drift.now i)) }
-{
-    let mut reaches = reaches_of(shape, count, points);
-    let mut i: usize = 0;
-    while i < 6 {
-        let size = arrays::magnitude(drift[i] as i64) as i64;
-        reaches[i] = reaches[i] + size;
-        i += 1;
+impl Set {
+    // Recurrence 16. The reach of what enters in coordinate i, where it is within its limit.
+    fn entering_at(&self, drift: &[i32; 6], i: usize) -> u64
+        requires { EnteringSmall self.now.shape self.now.count self.now.points drift.now × (i < 6) }
+        ensures { result ≡ entering_reach self.now.shape self.now.count self.now.points drift.now i }
+    {
+        reach_at(self.shape, self.count, &self.points, i) + u64::from(drift[i].unsigned_abs())
     }
-    reaches
-}
 
-// How many of a set's points are moved with it.
-fn moved_count(shape: Shape, count: usize) -> usize
-    ensures { result ≡ moved_count shape count }
-{
-    match shape {
-        Shape::Box => 2,
-        Shape::Zonotope => 1,
-        Shape::Vertices => count,
+    // The same in each of the six coordinates.
+    pub(crate) fn entering_reaches(&self, drift: &[i32; 6]) -> [i64; 6]
+        requires { EnteringSmall self.now.shape self.now.count self.now.points drift.now }
+        ensures { result ≡ tabulate 6 (λ i. pos (entering_reach self.now.shape self.now.count self.now.points drift.now i)) }
+    {
+        array::from_fn(|i| self.entering_at(drift, i) as i64)
     }
-}
 
-// Sets 20. Moves the points of a set by the vector `by`. Its support is then that of the set and r · by together, so that a sweep
-// that moves the input set once has no more to add at a step.
-pub(crate) fn move_points(shape: Shape, count: usize, points: &mut [i32; 96], by: &[i32; 6])
-    requires movable { Movable count points.old by.now }
-    requires value { 96 ≡ length points.old }
-    ensures { points.new ≡ moved_points shape count points.old by.now }
-{
-    let end = 6 * moved_count(shape, count);
-    let mut k: usize = 0;
-    while k < end {
-        points[k] = points[k] + by[k % 6];
-        k += 1;
+    // How many of the points are moved with the set.
+    fn moved_count(&self) -> usize
+        ensures { result ≡ moved_count self.now.shape self.now.count }
+    {
+        match self.shape {
+            Shape::Box => 2,
+            Shape::Zonotope => 1,
+            Shape::Vertices => self.count,
+        }
+    }
+
+    // Sets 20. Moves the set by the vector `by`. Its support is then that of the set and r · by together, so that a sweep that moves
+    // the input set once has no more to add at a step.
+    pub(crate) fn move_by(&mut self, by: &[i32; 6])
+        requires { Movable self.old.count self.old.points by.now }
+        ensures { self.new ≡ moved_set self.old by.now }
+    {
+        for k in 0..6 * self.moved_count() {
+            self.points[k] += by[k % 6];
+        }
     }
 }

@@ -7,6 +7,7 @@
 pub mod entering;
 pub mod model;
 pub mod motion;
+pub mod refusals;
 pub mod sets;
 pub mod sweep;
 pub mod verdicts;

@@ -9,26 +9,24 @@ pub struct Motion {
 }
 
 // The matrix of the move from step t to step t + 1.
+#[tactic(auto, unfolding(crate::specs::Motion::matrix_at))]
 pub(crate) fn matrix_at(motion: Motion, t: usize) -> [i32; 36]
     ensures { result ≡ matrix_at motion t }
 {
-    let matrix = motion.matrix;
-    matrix
+    motion.matrix
 }
 
 // Routines 20. The stored rows of the matrix, for whoever fills them.
 pub fn rows_of(motion: Motion) -> [i32; 36]
     ensures { result ≡ rows_of motion }
 {
-    let matrix = motion.matrix;
-    matrix
+    motion.matrix
 }
 
 // Routines 20. What moves the state, with these rows.
-pub fn with_rows(motion: Motion, rows: [i32; 36]) -> Motion
+pub fn with_rows(mut motion: Motion, rows: [i32; 36]) -> Motion
     ensures { result ≡ with_rows motion rows }
 {
-    let mut next = motion;
-    next.matrix = rows;
-    next
+    motion.matrix = rows;
+    motion
 }

@@ -11,7 +11,7 @@ use Rattle.records.specs.Kinds.{body_length, layout_of}
 use Rattle.records.specs.Records.{record_at}
 use Rattle.numbers.specs.Numbers.{little_endian}
 use Rattle.records.specs.Order.{may_follow}
-use Rattle.reader.specs.declared.Status.TheVariants.{Read}
+use Rattle.std.specs.Prelude.{IsOk}
 use Rattle.filling.specs.Models.{zeros, blank_set, blank_model, put_row}
 use Rattle.columns.specs.Columns.{six_at, unused_zero}
 use Rattle.reader.specs.Models.{start, with_head, with_row, with_drift, with_point, with_set_point, with_direction}
@@ -36,7 +36,7 @@ drifting more high =
     ++ (0x30 ∷ point 1 0)
     ++ (0xFF ∷ [])
 
-pub drift-filled : (read_model (drifting 0 0)).status ≡ Read
+pub drift-filled : IsOk (read_model (drifting 0 0))
 unfolding all_below unused_zero sum_ℕ max_ℕ body_length record_at little_endian may_follow layout_of zeros blank_set blank_model start six_at put_row with_head with_row with_drift with_point with_set_point with_direction scaled_entry first_number row_number drift_ok point_ok direction_ok body_number kind_number refusal stored stop_for number_at reading_at read_from read_model
 drift-filled = refl
 

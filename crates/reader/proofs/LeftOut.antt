@@ -24,7 +24,7 @@ use Rattle.reachability.specs.declared.sets.Set.{Set}
 use Rattle.reachability.specs.declared.model.Model.{Model}
 use Rattle.reachability.specs.Sets.{zero_box}
 use Rattle.columns.specs.Columns.{unused_zero, six_at}
-use Rattle.reader.specs.declared.Status.TheVariants.{Read}
+use Rattle.std.specs.Prelude.{Ok}
 use Rattle.reader.specs.declared.state.State.{State}
 use Rattle.filling.specs.Models.{put_row, set_set, input_at}
 use Rattle.reader.specs.Models.{set_directions, start, state_of, with_head, with_row, with_drift, with_set_point, with_direction, with_guard}
@@ -258,7 +258,7 @@ module _ {begins : ℕ → Bool} {rank : ℕ} (file : List ℕ) (turns : ℕ) (p
       next z = let w = follows (may_of s here z) in (w.other, w.stored_same (record_body here))
 
   -- What the next record brings to the model, and no record from `rank` on changes, holds of the model that is read.
-  pub read_model-left-as : (late : matrix_place < rank) (P : Model → Type 0) → Keeps rank late P → ((kind : ℕ) (body : List ℕ) → may_follow s.place kind ≡ true → rank ≤ (layout_of kind).place → (is_end (part_of kind) ≡ false) × P (stored s kind body).model) → (read_model file).status ≡ Read → P (read_model file).model
+  pub read_model-left-as : (late : matrix_place < rank) (P : Model → Type 0) → Keeps rank late P → ((kind : ℕ) (body : List ℕ) → may_follow s.place kind ≡ true → rank ≤ (layout_of kind).place → (is_end (part_of kind) ≡ false) × P (stored s kind body).model) → {m : Model} → read_model file ≡ Ok m → P m
   read_model-left-as late P keeps first e =
       let w = read_model-behind (Since rank late P) (since-stored rank late P keeps) file turns brings e in
       subst P (sym w.2) w.1.holds

@@ -1,5 +1,7 @@
+pub mod FileNumbers
 pub mod BodyNumbers
 pub mod ReadingOn
+pub mod Advancing
 pub mod RecordInPlace
 pub mod ReadingRest
 pub mod DefaultSteps
@@ -9,6 +11,7 @@ pub mod OrderFacts
 pub mod PartsSoFar
 pub mod AcceptedSoFar
 pub mod Sizes
+pub mod RecordNumbers
 pub mod ReadModels
 pub mod OnePointMore
 pub mod Places

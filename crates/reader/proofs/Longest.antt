@@ -12,7 +12,7 @@ use Rattle.records.specs.Kinds.{body_length, layout_of}
 use Rattle.records.specs.Records.{record_at}
 use Rattle.numbers.specs.Numbers.{little_endian}
 use Rattle.records.specs.Order.{may_follow}
-use Rattle.reader.specs.declared.Status.TheVariants.{Read}
+use Rattle.std.specs.Prelude.{IsOk}
 use Rattle.filling.specs.Models.{zeros, blank_set, blank_model, put_row}
 use Rattle.columns.specs.Columns.{six_at, unused_zero}
 use Rattle.reader.specs.Models.{start, with_head, with_row, with_drift, with_point, with_set_point, with_direction, with_guard}
@@ -45,6 +45,6 @@ pub longest-length : length longest ≡ 1690
 unfolding longest
 longest-length = refl
 
-pub longest-read : (read_model longest).status ≡ Read
+pub longest-read : IsOk (read_model longest)
 unfolding all_below unused_zero sum_ℕ max_ℕ binary64_unit magnitude_of nearest_even fitted_ok fitted_entry entry_of_bits scaled_entry first_number body_length record_at little_endian may_follow layout_of zeros blank_set blank_model start six_at put_row with_head with_row with_drift with_point with_set_point with_direction with_guard row_number drift_ok point_ok direction_ok body_number kind_number refusal stored stop_for number_at reading_at read_from read_model longest
 longest-read = refl

@@ -21,7 +21,7 @@ use Rattle.records.specs.Records.{record_at, record_kind}
 use Rattle.reachability.specs.declared.model.Model.{Model}
 use Rattle.reachability.specs.Sets.{reach_limit}
 use Rattle.columns.proofs.ColumnLaws.{unused_zero-of}
-use Rattle.reader.specs.declared.Status.TheVariants.{Read}
+use Rattle.std.specs.Prelude.{Ok}
 use Rattle.reader.specs.declared.state.State.{State}
 use Rattle.filling.specs.Models.{zeros}
 use Rattle.reader.specs.Models.{set_drift, start, state_of, with_head, with_row, with_drift, with_set_point, with_direction, with_guard}
@@ -135,7 +135,7 @@ module _ (file : List ℕ) (turns : ℕ) (place : NoDriftAt file (stop_for turns
   read_model-no-drift = read_model-left-out file turns left_out skipped zero_drift (drift_read s) refl (filled s so_far place.rows_in)
 
   -- Its model, where it has one, has no drift.
-  pub read_model-zero-drift : (read_model file).status ≡ Read → (read_model file).model.drift ≡ zeros 6
+  pub read_model-zero-drift : {m : Model} → read_model file ≡ Ok m → m.drift ≡ zeros 6
   unfolding stored
   read_model-zero-drift =
       read_model-left-as file turns left_out (omega arith) NoDriftIn kept

@@ -30,7 +30,7 @@ use Rattle.reachability.specs.Runs.{Run}
 use Rattle.reachability.proofs.ZeroInput.{inputs-zero}
 use Rattle.columns.specs.Columns.{unused_zero, six_at}
 use Rattle.columns.proofs.ColumnLaws.{unused_zero-of}
-use Rattle.reader.specs.declared.Status.TheVariants.{Read}
+use Rattle.std.specs.Prelude.{Ok}
 use Rattle.reader.specs.declared.state.State.{State}
 use Rattle.filling.specs.Models.{shape_of, zeros, blank_set, put_row, set_set, input_at}
 use Rattle.reader.specs.Models.{set_directions, start, state_of, with_head, with_row, with_drift, with_point, with_set_point, with_direction, with_guard}
@@ -253,7 +253,7 @@ module _ (file : List ℕ) (turns : ℕ) (place : NoInputAt file (stop_for turns
   read_model-no-input = read_model-left-out file turns left_out skipped zero_corners (with_corners s (input_place + 1) 2) refl (filled s so_far place.complete)
 
   -- Its model, where it has one, has the box from zero to zero for its input set.
-  pub read_model-zero-input : (read_model file).status ≡ Read → (read_model file).model.input ≡ zero_box
+  pub read_model-zero-input : {m : Model} → read_model file ≡ Ok m → m.input ≡ zero_box
   unfolding stored
   read_model-zero-input =
       read_model-left-as file turns left_out (omega arith) ZeroInputIn kept
@@ -262,8 +262,8 @@ module _ (file : List ℕ) (turns : ℕ) (place : NoInputAt file (stop_for turns
       (ap is_end e, ap (λ (p : Part). (stored_in p s (layout_of kind) body).model.input) e ∙ brought s (layout_of kind) body (complete-early s.place place.complete)))
 
   -- Runs 8: its runs have no other input than zero.
-  pub no-input-runs : (read_model file).status ≡ Read → {q : ℕ} (run : Run (read_model file).model q) (j : ℕ) → j < (read_model file).model.steps → (i : ℕ) → i < (read_model file).model.n → run.inputs j i ≡ pos 0
-  no-input-runs e run j h i l = inputs-zero (read_model file).model (read_model-zero-input e) run j h i l
+  pub no-input-runs : {m : Model} → read_model file ≡ Ok m → {q : ℕ} (run : Run m q) (j : ℕ) → j < m.steps → (i : ℕ) → i < m.n → run.inputs j i ≡ pos 0
+  no-input-runs {m} e run j h i l = inputs-zero m (read_model-zero-input e) run j h i l
 
 -- File 10, File 15: of a file that is refused before such a place, bytes put in anywhere behind the record that it is refused at, the two
 -- records before a later direction or a drift behind a later row among them, change nothing.

@@ -11,13 +11,14 @@ use borrow.Author.Tests.{eqb-true, leb-true, ltb-true, le-ltb}
 use lib.Dec.{leb, ltb}
 use lib.ListN.{length}
 use lib.IntN.{pos}
+use Rattle.std.specs.Prelude.{Option, Some, None}
 use Rattle.integers.proofs.Machine.{get_or-tabulate}
 use Rattle.integers.proofs.Booleans.{and-true, or-false}
 use Rattle.records.specs.declared.kinds.Part.{Part}
 use Rattle.records.specs.declared.kinds.Part.TheVariants.{Initial, Input}
 use Rattle.records.specs.declared.kinds.Layout.{Layout}
 use Rattle.records.specs.declared.kinds.Point.{Point}
-use Rattle.records.specs.declared.kinds.Point.TheVariants.{NoPoint, Lower, Upper, Centre, Generator, Vertex}
+use Rattle.records.specs.declared.kinds.Point.TheVariants.{Lower, Upper, Centre, Generator, Vertex}
 use Rattle.records.specs.Places.{initial_place, input_place}
 use Rattle.records.specs.Kinds.{layout_of, part_of}
 use Rattle.records.proofs.KnownKinds.{most-le}
@@ -50,15 +51,15 @@ module _ (base place n : ℕ) (set : Set) (l : Layout) (body : List ℕ) (s : Se
   begun h = omega (arith, none-count s h, some)
 
   -- the point before is one of the same shape
-  alike : (p : Point) → point_may base place p ≡ true → shape_of p ≡ set.shape
-  alike NoPoint m = let z : ◌≡◌ {A = ℕ} 0 1 = cc in absurd (omega arith)
-  alike Lower m = absurd (begun (ltb-true place base m))
-  alike Upper m = sym (s.box (eqb-true place base m)).0
-  alike Centre m = absurd (begun (ltb-true place base m))
-  alike Generator m =
+  alike : (p : Option Point) → point_may base place p ≡ true → shape_of p ≡ set.shape
+  alike None m = let z : ◌≡◌ {A = ℕ} 0 1 = cc in absurd (omega arith)
+  alike (Some Lower) m = absurd (begun (ltb-true place base m))
+  alike (Some Upper) m = sym (s.box (eqb-true place base m)).0
+  alike (Some Centre) m = absurd (begun (ltb-true place base m))
+  alike (Some Generator) m =
       let both = and-true (leb (base + 2) place) (leb place (base + 3)) m in
       sym (s.zonotope (leb-true (base + 2) place both.0) (leb-true place (base + 3) both.1)).0
-  alike Vertex m = sym (s.vertices (eqb-true place (base + 4) (or-false (ltb place base) _ m (le-ltb place base (elim (dec_lt place base) [ yes h ↦ absurd (begun h) | no g ↦ omega (arith, g) ])))))
+  alike (Some Vertex) m = sym (s.vertices (eqb-true place (base + 4) (or-false (ltb place base) _ m (le-ltb place base (elim (dec_lt place base) [ yes h ↦ absurd (begun h) | no g ↦ omega (arith, g) ])))))
 
   one-more-at : OneMore set (with_point set l body)
   unfolding with_point

@@ -7,12 +7,13 @@ use Prim.Native.Nat.{ℕ, ◌+◌, ◌≤◌}
 use native.Mathlib.Omega.{arith}
 use borrow.Author.Tests.{ne_eqb, eqb-true, le-leb, lt-leb, leb-true}
 use lib.Dec.{eqb, leb, ltb}
+use Rattle.std.specs.Prelude.{Option, Some, None}
 use Rattle.integers.proofs.Booleans.{and-true, or-true}
 use Rattle.records.specs.declared.kinds.Part.{Part}
 use Rattle.records.specs.declared.kinds.Part.TheVariants.{Head, Row, Drift, Initial, Input, Direction, Guard, End}
 use Rattle.records.specs.declared.kinds.Layout.{Layout}
 use Rattle.records.specs.declared.kinds.Point.{Point}
-use Rattle.records.specs.declared.kinds.Point.TheVariants.{NoPoint, Lower, Upper, Centre, Generator, Vertex}
+use Rattle.records.specs.declared.kinds.Point.TheVariants.{Lower, Upper, Centre, Generator, Vertex}
 use Rattle.records.specs.Places.{start_place, rows_place, matrix_place, drift_place, initial_place, input_place, direction_place, guard_place}
 use Rattle.records.specs.Kinds.{layout_of, part_of}
 use Rattle.records.specs.Order.{order, listed, may_follow}
@@ -65,32 +66,32 @@ pub is_done-centre : (base place : ℕ) → place ≡ base + 2 → is_done base 
 is_done-centre base place h t = never (eqb place (base + 1)) (leb (base + 3) place) (ne_eqb place (base + 1) (λ e. omega arith)) (lt-leb (base + 3) place (omega arith)) t
 
 -- The place behind a point of that set.
-abbrev pub point_place : ℕ → Point → ℕ
-point_place base NoPoint = base
-point_place base Lower = base
-point_place base Upper = base + 1
-point_place base Centre = base + 2
-point_place base Generator = base + 3
-point_place base Vertex = base + 4
+abbrev pub point_place : ℕ → Option Point → ℕ
+point_place base None = base
+point_place base (Some Lower) = base
+point_place base (Some Upper) = base + 1
+point_place base (Some Centre) = base + 2
+point_place base (Some Generator) = base + 3
+point_place base (Some Vertex) = base + 4
 
 -- Where it may stand: an upper corner behind the lower one, a generator behind the centre or a generator, a vertex behind a vertex; and
 -- a lower corner, a centre and a vertex where no point was before.
-abbrev pub point_may : ℕ → ℕ → Point → Bool
-point_may base place NoPoint = false
-point_may base place Lower = ltb place base
-point_may base place Upper = eqb place base
-point_may base place Centre = ltb place base
-point_may base place Generator = leb (base + 2) place && leb place (base + 3)
-point_may base place Vertex = ltb place base || eqb place (base + 4)
+abbrev pub point_may : ℕ → ℕ → Option Point → Bool
+point_may base place None = false
+point_may base place (Some Lower) = ltb place base
+point_may base place (Some Upper) = eqb place base
+point_may base place (Some Centre) = ltb place base
+point_may base place (Some Generator) = leb (base + 2) place && leb place (base + 3)
+point_may base place (Some Vertex) = ltb place base || eqb place (base + 4)
 
 -- How many points the set may have with it.
-abbrev pub point_most : Point → ℕ
-point_most NoPoint = 16
-point_most Lower = 16
-point_most Upper = 16
-point_most Centre = 16
-point_most Generator = 9
-point_most Vertex = 16
+abbrev pub point_most : Option Point → ℕ
+point_most None = 16
+point_most (Some Lower) = 16
+point_most (Some Upper) = 16
+point_most (Some Centre) = 16
+point_most (Some Generator) = 9
+point_most (Some Vertex) = 16
 
 -- Entries of 4 bytes.
 abbrev pub is_plain : Layout → Bool
@@ -119,13 +120,13 @@ point-of base place l t =
       may = b.1;
     }
 
-point-range : (base : ℕ) (p : Point) → (base ≤ point_place base p) × (point_place base p ≤ base + 4)
-point-range base NoPoint = (omega arith, omega arith)
-point-range base Lower = (omega arith, omega arith)
-point-range base Upper = (omega arith, omega arith)
-point-range base Centre = (omega arith, omega arith)
-point-range base Generator = (omega arith, omega arith)
-point-range base Vertex = (omega arith, omega arith)
+point-range : (base : ℕ) (p : Option Point) → (base ≤ point_place base p) × (point_place base p ≤ base + 4)
+point-range base None = (omega arith, omega arith)
+point-range base (Some Lower) = (omega arith, omega arith)
+point-range base (Some Upper) = (omega arith, omega arith)
+point-range base (Some Centre) = (omega arith, omega arith)
+point-range base (Some Generator) = (omega arith, omega arith)
+point-range base (Some Vertex) = (omega arith, omega arith)
 
 pub point-low : {base place : ℕ} {l : Layout} → PointOf base place l → base ≤ l.place
 point-low {base} {place} {l} p = omega (arith, p.place_is, (point-range base l.point).0)

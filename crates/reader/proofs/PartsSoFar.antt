@@ -11,6 +11,7 @@ use borrow.Author.Tests.{le-leb, eq-eqb, eqb-true, leb-true, ltb-true, ltb-false
 use lib.Dec.{leb, ltb}
 use lib.ListN.{length, get_or-eq_default}
 use lib.IntN.{ℤ, pos, nat_abs}
+use Rattle.std.specs.Prelude.{Option, Some, None}
 use Rattle.integers.specs.Sums.{vector, tabulate}
 use Rattle.integers.proofs.Sums.{all_below-intro}
 use Rattle.integers.proofs.Machine.{get_or-tabulate}
@@ -26,7 +27,7 @@ use Rattle.limits.specs.Limits.{direction_limit, steps_ok, all_zero}
 use Rattle.reachability.specs.Limits.{set_accepted}
 use Rattle.records.specs.declared.kinds.Layout.{Layout}
 use Rattle.records.specs.declared.kinds.Point.{Point}
-use Rattle.records.specs.declared.kinds.Point.TheVariants.{NoPoint, Lower, Upper, Centre, Generator, Vertex}
+use Rattle.records.specs.declared.kinds.Point.TheVariants.{Lower, Upper, Centre, Generator, Vertex}
 use Rattle.records.specs.Places.{start_place, rows_place, matrix_place, drift_place, input_place, direction_place}
 use Rattle.filling.specs.Models.{shape_of, zeros, blank_set, put_row}
 use Rattle.columns.specs.Columns.{entry_at, unused_zero, six_at}
@@ -154,13 +155,13 @@ module _ (base place n : ℕ) (set : Set) (l : Layout) (body : List ℕ) (s : Se
   abbrev block : List ℤ
   block = put_row set.points set.count (six_at body l.first)
 
-  most-is : (p : Point) → point_most p ≤ 16
-  most-is NoPoint = omega arith
-  most-is Lower = omega arith
-  most-is Upper = omega arith
-  most-is Centre = omega arith
-  most-is Generator = omega arith
-  most-is Vertex = omega arith
+  most-is : (p : Option Point) → point_most p ≤ 16
+  most-is None = omega arith
+  most-is (Some Lower) = omega arith
+  most-is (Some Upper) = omega arith
+  most-is (Some Centre) = omega arith
+  most-is (Some Generator) = omega arith
+  most-is (Some Vertex) = omega arith
 
   count-few : set.count < 16
   count-few = omega (arith, few, of.most-le, most-is l.point)
@@ -184,42 +185,42 @@ module _ (base place n : ℕ) (set : Set) (l : Layout) (body : List ℕ) (s : Se
       tested u b t e = sym (ap (λ (x : Bool). not x || b) t) ∙ e
 
   -- the set with its point, where its count and its corners are right
-  whole : {p : Point} → l.point ≡ p → count_ok (shape_of p) count ≡ true → ordered_ok n (shape_of p) (points block) ≡ true → set_ok n (shape_of l.point) count block ≡ true
+  whole : {p : Option Point} → l.point ≡ p → count_ok (shape_of p) count ≡ true → ordered_ok n (shape_of p) (points block) ≡ true → set_ok n (shape_of l.point) count block ≡ true
   whole e c o =
-      ap₂ ◌&&◌ (ap (λ (q : Point). count_ok (shape_of q) count) e ∙ c)
-      (ap₂ ◌&&◌ (zero_outside-of count n block block-zeros) (ap₂ ◌&&◌ reach-ok (ap (λ (q : Point). ordered_ok n (shape_of q) (points block)) e ∙ o)))
+      ap₂ ◌&&◌ (ap (λ (q : Option Point). count_ok (shape_of q) count) e ∙ c)
+      (ap₂ ◌&&◌ (zero_outside-of count n block block-zeros) (ap₂ ◌&&◌ reach-ok (ap (λ (q : Option Point). ordered_ok n (shape_of q) (points block)) e ∙ o)))
 
   -- by the point, what its set is and what the next point may be
-  record Behind (p : Point) (next : ℕ) : Type 0 where
+  record Behind (p : Option Point) (next : ℕ) : Type 0 where
     box : next ≡ base → (shape_of p ≡ Box) × (count ≡ 1)
     zonotope : base + 2 ≤ next → next ≤ base + 3 → shape_of p ≡ Zonotope
     vertices : next ≡ base + 4 → shape_of p ≡ Vertices
     done : is_done base next ≡ true → set_ok n (shape_of l.point) count block ≡ true
 
-  behind : (p : Point) → l.point ≡ p → point_may base place p ≡ true → set.count < point_most p → Behind p (point_place base p)
-  behind NoPoint e m c = let z : ◌≡◌ {A = ℕ} 0 1 = cc in absurd (omega arith)
-  behind Lower e m c =
+  behind : (p : Option Point) → l.point ≡ p → point_may base place p ≡ true → set.count < point_most p → Behind p (point_place base p)
+  behind None e m c = let z : ◌≡◌ {A = ℕ} 0 1 = cc in absurd (omega arith)
+  behind (Some Lower) e m c =
       record {
         box = λ f. (refl, ap (λ (k : ℕ). k + 1) (none-count s (ltb-true place base m)));
         zonotope = λ a b. absurd (omega arith);
         vertices = λ f. absurd (omega arith);
         done = λ t. absurd (is_done-early base base (omega arith) t);
       }
-  behind Upper e m c =
+  behind (Some Upper) e m c =
       record {
         box = λ f. absurd (omega arith);
         zonotope = λ a b. absurd (omega arith);
         vertices = λ f. absurd (omega arith);
         done = λ t. whole e (eq-eqb count 2 (omega (arith, (s.box (eqb-true place base m)).1))) (ordered (ap is_upper e));
       }
-  behind Centre e m c =
+  behind (Some Centre) e m c =
       record {
         box = λ f. absurd (omega arith);
         zonotope = λ a b. refl;
         vertices = λ f. absurd (omega arith);
         done = λ t. absurd (is_done-centre base (base + 2) refl t);
       }
-  behind Generator e m c =
+  behind (Some Generator) e m c =
       let both = and-true (leb (base + 2) place) (leb place (base + 3)) m in
       let some = (s.zonotope (leb-true (base + 2) place both.0) (leb-true place (base + 3) both.1)).1 in
       record {
@@ -228,7 +229,7 @@ module _ (base place n : ℕ) (set : Set) (l : Layout) (body : List ℕ) (s : Se
         vertices = λ f. absurd (omega arith);
         done = λ t. whole e (ap₂ ◌&&◌ (le-leb 2 count (omega (arith, some))) (le-leb count 9 (omega arith))) refl;
       }
-  behind Vertex e m c =
+  behind (Some Vertex) e m c =
       record {
         box = λ f. absurd (omega arith);
         zonotope = λ a b. absurd (omega arith);

@@ -12,12 +12,12 @@ use lib.ListN.{length, take, drop, take-append-drop}
 use lib.Seq.{length-take-le}
 use Rattle.records.specs.Kinds.{part_of}
 use Rattle.records.specs.Records.{Record, record_at, record_kind}
-use Rattle.reader.specs.declared.Status.TheVariants.{Read}
-use Rattle.reader.specs.declared.Reading.{Reading}
+use Rattle.std.specs.Prelude.{Ok}
+use Rattle.reachability.specs.declared.model.Model.{Model}
 use Rattle.reader.specs.declared.state.State.{State}
 use Rattle.reader.specs.Models.{start}
 use Rattle.reader.specs.Refusals.{kind_number, refusal, stored}
-use Rattle.reader.specs.Reading.{is_end, behind, stored_record, stop_for, stop_from, refused, read_from, read_model, status_number}
+use Rattle.reader.specs.Reading.{is_end, behind, stored_record, stop_for, stop_from, refused, read_from, read_model}
 use Rattle.reader.specs.LeftOut.{put_in, moved}
 use Rattle.reader.proofs.ReadingOn.{goes_on-true, stop_for-ind, stop_for-inside, read_from-next, read_from-refused, read_from-nothing, read_from-comes}
 use Rattle.reader.proofs.ReadingRest.{read_from-more-before, read_from-same-start}
@@ -58,9 +58,9 @@ read_model-put-in file turns more t brings on =
 
 -- Of a file that is read: what the record at a place brings, which is then not the end, and every later one keeps, holds of the state
 -- whose model is read.
-pub read_model-behind : (P : State → Type 0) → ((s : State) (kind : ℕ) (body : List ℕ) → kind_number s kind ≡ 0 → P s → P (stored s kind body)) → (file : List ℕ) (turns : ℕ) → (refusal (stop_for turns file 0 start).state (record_at file (stop_for turns file 0 start).at) ≡ 0 → (is_end (part_of (record_kind (record_at file (stop_for turns file 0 start).at))) ≡ false) × P (stored_record (stop_for turns file 0 start).state (record_at file (stop_for turns file 0 start).at))) → (read_model file).status ≡ Read → (last : State) × P last × ((read_model file).model ≡ last.model)
+pub read_model-behind : (P : State → Type 0) → ((s : State) (kind : ℕ) (body : List ℕ) → kind_number s kind ≡ 0 → P s → P (stored s kind body)) → (file : List ℕ) (turns : ℕ) → (refusal (stop_for turns file 0 start).state (record_at file (stop_for turns file 0 start).at) ≡ 0 → (is_end (part_of (record_kind (record_at file (stop_for turns file 0 start).at))) ≡ false) × P (stored_record (stop_for turns file 0 start).state (record_at file (stop_for turns file 0 start).at))) → {m : Model} → read_model file ≡ Ok m → (last : State) × P last × (m ≡ last.model)
 unfolding read_model
-read_model-behind P keeps file turns brings e = by (eqb (refusal s here) 0) refl
+read_model-behind P keeps file turns brings {m} e = by (eqb (refusal s here) 0) refl
   where
     at : ℕ
     at = (stop_for turns file 0 start).at
@@ -74,17 +74,17 @@ read_model-behind P keeps file turns brings e = by (eqb (refusal s here) 0) refl
     comes : read_from file 0 start ≡ read_from file at s
     comes = read_from-comes file turns 0 start
 
-    told : {number offset : ℕ} → read_from file at s ≡ refused number offset → number ≡ 0
-    told is = sym (ap (λ (r : Reading). status_number r.status) (comes ∙ is)) ∙ ap status_number e
+    never : (number offset : ℕ) → read_from file at s ≡ refused number offset → ⊥
+    never number offset is = let z = sym (comes ∙ is) ∙ e in let u : ◌≡◌ {A = ℕ} 0 1 = cc in omega arith
 
-    by : (b : Bool) → eqb (refusal s here) 0 ≡ b → (last : State) × P last × ((read_from file 0 start).model ≡ last.model)
+    by : (b : Bool) → eqb (refusal s here) 0 ≡ b → (last : State) × P last × (m ≡ last.model)
     by true t =
         let z = eqb-true (refusal s here) 0 t in
         let is = comes ∙ read_from-next file at s (goes_on-true file at s (ap₂ ◌&&◌ t (ap not (brings z).0))) in (
           (stop_from file (behind at here) (stored_record s here)).state,
           stop_for-ind file (λ p. P p.state) (λ a u kind body k g. keeps u kind body g.allowed k) (suc (length file - behind at here)) (behind at here) (stored_record s here) (brings z).1,
-          ap (λ (r : Reading). r.model) is ∙ read_from-model file (behind at here) (stored_record s here) (sym (ap (λ (r : Reading). r.status) is) ∙ e),
+          read_from-model file (behind at here) (stored_record s here) (sym is ∙ e),
         )
     by false t =
         let ne = eqb-false (refusal s here) 0 t in
-        absurd (ne (elim (dec_lt at (length file)) [ yes h ↦ told (read_from-refused file at s refl ne h) | no k ↦ told (read_from-nothing file at s refl ne (omega (arith, k))) ]))
+        absurd (elim (dec_lt at (length file)) [ yes h ↦ never _ _ (read_from-refused file at s refl ne h) | no k ↦ never _ _ (read_from-nothing file at s refl ne (omega (arith, k))) ])

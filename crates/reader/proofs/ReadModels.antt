@@ -3,10 +3,10 @@
 use mathlib.Core.Path.{◌≡◌, refl, sym, ap, ap₂, subst, ◌∙◌}
 use mathlib.Core.Bool.{Bool, true, false, cond, not, ◌&&◌}
 use mathlib.Core.List.{List}
-use Prim.Native.Nat.{ℕ, zero, suc, ◌+◌, ◌*◌, ◌-◌, ◌≤◌, ◌<◌}
+use Prim.Native.Nat.{ℕ, zero, suc, ◌+◌, ◌*◌, ◌-◌, ◌≤◌}
 use native.Mathlib.Decide.{dec_lt}
 use native.Mathlib.Omega.{arith}
-use borrow.Author.Tests.{le-leb, leb-true, eq-eqb, eqb-true, lt-ltb, le-ltb, ltb-false}
+use borrow.Author.Tests.{le-leb, leb-true, eq-eqb, eqb-true, eqb-false, lt-ltb, le-ltb, ltb-false}
 use lib.Dec.{eqb, ltb}
 use lib.ListN.{length, take, length-take}
 use lib.Seq.{take_all}
@@ -21,15 +21,15 @@ use Rattle.reachability.proofs.motion.Laws.{motion_ok-of}
 use Rattle.reachability.proofs.model.Facts.{accepted-of}
 use Rattle.reachability.specs.Limits.{accepted}
 use Rattle.reachability.specs.Motion.{rows_of}
-use Rattle.reader.specs.declared.Status.TheVariants.{Read}
-use Rattle.reader.specs.declared.Reading.{Reading}
+use Rattle.std.specs.Prelude.{Result, Ok}
+use Rattle.reachability.specs.declared.model.Model.{Model}
+use Rattle.reader.specs.declared.refusals.Refused.{Refused}
 use Rattle.reader.specs.declared.state.State.{State}
 use Rattle.records.specs.declared.kinds.Layout.{Layout}
 use Rattle.records.specs.declared.kinds.Part.{Part}
 use Rattle.records.specs.declared.kinds.Part.TheVariants.{Head, Row, Drift, Initial, Input, Direction, Guard, End}
 use Rattle.records.specs.Places.{initial_place, input_place, direction_place}
 use Rattle.records.specs.Kinds.{layout_of, part_of}
-use Rattle.filling.specs.Models.{blank_model}
 use Rattle.reader.specs.Models.{start}
 use Rattle.reader.specs.Refusals.{refusal, stored}
 use Rattle.reader.specs.Reading.{is_end, Stop, stop_here, goes_on, behind, stored_record, stop_for, stop_from, number_at, offset_at, refused, read_as, reading_at, read_from, read_model, read_number, read_offset, status_number, status_offset, Reads}
@@ -41,31 +41,32 @@ use Rattle.reader.proofs.OrderFacts.{fact, order-fact, is_done-late}
 use Rattle.reader.proofs.PartsSoFar.{n-most}
 use Rattle.reader.proofs.AcceptedSoFar.{AcceptedSoFar, accepted_so_far-start, accepted_so_far-stored}
 use Rattle.reader.proofs.Sizes.{used, used-stored, used_le}
+use Rattle.reader.proofs.FileNumbers.{Numbered, file_number-of}
+use Rattle.reader.proofs.RecordNumbers.{number_at-numbered}
 
 -- ---- the number and the offset of a file
 
 -- What a reading tells of its number and offset.
-record Tells (r : Reading) (number offset : ℕ) : Type 0 where
-  number_is : status_number r.status ≡ number
-  offset-is : status_offset r.status ≡ cond (eqb number 0) 0 offset
-  blank : 0 < number → r.model ≡ blank_model
+record Tells (r : Result Model Refused) (number offset : ℕ) : Type 0 where
+  number_is : status_number r ≡ number
+  offset-is : status_offset r ≡ cond (eqb number 0) 0 offset
 
 reading_at-tells : (file : List ℕ) (p : Stop) → Tells (reading_at file p) (number_at file p) (offset_at file p)
 unfolding reading_at
-reading_at-tells file p = split (number_at file p) (offset_at file p) (eqb (number_at file p) 0) refl
+reading_at-tells file p = split (number_at file p) (offset_at file p) (number_at-numbered file p) (eqb (number_at file p) 0) refl
   where
-    split : (n o : ℕ) (b : Bool) → eqb n 0 ≡ b → Tells (cond (eqb n 0) (read_as p.state.model) (refused n o)) n o
-    split n o true e =
+    split : (n o : ℕ) → Numbered n → (b : Bool) → eqb n 0 ≡ b → Tells (cond (eqb n 0) (read_as p.state.model) (refused n o)) n o
+    split n o k true e =
         let z = eqb-true n 0 e in
-        subst (λ (m : ℕ). Tells (cond (eqb m 0) (read_as p.state.model) (refused m o)) m o) (sym z) (record { number_is = refl; offset-is = refl; blank = λ h. absurd (omega arith) })
-    split n o false e = rw e (record { number_is = refl; offset-is = rw e refl; blank = λ h. refl })
+        subst (λ (m : ℕ). Tells (cond (eqb m 0) (read_as p.state.model) (refused m o)) m o) (sym z) (record { number_is = refl; offset-is = refl })
+    split n o k false e = rw e (record { number_is = file_number-of k (eqb-false n 0 e); offset-is = rw e refl })
 
-pub reads_of : (file : List ℕ) {r : Reading} → r ≡ read_model file → Reads file r
+pub reads_of : (file : List ℕ) {r : Result Model Refused} → r ≡ read_model file → Reads file r
 unfolding read_model read_from read_number read_offset
 reads_of file {r} e =
     subst (Reads file) (sym e)
     (let t = reading_at-tells file (stop_from file 0 start) in
-    record { answer = refl; number = t.number_is; offset = t.offset-is; blank = t.blank })
+    record { answer = refl; number = t.number_is; offset = t.offset-is })
 
 -- ---- where a file is read
 
@@ -85,12 +86,12 @@ reachable-start : Reachable (stop_here 0 start)
 reachable-start = record { so_far = accepted_so_far-start; within = omega arith }
 
 -- The state before the end record, at the offset of that record.
-pub record Reached (file : List ℕ) (r : Reading) : Type 0 where
+pub record Reached (file : List ℕ) (m : Model) : Type 0 where
   pub last : Stop
   pub reachable : Reachable last
   pub ends : direction_place ≤ last.state.place
   pub length-le : length file ≤ last.at + 1
-  pub model_is : r.model ≡ last.state.model
+  pub model_is : m ≡ last.state.model
 
 -- where an end may stand
 pub end-place : (p : Part) (place : ℕ) (l : Layout) → is_end p ≡ true → fact p place l ≡ true → direction_place ≤ place
@@ -119,14 +120,16 @@ module _ (file : List ℕ) (p : Stop) where
   no_more true t z = absurd (omega arith)
   no_more false t z = omega (arith, ltb-false (p.at + 1) (length file) t)
 
-  reading_at-model : number_at file p ≡ 0 → (reading_at file p).model ≡ p.state.model
-  unfolding reading_at
-  reading_at-model n = ap (λ (b : Bool). (cond b (read_as p.state.model) (refused (number_at file p) (offset_at file p))).model) (eq-eqb (number_at file p) 0 n)
-
-  reading_at-number : (reading_at file p).status ≡ Read → number_at file p ≡ 0
+  reading_at-number : {m : Model} → reading_at file p ≡ Ok m → number_at file p ≡ 0
   reading_at-number e = sym (reading_at-tells file p).number_is ∙ ap status_number e
 
-  reading_at-reached : Reachable p → goes_on p.state here ≡ false → (reading_at file p).status ≡ Read → Reached file (reading_at file p)
+  reading_at-model : {m : Model} → reading_at file p ≡ Ok m → m ≡ p.state.model
+  unfolding reading_at
+  reading_at-model e =
+      let is = ap (λ (b : Bool). cond b (read_as p.state.model) (refused (number_at file p) (offset_at file p))) (eq-eqb (number_at file p) 0 (reading_at-number e)) in
+      cc
+
+  reading_at-reached : Reachable p → goes_on p.state here ≡ false → {m : Model} → reading_at file p ≡ Ok m → Reached file m
   unfolding number_at
   reading_at-reached r stops e =
       let n = reading_at-number e in
@@ -138,22 +141,22 @@ module _ (file : List ℕ) (p : Stop) where
         reachable = r;
         ends = end-place (part_of (record_kind here)) p.state.place (layout_of (record_kind here)) (end-here stops both.0 (is_end (part_of (record_kind here))) refl) (order-fact p.state.place (record_kind here) (kind_number-zero p.state (record_kind here) allowed).0);
         length-le = no_more (ltb (p.at + 1) (length file)) refl both.1;
-        model_is = reading_at-model n;
+        model_is = reading_at-model e;
       }
 
 -- Where a file is read, nothing is refused at the end record, and its model is that of the state before it.
-pub read_from-number : (file : List ℕ) (at : ℕ) (s : State) → (read_from file at s).status ≡ Read → number_at file (stop_from file at s) ≡ 0
+pub read_from-number : (file : List ℕ) (at : ℕ) (s : State) {m : Model} → read_from file at s ≡ Ok m → number_at file (stop_from file at s) ≡ 0
 unfolding read_from
 read_from-number file at s e = reading_at-number file (stop_from file at s) e
 
-pub read_from-model : (file : List ℕ) (at : ℕ) (s : State) → (read_from file at s).status ≡ Read → (read_from file at s).model ≡ (stop_from file at s).state.model
+pub read_from-model : (file : List ℕ) (at : ℕ) (s : State) {m : Model} → read_from file at s ≡ Ok m → m ≡ (stop_from file at s).state.model
 unfolding read_from
-read_from-model file at s e = reading_at-model file (stop_from file at s) (reading_at-number file (stop_from file at s) e)
+read_from-model file at s e = reading_at-model file (stop_from file at s) e
 
 pub reachable-stop : (file : List ℕ) (turns : ℕ) → Reachable (stop_for turns file 0 start)
 reachable-stop file turns = stop_for-ind file Reachable (reachable-next file) turns 0 start reachable-start
 
-pub read_model-reached : (file : List ℕ) → (read_model file).status ≡ Read → Reached file (read_model file)
+pub read_model-reached : (file : List ℕ) {m : Model} → read_model file ≡ Ok m → Reached file m
 unfolding read_model read_from
 read_model-reached file e =
     reading_at-reached file (stop_from file 0 start) (reachable-stop file (suc (length file - 0))) (stop_for-stops file (suc (length file - 0)) 0 start (omega arith)) e
@@ -189,14 +192,14 @@ accepted-state s g late =
         (ap₂ ◌&&◌ (zero_outside-of s.model.questions.directions s.model.n s.model.questions.entries g.directions.entries-zeros)
         (ap₂ ◌&&◌ (all_between-of direction_limit s.model.questions.entries g.directions.entries-small) (some_nonzero-of s.model.questions.directions s.model.questions.entries g.directions.nonzero)))
 
-pub read_model-accepted : (file : List ℕ) → (read_model file).status ≡ Read → accepted (read_model file).model ≡ true
+pub read_model-accepted : (file : List ℕ) {m : Model} → read_model file ≡ Ok m → accepted m ≡ true
 read_model-accepted file e =
     let r = read_model-reached file e in
     ap accepted r.model_is ∙ accepted-state r.last.state r.reachable.so_far r.ends
 
 -- ---- File 9
 
-pub read_model-length : (file : List ℕ) → (read_model file).status ≡ Read → length file ≤ 1690
+pub read_model-length : (file : List ℕ) {m : Model} → read_model file ≡ Ok m → length file ≤ 1690
 read_model-length file e =
     let r = read_model-reached file e in
     omega (arith, r.length-le, r.reachable.within, used_le r.last.state r.reachable.so_far)

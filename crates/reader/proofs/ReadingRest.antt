@@ -14,13 +14,13 @@ use lib.Seq.{length-take-le}
 use Rattle.arrays.specs.Tests.{first_of}
 use Rattle.records.specs.Records.{Record, record_at, record_kind, record_body}
 use Rattle.records.proofs.RecordAt.{whole_of, record_at-cons, Reaches, reaches_whole, record_at-within}
-use Rattle.reader.specs.declared.Status.{Status}
-use Rattle.reader.specs.declared.Status.TheVariants.{Read, Refused}
-use Rattle.reader.specs.declared.Reading.{Reading}
+use Rattle.std.specs.Prelude.{Result, Ok, Err}
+use Rattle.reachability.specs.declared.model.Model.{Model}
+use Rattle.reader.specs.declared.refusals.Refused.{Refused}
 use Rattle.reader.specs.declared.state.State.{State}
 use Rattle.reader.specs.Refusals.{refusal}
 use Rattle.reader.specs.Reading.{Stop, stop_here, goes_on, behind, stored_record, stop_for, number_at, offset_at, refused, read_as, reading_at, read_from}
-use Rattle.reader.specs.LeftOut.{moved_status, moved}
+use Rattle.reader.specs.LeftOut.{moved}
 use Rattle.reader.proofs.ReadingOn.{goes_on-true, stop_for-forward, read_from-next, read_from-refused, read_from-comes}
 
 -- ---- one byte more before an offset
@@ -87,19 +87,18 @@ module _ (byte : ℕ) (file : List ℕ) where
 
 -- ---- bytes before an offset
 
-moved-moved : (j k : ℕ) {m : ℕ} (r : Reading) → m ≡ j + k → moved j (moved k r) ≡ moved m r
-moved-moved j k {m} r e = ap (λ (t : Status). record { status = t; model = r.model }) (by r.status)
-  where
-    by : (t : Status) → moved_status j (moved_status k t) ≡ moved_status m t
-    by Read = refl
-    by (Refused number offset) = ap (Refused number) (omega arith)
+at_offset : Refused → ℕ → Result Model Refused
+at_offset e offset = Err (record { refusal = e.refusal; offset = offset })
 
-moved_none : (r : Reading) → moved 0 r ≡ r
-moved_none r = ap (λ (t : Status). record { status = t; model = r.model }) (by r.status)
-  where
-    by : (t : Status) → moved_status 0 t ≡ t
-    by Read = refl
-    by (Refused number offset) = ap (Refused number) (omega arith)
+moved-moved : (j k : ℕ) {m : ℕ} (r : Result Model Refused) → m ≡ j + k → moved j (moved k r) ≡ moved m r
+unfolding at_offset
+moved-moved j k (Ok m) e = refl
+moved-moved j k (Err x) e = ap (at_offset x) (omega arith)
+
+moved_none : (r : Result Model Refused) → moved 0 r ≡ r
+unfolding at_offset
+moved_none (Ok m) = refl
+moved_none (Err x) = ap (at_offset x) (omega arith)
 
 read_from-moved : (before rest : List ℕ) (s : State) → read_from (before ++ rest) (length before) s ≡ moved (length before) (read_from rest 0 s)
 read_from-moved [] rest s = sym (moved_none (read_from rest 0 s))

@@ -12,14 +12,13 @@ use Rattle.records.specs.Records.{record_at}
 use Rattle.numbers.specs.Numbers.{little_endian}
 use Rattle.reachability.specs.declared.sets.Shape.TheVariants.{Box}
 use Rattle.reachability.specs.declared.model.Model.{Model}
-use Rattle.reader.specs.declared.Status.TheVariants.{Read}
 use Rattle.records.specs.Order.{may_follow}
 use Rattle.filling.specs.Models.{zeros, blank_set, blank_model, put_row}
 use Rattle.columns.specs.Columns.{six_at, unused_zero}
 use Rattle.reader.specs.Models.{start, with_head, with_row, with_point, with_set_point, with_direction, with_guard}
 use Rattle.reader.specs.Values.{body_number, row_number, point_ok, direction_ok}
 use Rattle.reader.specs.Refusals.{kind_number, refusal, stored}
-use Rattle.reader.specs.Reading.{stop_for, number_at, offset_at, reading_at, read_from, read_model, refused}
+use Rattle.reader.specs.Reading.{stop_for, number_at, offset_at, reading_at, read_as, read_from, read_model, refused}
 
 -- One coordinate in four bytes, and five unused ones.
 abbrev point : ℕ → ℕ → List ℕ
@@ -64,7 +63,7 @@ pub sample-length : length sample ≡ 186
 unfolding sample
 sample-length = refl
 
-pub sample-read : read_model sample ≡ record { status = Read; model = sample_model }
+pub sample-read : read_model sample ≡ read_as sample_model
 unfolding all_below unused_zero sum_ℕ max_ℕ body_length record_at little_endian may_follow layout_of zeros blank_set blank_model start six_at put_row with_head with_row with_point with_set_point with_direction with_guard scaled_entry first_number row_number point_ok direction_ok body_number kind_number refusal stored stop_for number_at offset_at reading_at read_from read_model sample sample_model
 sample-read = refl
 

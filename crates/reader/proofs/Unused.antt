@@ -24,7 +24,8 @@ use Rattle.numbers.proofs.LittleEndian.{little_endian-lt}
 use Rattle.records.proofs.RecordAt.{record_at-nothing, whole_of, whole-bytes}
 use Rattle.columns.specs.Columns.{entry_at, fitted_width, bits_at, unused_zero}
 use Rattle.columns.proofs.ColumnLaws.{entry_zero-is, column_zero-fitted, column_zero-whole, unused_zero-at, unused_zero-none}
-use Rattle.reader.specs.declared.Status.TheVariants.{Read}
+use Rattle.std.specs.Prelude.{Ok}
+use Rattle.reachability.specs.declared.model.Model.{Model}
 use Rattle.reader.specs.declared.state.State.{State}
 use Rattle.filling.specs.Models.{blank_model}
 use Rattle.reader.specs.Models.{start, with_row, with_drift, with_set_point, with_direction, with_guard}
@@ -185,9 +186,9 @@ module _ (file : List ℕ) (bytes : AllBytes file) where
 
 -- ---- all records of a file
 
-pub read_model-unused-zero : (file : List ℕ) → AllBytes file → (read_model file).status ≡ Read → (k : ℕ) → UnusedIn (read_model file).model.n (record_no file k)
+pub read_model-unused-zero : (file : List ℕ) → AllBytes file → {m : Model} → read_model file ≡ Ok m → (k : ℕ) → UnusedIn m.n (record_no file k)
 unfolding read_model
 read_model-unused-zero file bytes e k =
     unused-kind (record_kind (record_no file k))
-    (subst (λ (n : ℕ). LayoutIn n (record_no file k)) (sym (ap (λ m. m.n) (read_from-model file 0 start e)))
+    (subst (λ (n : ℕ). LayoutIn n (record_no file k)) (sym (ap (λ (x : Model). x.n) (read_from-model file 0 start e)))
     (unused-from file bytes (suc (length file - 0)) 0 start accepted_so_far-start (omega arith) (read_from-number file 0 start e) k))

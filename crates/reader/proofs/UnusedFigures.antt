@@ -14,7 +14,7 @@ use Rattle.records.specs.Records.{record_at}
 use Rattle.numbers.specs.Numbers.{little_endian}
 use Rattle.records.specs.Order.{may_follow}
 use Rattle.columns.specs.Columns.{unused_zero, six_at}
-use Rattle.reader.specs.declared.Status.TheVariants.{Read}
+use Rattle.std.specs.Prelude.{IsOk}
 use Rattle.filling.specs.Models.{zeros, blank_set, blank_model, put_row}
 use Rattle.reader.specs.Models.{start, with_head, with_row, with_drift, with_point, with_set_point, with_direction}
 use Rattle.reader.specs.Values.{body_number, row_number, drift_ok, point_ok, direction_ok}
@@ -34,11 +34,11 @@ unclean row low high drift =
     ++ (0x30 ∷ 1 ∷ replicate 23 0)
     ++ (0xFF ∷ [])
 
-pub negative-zero-read : (read_model (unclean 0 0 0x80 0)).status ≡ Read
+pub negative-zero-read : IsOk (read_model (unclean 0 0 0x80 0))
 unfolding all_below unused_zero is_zero sum_ℕ max_ℕ binary64_unit magnitude_of nearest_even fitted_ok fitted_entry entry_of_bits first_number body_length record_at little_endian may_follow layout_of zeros blank_set blank_model start six_at put_row with_head with_row with_drift with_point with_set_point with_direction row_number drift_ok point_ok direction_ok body_number kind_number refusal stored stop_for number_at reading_at read_from read_model
 negative-zero-read = refl
 
-pub negative-zero-stored : (read_model (unclean 0 0 0x80 0)).model ≡ (read_model (unclean 0 0 0 0)).model
+pub negative-zero-stored : read_model (unclean 0 0 0x80 0) ≡ read_model (unclean 0 0 0 0)
 unfolding all_below unused_zero is_zero sum_ℕ max_ℕ binary64_unit magnitude_of nearest_even fitted_ok fitted_entry entry_of_bits first_number body_length record_at little_endian may_follow layout_of zeros blank_set blank_model start six_at put_row with_head with_row with_drift with_point with_set_point with_direction row_number drift_ok point_ok direction_ok body_number kind_number refusal stored stop_for number_at reading_at read_from read_model
 negative-zero-stored = refl
 

@@ -1,26 +1,40 @@
 -- What the inner functions promise to each other. Definitions only; no public contract cites them. Assumes nothing.
-use Rattle.std.specs.Prelude.{◌≡◌, List, ℕ, ◌≤◌, ◌<◌, length}
-use Rattle.reader.specs.declared.Reading.{Reading}
+use Rattle.std.specs.Prelude.{◌≡◌, true, false, List, ℕ, Option, Result, MatchOption, MatchResult}
+use Rattle.arrays.specs.Tests.{first_of}
+use Rattle.records.specs.declared.kinds.Layout.{Layout}
+use Rattle.records.specs.Kinds.{layout_of, part_of}
+use Rattle.records.specs.Records.{Record, record_at, record_kind}
+use Rattle.columns.specs.Columns.{unused_zero}
+use Rattle.reader.specs.declared.refusals.FileRefusal.{FileRefusal}
 use Rattle.reader.specs.declared.state.State.{State}
-use Rattle.reader.specs.declared.take.Taken.{Taken}
-use Rattle.reader.specs.declared.advance.Outcome.{Outcome}
-use Rattle.reader.specs.declared.advance.Outcome.TheVariants.{Next, Ended, Stopped}
-use Rattle.reader.specs.declared.advance.Advanced.{Advanced}
-use Rattle.reader.specs.Reading.{refused, read_as, read_from}
+use Rattle.reader.specs.FileNumbers.{file_number}
+use Rattle.reader.specs.Values.{unless, value_number}
+use Rattle.reader.specs.Refusals.{kind_number, refusal}
+use Rattle.reader.specs.Reading.{is_end, behind, stored_record}
+
+-- What a test with this number gives: it passes where the number is 0, and else refuses by it.
+abbrev pub Tested : ℕ → Result (Unit {0}) FileRefusal → Type 0
+Tested number r = MatchResult r (λ _. number ≡ 0) (λ e. number ≡ file_number e)
+
+-- What admitting a kind gives: its layout, or the kind's number.
+abbrev pub Admits : State → ℕ → Result Layout FileRefusal → Type 0
+Admits s kind r = MatchResult r (λ l. (kind_number s kind ≡ 0) × (l ≡ layout_of kind)) (λ e. kind_number s kind ≡ file_number e)
+
+-- The number of a body by its layout: `body_number` of a kind is that of its own.
+abbrev pub layout_number : State → Layout → List ℕ → ℕ
+layout_number s l body = first_of (unless (unused_zero s.model.n l body) 16) (value_number l.part s l body)
 
 -- What taking a record gives: its number and, where that is 0, the state behind it.
-pub record Takes (number : ℕ) (next : State) (r : Taken) : Type 0 where
-  pub number_is : r.number ≡ number
-  pub state-is : number ≡ 0 → r.state ≡ next
+abbrev pub Takes : ℕ → State → Result (Unit {0}) FileRefusal → State → Type 0
+Takes number next r t = MatchResult r (λ _. (number ≡ 0) × (t ≡ next)) (λ e. number ≡ file_number e)
 
--- The reading of a file, of which a record has this outcome and leaves this state.
-abbrev pub followed : List ℕ → Outcome → State → Reading
-followed file (Next at) s = read_from file at s
-followed file Ended s = read_as s.model
-followed file (Stopped number offset) s = refused number offset
+-- What advancing over a record at an offset gives: its number; where that is 0, the state behind it, and the offset there, none behind
+-- the end.
+abbrev pub AdvancesOver : Record → ℕ → State → Result (Option ℕ) FileRefusal → State → Type 0
+AdvancesOver r at s answer t =
+    MatchResult answer
+    (λ o. (refusal s r ≡ 0) × (t ≡ stored_record s r) × MatchOption o (is_end (part_of (record_kind r)) ≡ true) (λ next. (is_end (part_of (record_kind r)) ≡ false) × (next ≡ behind at r)))
+    (λ e. refusal s r ≡ file_number e)
 
--- What advancing over the record at an offset does: the reading is that of the file from there; where reading goes on, it goes on
--- behind that record, inside the file.
-pub record Advances (file : List ℕ) (at : ℕ) (s : State) (r : Advanced) : Type 0 where
-  pub reads : followed file r.outcome r.state ≡ read_from file at s
-  pub forward : (next : ℕ) → r.outcome ≡ Next next → (at < next) × (next ≤ length file)
+abbrev pub Advances : List ℕ → ℕ → State → Result (Option ℕ) FileRefusal → State → Type 0
+Advances file at s answer t = AdvancesOver (record_at file at) at s answer t

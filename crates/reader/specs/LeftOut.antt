@@ -1,12 +1,11 @@
 -- File 6, 10 and 15: what is said of files in which a part that may be left out is left out. Definitions only, for laws of `read_model`
 -- and of the replies; no contract cites them. Assumes nothing.
-use Rattle.std.specs.Prelude.{◌≡◌, Bool, true, List, ◌++◌, ℕ, ◌+◌, ◌≤◌, take, drop, replicate}
+use Rattle.std.specs.Prelude.{◌≡◌, Bool, true, List, ◌++◌, ℕ, ◌+◌, ◌≤◌, take, drop, replicate, Result, Ok, Err}
+use Rattle.reachability.specs.declared.model.Model.{Model}
 use Rattle.records.specs.Kinds.{layout_of}
 use Rattle.records.specs.Order.{may_follow}
 use Rattle.records.specs.Records.{record_at, record_kind}
-use Rattle.reader.specs.declared.Status.{Status}
-use Rattle.reader.specs.declared.Status.TheVariants.{Read, Refused}
-use Rattle.reader.specs.declared.Reading.{Reading}
+use Rattle.reader.specs.declared.refusals.Refused.{Refused}
 use Rattle.reader.specs.Reading.{Stop}
 
 -- A place in a file at which a part is left out, by the places that the part may begin at and the rank of the first place behind it. The
@@ -24,9 +23,6 @@ abbrev pub put_in : List ℕ → ℕ → List ℕ → List ℕ
 put_in more at file = take at file ++ (more ++ drop at file)
 
 -- A reading with the offset of a refusal higher by so many bytes.
-abbrev pub moved_status : ℕ → Status → Status
-moved_status k Read = Read
-moved_status k (Refused number offset) = Refused number (k + offset)
-
-abbrev pub moved : ℕ → Reading → Reading
-moved k r = record { status = moved_status k r.status; model = r.model }
+abbrev pub moved : ℕ → Result Model Refused → Result Model Refused
+moved k (Ok m) = Ok m
+moved k (Err e) = Err (record { refusal = e.refusal; offset = k + e.offset })

@@ -1,3 +1,4 @@
+pub mod FileNumbers
 pub mod Models
 pub mod Values
 pub mod Refusals

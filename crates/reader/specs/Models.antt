@@ -2,13 +2,13 @@
 -- (records *Kinds*) has the offset of its entries and the place behind it. The entries of a point, a drift and a direction are stored
 -- as they stand in the body, and beyond n they are zero there (File 7). A record that a block has no room for changes nothing in it;
 -- none such is ever let in. Assumes nothing.
-use Rattle.std.specs.Prelude.{Bool, true, cond, List, ℕ, ◌+◌, eqb, ltb, set, ℤ}
+use Rattle.std.specs.Prelude.{Bool, true, cond, List, ℕ, ◌+◌, eqb, ltb, set, ℤ, Result}
 use Rattle.reachability.specs.declared.sets.Set.{Set}
 use Rattle.reachability.specs.declared.motion.Motion.{Motion}
 use Rattle.reachability.specs.declared.model.Questions.{Questions}
 use Rattle.reachability.specs.declared.model.Model.{Model}
 use Rattle.reachability.specs.Motion.{rows_of, with_rows}
-use Rattle.coefficients.specs.declared.EntryAnswer.{EntryAnswer}
+use Rattle.coefficients.specs.declared.EntryRefusal.{EntryRefusal}
 use Rattle.coefficients.specs.Entries.{entry_of_bits, scaled_entry}
 use Rattle.coefficients.specs.Rows.{stored_six}
 use Rattle.numbers.specs.Numbers.{little_endian, signed_at}
@@ -26,7 +26,7 @@ start = record { place = start_place; rows = 0; model = blank_model }
 
 -- File 5: a row is scaled or, with entries of 8 bytes, fitted. The answer to its entry i is what is stored, or the number it is refused
 -- by.
-abbrev pub row_answer : Layout → List ℕ → ℕ → EntryAnswer
+abbrev pub row_answer : Layout → List ℕ → ℕ → Result ℤ EntryRefusal
 row_answer l body i = cond (eqb l.width fitted_width) (entry_of_bits (bits_at body l.first i)) (scaled_entry (entry_at body l.first i))
 
 -- File 4.

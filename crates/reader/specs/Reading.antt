@@ -1,17 +1,15 @@
 -- Reading 1 to 3: where the reading of a file stops, the number and the offset there, and the model. Definitions only. A file is
 -- the list of its bytes. Assumes nothing.
-use Rattle.std.specs.Prelude.{◌≡◌, Bool, true, false, cond, not, ◌&&◌, List, ℕ, zero, suc, ◌+◌, ◌-◌, ◌<◌, eqb, ltb, length}
+use Rattle.std.specs.Prelude.{◌≡◌, Bool, true, false, cond, not, ◌&&◌, List, ℕ, zero, suc, ◌+◌, ◌-◌, eqb, ltb, length, Result, Ok, Err}
 use Rattle.arrays.specs.Tests.{first_of}
 use Rattle.reachability.specs.declared.model.Model.{Model}
 use Rattle.records.specs.declared.kinds.Part.{Part}
 use Rattle.records.specs.declared.kinds.Part.TheVariants.{Head, Row, Drift, Initial, Input, Direction, Guard, End}
 use Rattle.records.specs.Records.{Record, record_at, record_kind, record_body}
 use Rattle.records.specs.Kinds.{part_of}
-use Rattle.filling.specs.Models.{blank_model}
-use Rattle.reader.specs.declared.Status.{Status}
-use Rattle.reader.specs.declared.Status.TheVariants.{Read, Refused}
-use Rattle.reader.specs.declared.Reading.{Reading}
+use Rattle.reader.specs.declared.refusals.Refused.{Refused}
 use Rattle.reader.specs.declared.state.State.{State}
+use Rattle.reader.specs.FileNumbers.{file_number, refusal_of}
 use Rattle.reader.specs.Models.{start}
 use Rattle.reader.specs.Refusals.{refusal, stored}
 
@@ -72,22 +70,22 @@ offset_at file p =
 
 -- ---- the reading of a file
 
--- Reading 3: a refusal has the blank model beside it.
-abbrev pub refused : ℕ → ℕ → Reading
-refused number offset = record { status = Refused number offset; model = blank_model }
+-- Reading 3: a number and an offset, and no model.
+abbrev pub refused : ℕ → ℕ → Result Model Refused
+refused number offset = Err (record { refusal = refusal_of number; offset = offset })
 
 -- A file that was read as this model.
-abbrev pub read_as : Model → Reading
-read_as m = record { status = Read; model = m }
+abbrev pub read_as : Model → Result Model Refused
+read_as m = Ok m
 
-unfoldable pub reading_at : List ℕ → Stop → Reading
+unfoldable pub reading_at : List ℕ → Stop → Result Model Refused
 reading_at file p = cond (eqb (number_at file p) 0) (read_as p.state.model) (refused (number_at file p) (offset_at file p))
 
 -- Reading on from an offset.
-unfoldable pub read_from : List ℕ → ℕ → State → Reading
+unfoldable pub read_from : List ℕ → ℕ → State → Result Model Refused
 read_from file at s = reading_at file (stop_from file at s)
 
-unfoldable pub read_model : List ℕ → Reading
+unfoldable pub read_model : List ℕ → Result Model Refused
 read_model file = read_from file 0 start
 
 -- The number of a file, 0 where it is read, and its offset, 0 there too.
@@ -97,20 +95,19 @@ read_number file = number_at file (stop_from file 0 start)
 unfoldable pub read_offset : List ℕ → ℕ
 read_offset file = cond (eqb (read_number file) 0) 0 (offset_at file (stop_from file 0 start))
 
--- ---- what a status tells
+-- ---- what a reading tells
 
 -- Forms 7: the number of an answer, 0 where the file was read, and the offset that it is told at.
-abbrev pub status_number : Status → ℕ
-status_number Read = 0
-status_number (Refused number offset) = number
+abbrev pub status_number : Result Model Refused → ℕ
+status_number (Ok m) = 0
+status_number (Err e) = file_number e.refusal
 
-abbrev pub status_offset : Status → ℕ
-status_offset Read = 0
-status_offset (Refused number offset) = offset
+abbrev pub status_offset : Result Model Refused → ℕ
+status_offset (Ok m) = 0
+status_offset (Err e) = e.offset
 
 -- Routines 14: what the reader gives for a file.
-pub record Reads (file : List ℕ) (r : Reading) : Type 0 where
+pub record Reads (file : List ℕ) (r : Result Model Refused) : Type 0 where
   pub answer : r ≡ read_model file
-  pub number : status_number r.status ≡ read_number file
-  pub offset : status_offset r.status ≡ read_offset file
-  pub blank : 0 < read_number file → r.model ≡ blank_model
+  pub number : status_number r ≡ read_number file
+  pub offset : status_offset r ≡ read_offset file

@@ -1,5 +1,5 @@
 -- Refusals 4 to 8 and 15 to 17: what a body may hold. Definitions only. Assumes nothing.
-use Rattle.std.specs.Prelude.{Bool, true, false, cond, not, ◌&&◌, ◌||◌, List, ℕ, eqb, leb, ltb, ℤ, pos, neg_ℤ}
+use Rattle.std.specs.Prelude.{Option, Some, None, Bool, true, false, cond, not, ◌&&◌, ◌||◌, List, ℕ, eqb, leb, ltb, ℤ, pos, neg_ℤ}
 use Rattle.arrays.specs.Tests.{all_between, first_of}
 use Rattle.stepping.specs.Refusals.{dimension_ok}
 use Rattle.limits.specs.Limits.{direction_limit, all_zero, corners_ordered}
@@ -11,7 +11,7 @@ use Rattle.numbers.specs.Numbers.{little_endian}
 use Rattle.records.specs.Kinds.{layout_of, part_of}
 use Rattle.records.specs.declared.kinds.Layout.{Layout}
 use Rattle.records.specs.declared.kinds.Point.{Point}
-use Rattle.records.specs.declared.kinds.Point.TheVariants.{NoPoint, Lower, Upper, Centre, Generator, Vertex}
+use Rattle.records.specs.declared.kinds.Point.TheVariants.{Lower, Upper, Centre, Generator, Vertex}
 use Rattle.records.specs.declared.kinds.Part.{Part}
 use Rattle.records.specs.declared.kinds.Part.TheVariants.{Head, Row, Drift, Initial, Input, Direction, Guard, End}
 use Rattle.columns.specs.Columns.{unused_zero, first_byte, six_at}
@@ -35,20 +35,20 @@ unfoldable pub drift_ok : Layout → List ℕ → Bool
 drift_ok l body = within reach_limit (six_at body l.first)
 
 -- File 3: at the upper corner both corners of a box are there.
-abbrev pub is_upper : Point → Bool
-is_upper NoPoint = false
-is_upper Lower = false
-is_upper Upper = true
-is_upper Centre = false
-is_upper Generator = false
-is_upper Vertex = false
+abbrev pub is_upper : Option Point → Bool
+is_upper None = false
+is_upper (Some Lower) = false
+is_upper (Some Upper) = true
+is_upper (Some Centre) = false
+is_upper (Some Generator) = false
+is_upper (Some Vertex) = false
 
 -- Limits 8: the corners are compared at the upper one.
-abbrev pub corners_ok : ℕ → Point → List ℤ → Bool
+abbrev pub corners_ok : ℕ → Option Point → List ℤ → Bool
 corners_ok n point xs = not (is_upper point) || corners_ordered n xs
 
 -- Refusals 6 does not apply to the set with this point.
-unfoldable pub point_ok : ℕ → Point → Set → Bool
+unfoldable pub point_ok : ℕ → Option Point → Set → Bool
 point_ok n point set = reach_within set.shape set.count set.points && corners_ok n point set.points
 
 -- Refusals 17 does not apply to the set with this point. Of the initial set nothing is tested beside the drift.
@@ -71,7 +71,7 @@ unfoldable pub row_number : State → Layout → List ℕ → ℕ
 row_number s l body = first_of (unless (eqb (first_byte body) s.rows) 5) (entries_number s.model.n (row_answer l body))
 
 -- The number of a point more of the initial set or, with `input`, of the input set: Refusals 6, then Refusals 17.
-abbrev pub point_number_of : Bool → ℕ → Point → Set → List ℤ → ℕ
+abbrev pub point_number_of : Bool → ℕ → Option Point → Set → List ℤ → ℕ
 point_number_of input n point set drift = first_of (unless (point_ok n point set) 6) (unless (entering_point_ok input set drift) 17)
 
 abbrev pub point_number : Bool → State → Layout → List ℕ → ℕ

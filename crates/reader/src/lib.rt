@@ -4,67 +4,75 @@
 // No public function has a `requires`.
 #![tactic(auto)]
 
-mod advance;
 mod order;
+mod refusals;
 mod state;
 mod take;
 
 ghost use Rattle.reader.specs.Reading.{Reads};
+ghost use Rattle.reader.specs.Inner.{Advances};
 
-use advance::{Outcome, advance};
 use filling::blank_model;
+use order::admit;
 use reachability::model::Model;
-use records::places::START;
+use records::places::{END, START};
+use records::{NoRecord, record_at};
+pub use refusals::{FileRefusal, Refused};
 use state::State;
+use take::take;
 
 // Reading 4. The most bytes of a file that a program reads: no longer one is accepted, and a longer one has the reply to those.
 pub const MOST_READ: usize = 2048;
 
-// Whether a file was read, or its number and the offset that it is told at.
-#[derive(Clone, Copy)]
-pub enum Status {
-    Read,
-    Refused(u8, usize),
-}
-
-// What reading a file gives. Beside a refusal stands a blank model: zero everywhere.
-#[derive(Clone, Copy)]
-pub struct Reading {
-    pub status: Status,
-    pub model: Model,
+// The record at the offset, put into the state: the offset behind it, or none where it is the end. A kind's numbers stand above those of
+// its body, also where that is cut.
+fn advance(file: &[u8], at: usize, state: &mut State) -> Result<Option<usize>, FileRefusal>
+    ensures { Advances file.now at state.old result state.new }
+{
+    match record_at(file, at) {
+        Ok((kind, body)) => {
+            let layout = admit(state, kind)?;
+            take(state, layout, body)?;
+            if layout.place == END {
+                return Ok(None);
+            }
+            Ok(Some(at + 1 + body.len()))
+        }
+        Err(NoRecord::Nothing) => Err(FileRefusal::Ends),
+        Err(NoRecord::Short(kind)) => admit(state, kind).and(Err(FileRefusal::Ends)),
+        Err(NoRecord::Unknown(_)) => Err(FileRefusal::UnknownKind),
+    }
 }
 
 // Routines 14. The model of the file, or the first number that applies to it, with its offset.
-pub fn read(file: &[u8]) -> Reading
+pub fn read(file: &[u8]) -> Result<Model, Refused>
     ensures { Reads file.now result }
 {
-    let mut at: usize = 0;
     let mut state = State {
         place: START,
         rows: 0,
         model: blank_model(),
     };
+    let mut at = 0;
+    // Kept: a loop and a match, since a record tells where the next begins; by `map_err(..)?` in the loop the proof doesn't close.
     loop {
-        let advanced = advance(file, at, state);
-        let outcome = advanced.outcome;
-        match outcome {
-            Outcome::Next(next) => {
-                at = next;
-                state = advanced.state;
-            }
-            Outcome::Ended => {
-                let model = advanced.state.model;
-                return Reading {
-                    status: Status::Read,
-                    model,
-                };
-            }
-            Outcome::Stopped(number, offset) => {
-                return Reading {
-                    status: Status::Refused(number, offset),
-                    model: blank_model(),
-                };
+        match advance(file, at, &mut state) {
+            Ok(Some(next)) => at = next,
+            Ok(None) => break,
+            Err(refusal) => {
+                return Err(Refused {
+                    refusal,
+                    offset: at,
+                });
             }
         }
     }
+    let behind = at + 1;
+    if behind < file.len() {
+        return Err(Refused {
+            refusal: FileRefusal::BehindEnd,
+            offset: behind,
+        });
+    }
+    Ok(state.model)
 }

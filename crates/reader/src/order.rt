@@ -1,36 +1,39 @@
 // What a kind is refused for: Refusals 3, a kind that may not stand here; Refusals 9, one record too many.
 ghost use Rattle.std.specs.Prelude.{◌≡◌};
-ghost use Rattle.reader.specs.Refusals.{count_of, kind_number_of};
+ghost use Rattle.reader.specs.Refusals.{count_of};
+ghost use Rattle.reader.specs.Inner.{Admits};
 
+use crate::refusals::FileRefusal;
 use crate::state::State;
-use records::kinds::{Layout, Part};
+use records::kinds::{Layout, Part, layout_of};
 use records::order::may_follow;
 
 // How many the part has so far.
-fn count_of(part: Part, state: State) -> usize
-    ensures { result ≡ count_of part state }
+fn count_of(part: Part, state: &State) -> usize
+    ensures { result ≡ count_of part state.now }
 {
     match part {
         Part::Initial => state.model.initial.count,
         Part::Input => state.model.input.count,
         Part::Direction => state.model.questions.directions,
         Part::Guard => state.model.questions.guards,
-        Part::Head => 0,
-        Part::Row => 0,
-        Part::Drift => 0,
-        Part::End => 0,
+        Part::Head | Part::Row | Part::Drift | Part::End => 0,
     }
 }
 
-// The number of a kind of this layout: 3, 9, or 0 where it may stand here.
-pub(crate) fn kind_number(state: State, kind: u8, layout: Layout) -> u8
-    ensures { result ≡ kind_number_of state kind layout }
+// What a kind is that may stand here. An unknown kind has no record, so that any would be one too many.
+#[tactic(auto, unfolding(crate::specs::Refusals::kind_number))]
+pub(crate) fn admit(state: &State, kind: u8) -> Result<Layout, FileRefusal>
+    ensures { Admits state.now kind result }
 {
-    let place = state.place;
-    let misplaced: u8 = if may_follow(place, kind) { 0 } else { 3 };
-    let part = layout.part;
-    let count = count_of(part, state);
-    let most = layout.most;
-    let many: u8 = if most <= count { 9 } else { 0 };
-    arrays::first_of(misplaced, many)
+    if !may_follow(state.place, kind) {
+        return Err(FileRefusal::WrongPlace);
+    }
+    let Some(layout) = layout_of(kind) else {
+        return Err(FileRefusal::OneTooMany);
+    };
+    if layout.most <= count_of(layout.part, state) {
+        return Err(FileRefusal::OneTooMany);
+    }
+    Ok(layout)
 }

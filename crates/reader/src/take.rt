@@ -1,16 +1,18 @@
-// Taking a whole record: the test of its values, Refusals 4 to 8, 15 and 17, and the state behind it. Its entries beyond n are tested
-// apart, by `columns`.
-ghost use Rattle.std.specs.Prelude.{◌≡◌, false, ◌≤◌, ◌<◌, eqb};
-ghost use Rattle.arrays.specs.Tests.{first_of};
+// Taking a whole record: the test of its values, Refusals 4 to 8 and 15 to 17, and the state behind it. Behind a refusal the state says
+// nothing.
+ghost use Rattle.std.specs.Prelude.{◌≡◌, false, ◌≤◌, ◌<◌};
+ghost use Rattle.coefficients.specs.Rows.{entries_of};
 ghost use Rattle.filling.specs.Models.{set_of};
-ghost use Rattle.reader.specs.Models.{with_head, row_stored, with_row, with_drift, with_point, with_set_point, with_direction, with_guard};
+ghost use Rattle.reader.specs.Models.{row_answer, with_head, with_row, with_drift, with_point, with_set_point, with_direction, with_guard};
 ghost use Rattle.reader.specs.Values.{head_ok, row_number, drift_ok, corners_ok, point_number_of, direction_ok, guard_ok, unless, point_number, value_number};
 ghost use Rattle.reader.specs.Refusals.{one_too_many, stored_in};
-ghost use Rattle.reader.specs.Inner.{Takes};
+ghost use Rattle.reader.specs.Inner.{layout_number, Tested, Takes};
 
+use crate::refusals::FileRefusal;
 use crate::state::State;
-use coefficients::rows::{RowEntries, fitted_entries, scaled_entries};
-use columns::{first_byte, fitted_row, six_at};
+use coefficients::EntryRefusal;
+use coefficients::rows::{fitted_entries, scaled_entries};
+use columns::{first_byte, fitted_row, six_at, unused_zero};
 use filling::{input_at, put_row, set_of, shape_of, with_set};
 use limits::{DIRECTION_LIMIT, LEAST_DIRECTION, MOST_STEPS};
 use reachability::entering::entering_within;
@@ -28,258 +30,180 @@ const DRIFT_LIMIT: i32 = REACH_LIMIT as i32;
 
 const LEAST_DRIFT: i32 = -DRIFT_LIMIT;
 
-// The number of the value test that the record fails, 0 where it passes, and then the state behind the record.
-#[derive(Clone, Copy)]
-pub struct Taken {
-    pub number: u8,
-    pub state: State,
-}
-
-fn take_head(state: State, layout: Layout, body: &[u8]) -> Taken
-    ensures { Takes (unless (head_ok body.now) 4) (with_head state layout body.now) result }
+#[tactic(auto, unfolding(crate::specs::Models::with_head))]
+fn take_head(state: &mut State, layout: Layout, body: &[u8]) -> Result<(), FileRefusal>
+    ensures { Takes (unless (head_ok body.now) 4) (with_head state.old layout body.now) result state.new }
 {
     let n = first_byte(body);
-    let said = numbers::u16_at(body, 1) as usize;
-    if n < 1 {
-        return Taken { number: 4, state };
+    let said = usize::from(numbers::u16_at(body, 1));
+    if n < 1 || MOST_COORDINATES < n || MOST_STEPS < said {
+        return Err(FileRefusal::Head);
     }
-    if MOST_COORDINATES < n {
-        return Taken { number: 4, state };
-    }
-    if MOST_STEPS < said {
-        return Taken { number: 4, state };
-    }
-    let steps: usize = if said == 0 { USUAL_STEPS } else { said };
-    let mut model = state.model;
-    model.n = n;
-    model.steps = steps;
-    Taken {
-        number: 0,
-        state: State {
-            place: layout.place,
-            rows: 0,
-            model,
-        },
+    state.model.n = n;
+    state.model.steps = if said == 0 { USUAL_STEPS } else { said };
+    state.rows = 0;
+    state.place = layout.place;
+    Ok(())
+}
+
+// The entries of a row, scaled or fitted.
+fn row_entries(n: usize, layout: Layout, body: &[u8]) -> Result<[i32; 6], EntryRefusal>
+    ensures { result ≡ entries_of n (row_answer layout body.now) }
+{
+    if layout.width == FITTED_WIDTH {
+        fitted_entries(n, fitted_row(body, layout.first))
+    } else {
+        scaled_entries(n, six_at(body, layout.first))
     }
 }
 
-// One row more, where its number is that of the next row and no entry is refused.
-fn store_row(state: State, layout: Layout, row: usize, entries: RowEntries) -> Taken
-    requires { row < 256 }
-    ensures { Takes (first_of (unless (eqb row state.rows) 5) entries.number) (row_stored state layout entries.six) result }
+// One row more. Its number stands above its entries.
+#[tactic(auto, unfolding(crate::specs::Values::row_number))]
+fn take_row(state: &mut State, layout: Layout, body: &[u8]) -> Result<(), FileRefusal>
+    ensures { Takes (row_number state.old layout body.now) (with_row state.old layout body.now) result state.new }
 {
-    let rows = state.rows;
-    let misplaced: u8 = if row == rows { 0 } else { 5 };
-    let number = arrays::first_of(misplaced, entries.number);
-    if number != 0 {
-        return Taken { number, state };
+    let row = first_byte(body);
+    if row != state.rows {
+        return Err(FileRefusal::Row);
     }
-    let mut model = state.model;
-    let n = model.n;
-    let six = entries.six;
-    let mut matrix = rows_of(model.motion);
+    let six = row_entries(state.model.n, layout, body)?;
+    let mut matrix = rows_of(state.model.motion);
     put_row(&mut matrix, row, &six);
-    let motion = with_rows(model.motion, matrix);
-    model.motion = motion;
-    let next = row + 1;
-    let place: u8 = if next < n { ROWS } else { layout.place };
-    Taken {
-        number: 0,
-        state: State {
-            place,
-            rows: next,
-            model,
-        },
-    }
-}
-
-// A row, scaled or fitted. The row's number stands above its entries.
-fn take_row(state: State, layout: Layout, body: &[u8]) -> Taken
-    ensures { Takes (row_number state layout body.now) (with_row state layout body.now) result }
-{
-    let n = state.model.n;
-    let width = layout.width;
-    if width == FITTED_WIDTH {
-        let held = fitted_row(body, layout.first);
-        let entries = fitted_entries(n, held);
-        return store_row(state, layout, held.number, entries);
-    }
-    let six = six_at(body, layout.first);
-    let entries = scaled_entries(n, six);
-    store_row(state, layout, first_byte(body), entries)
+    state.model.motion = with_rows(state.model.motion, matrix);
+    state.rows = row + 1;
+    state.place = if row + 1 < state.model.n {
+        ROWS
+    } else {
+        layout.place
+    };
+    Ok(())
 }
 
 // The drift.
-fn take_drift(state: State, layout: Layout, body: &[u8]) -> Taken
-    ensures { Takes (unless (drift_ok layout body.now) 17) (with_drift state layout body.now) result }
+#[tactic(auto, unfolding(crate::specs::Values::drift_ok, crate::specs::Models::with_drift))]
+fn take_drift(state: &mut State, layout: Layout, body: &[u8]) -> Result<(), FileRefusal>
+    ensures { Takes (unless (drift_ok layout body.now) 17) (with_drift state.old layout body.now) result state.new }
 {
     let drift = six_at(body, layout.first);
     if !arrays::all_between(LEAST_DRIFT, DRIFT_LIMIT, &drift) {
-        return Taken { number: 17, state };
+        return Err(FileRefusal::Drift);
     }
-    let mut model = state.model;
-    model.drift = drift;
-    Taken {
-        number: 0,
-        state: State {
-            place: layout.place,
-            rows: state.rows,
-            model,
-        },
-    }
+    state.model.drift = drift;
+    state.place = layout.place;
+    Ok(())
 }
 
 // The corners of a box, once both are read, are in order.
-fn corners_ok(n: usize, point: Point, points: &[i32; 96]) -> bool
+fn corners_ok(n: usize, point: Option<Point>, points: &[i32; 96]) -> bool
     ensures { result ≡ corners_ok n point points.now }
 {
     match point {
-        Point::NoPoint => true,
-        Point::Lower => true,
-        Point::Upper => limits::corners_ordered(n, points),
-        Point::Centre => true,
-        Point::Generator => true,
-        Point::Vertex => true,
+        Some(Point::Upper) => limits::corners_ordered(n, points),
+        _ => true,
     }
 }
 
-// The number of a set with its last point so far: 6 or, of the input set, 17. A reach that is within its limit with the drift is so by
-// itself, so that it is taken once where nothing is refused.
-fn point_number(input: bool, n: usize, point: Point, set: Set, drift: &[i32; 6]) -> u8
-    ensures { result ≡ point_number_of input n point set drift.now }
+// A set with its last point so far: 6 or, of the input set, 17. A reach that is within its limit with the drift is so by itself, so that
+// it is taken once where nothing is refused.
+#[tactic(auto, unfolding(crate::specs::Values::point_ok))]
+fn test_point(
+    input: bool,
+    n: usize,
+    point: Option<Point>,
+    set: &Set,
+    drift: &[i32; 6],
+) -> Result<(), FileRefusal>
+    ensures { Tested (point_number_of input n point set.now drift.now) result }
 {
-    let shape = set.shape;
-    let count = set.count;
-    let points = set.points;
-    if !corners_ok(n, point, &points) {
-        return 6;
+    if !corners_ok(n, point, &set.points) {
+        return Err(FileRefusal::Point);
+    }
+    if input && entering_within(set.shape, set.count, &set.points, drift) {
+        return Ok(());
+    }
+    if !reach_within(set.shape, set.count, &set.points) {
+        return Err(FileRefusal::Point);
     }
     if input {
-        if entering_within(shape, count, &points, drift) {
-            return 0;
-        }
-        let own = reach_within(shape, count, &points);
-        let number: u8 = if own { 17 } else { 6 };
-        return number;
-    }
-    if reach_within(shape, count, &points) {
-        0
+        Err(FileRefusal::Drift)
     } else {
-        6
+        Ok(())
     }
 }
 
 // A set with one point more.
-fn with_point(set: Set, layout: Layout, body: &[u8]) -> Set
+#[tactic(auto, unfolding(crate::specs::Models::with_point))]
+fn with_point(mut set: Set, layout: Layout, body: &[u8]) -> Set
     requires { set.count < 16 }
     ensures { result ≡ with_point set layout body.now }
 {
-    let point = layout.point;
-    let shape = shape_of(point);
+    set.shape = shape_of(layout.point);
     let count = set.count;
-    let six = six_at(body, layout.first);
-    let mut points = set.points;
-    put_row(&mut points, count, &six);
-    Set {
-        shape,
-        count: count + 1,
-        points,
-    }
+    put_row(&mut set.points, count, &six_at(body, layout.first));
+    set.count = count + 1;
+    set
 }
 
 // One point more of the initial set or, with `input`, of the input set.
-fn take_point(state: State, input: bool, layout: Layout, body: &[u8]) -> Taken
-    requires { (set_of input state.model).count < 16 }
-    ensures { Takes (point_number input state layout body.now) (with_set_point input state layout body.now) result }
+#[tactic(auto, unfolding(crate::specs::Models::with_set_point))]
+fn take_point(
+    state: &mut State,
+    input: bool,
+    layout: Layout,
+    body: &[u8],
+) -> Result<(), FileRefusal>
+    requires { (set_of input state.old.model).count < 16 }
+    ensures { Takes (point_number input state.old layout body.now) (with_set_point input state.old layout body.now) result state.new }
 {
-    let before = set_of(input, state.model);
-    let set = with_point(before, layout, body);
-    let drift = state.model.drift;
-    let point = layout.point;
-    let number = point_number(input, state.model.n, point, set, &drift);
-    if number != 0 {
-        return Taken { number, state };
-    }
-    let model = with_set(input, state.model, set);
-    Taken {
-        number: 0,
-        state: State {
-            place: layout.place,
-            rows: state.rows,
-            model,
-        },
-    }
+    let set = with_point(set_of(input, state.model), layout, body);
+    test_point(input, state.model.n, layout.point, &set, &state.model.drift)?;
+    state.model = with_set(input, state.model, set);
+    state.place = layout.place;
+    Ok(())
 }
 
-fn take_direction(state: State, layout: Layout, body: &[u8]) -> Taken
-    requires { state.model.questions.directions < 16 }
-    ensures { Takes (unless (direction_ok layout body.now) 7) (with_direction state layout body.now) result }
+#[tactic(auto, unfolding(crate::specs::Values::direction_ok, crate::specs::Models::with_direction))]
+fn take_direction(state: &mut State, layout: Layout, body: &[u8]) -> Result<(), FileRefusal>
+    requires { state.old.model.questions.directions < 16 }
+    ensures { Takes (unless (direction_ok layout body.now) 7) (with_direction state.old layout body.now) result state.new }
 {
     let six = six_at(body, layout.first);
-    if !arrays::all_between(LEAST_DIRECTION, DIRECTION_LIMIT, &six) {
-        return Taken { number: 7, state };
+    if !arrays::all_between(LEAST_DIRECTION, DIRECTION_LIMIT, &six)
+        || arrays::zero_outside(0, 0, &six)
+    {
+        return Err(FileRefusal::Direction);
     }
-    if arrays::zero_outside(0, 0, &six) {
-        return Taken { number: 7, state };
-    }
-    let mut questions = state.model.questions;
-    let directions = questions.directions;
-    let mut entries = questions.entries;
-    put_row(&mut entries, directions, &six);
-    questions.directions = directions + 1;
-    questions.entries = entries;
-    let input = input_at(state.place, state.model);
-    let mut model = state.model;
-    model.input = input;
-    model.questions = questions;
-    Taken {
-        number: 0,
-        state: State {
-            place: layout.place,
-            rows: state.rows,
-            model,
-        },
-    }
+    state.model.input = input_at(state.place, state.model);
+    let directions = state.model.questions.directions;
+    put_row(&mut state.model.questions.entries, directions, &six);
+    state.model.questions.directions = directions + 1;
+    state.place = layout.place;
+    Ok(())
 }
 
-fn take_guard(state: State, layout: Layout, body: &[u8]) -> Taken
-    requires { state.model.questions.guards < 16 }
-    ensures { Takes (unless (guard_ok state body.now) 8) (with_guard state layout body.now) result }
+#[tactic(auto, unfolding(crate::specs::Models::with_guard))]
+fn take_guard(state: &mut State, layout: Layout, body: &[u8]) -> Result<(), FileRefusal>
+    requires { state.old.model.questions.guards < 16 }
+    ensures { Takes (unless (guard_ok state.old body.now) 8) (with_guard state.old layout body.now) result state.new }
 {
     let direction = first_byte(body);
-    let directions = state.model.questions.directions;
-    if directions <= direction {
-        return Taken { number: 8, state };
+    if state.model.questions.directions <= direction {
+        return Err(FileRefusal::Guard);
     }
-    let mut questions = state.model.questions;
-    let guards = questions.guards;
-    let mut watched = questions.watched;
-    let mut levels = questions.levels;
-    watched[guards] = direction;
-    levels[guards] = numbers::i64_at(body, 1);
-    questions.guards = guards + 1;
-    questions.watched = watched;
-    questions.levels = levels;
-    let mut model = state.model;
-    model.questions = questions;
-    Taken {
-        number: 0,
-        state: State {
-            place: layout.place,
-            rows: state.rows,
-            model,
-        },
-    }
+    let guards = state.model.questions.guards;
+    state.model.questions.watched[guards] = direction;
+    state.model.questions.levels[guards] = numbers::i64_at(body, 1);
+    state.model.questions.guards = guards + 1;
+    state.place = layout.place;
+    Ok(())
 }
 
-// The record's value test and the state behind it. Its kind has passed 3 and 9.
-pub(crate) fn take(state: State, layout: Layout, body: &[u8]) -> Taken
-    requires layout_value { one_too_many state layout ≡ false }
+fn take_part(state: &mut State, layout: Layout, body: &[u8]) -> Result<(), FileRefusal>
+    requires few { one_too_many state.old layout ≡ false }
     requires most_bound { layout.most ≤ 16 }
-    ensures { Takes (value_number layout.part state layout body.now) (stored_in layout.part state layout body.now) result }
+    ensures { Takes (value_number layout.part state.old layout body.now) (stored_in layout.part state.old layout body.now) result state.new }
 {
-    let part = layout.part;
-    match part {
+    match layout.part {
         Part::Head => take_head(state, layout, body),
         Part::Row => take_row(state, layout, body),
         Part::Drift => take_drift(state, layout, body),
@@ -287,6 +211,18 @@ pub(crate) fn take(state: State, layout: Layout, body: &[u8]) -> Taken
         Part::Input => take_point(state, true, layout, body),
         Part::Direction => take_direction(state, layout, body),
         Part::Guard => take_guard(state, layout, body),
-        Part::End => Taken { number: 0, state },
+        Part::End => Ok(()),
     }
+}
+
+// The record is tested, and put into the state. Its kind has passed 3 and 9. What stands beyond n comes before its other values.
+pub(crate) fn take(state: &mut State, layout: Layout, body: &[u8]) -> Result<(), FileRefusal>
+    requires few { one_too_many state.old layout ≡ false }
+    requires most_bound { layout.most ≤ 16 }
+    ensures { Takes (layout_number state.old layout body.now) (stored_in layout.part state.old layout body.now) result state.new }
+{
+    if !unused_zero(state.model.n, layout, body) {
+        return Err(FileRefusal::BeyondN);
+    }
+    take_part(state, layout, body)
 }

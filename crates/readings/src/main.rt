@@ -3,28 +3,23 @@
 // tools/readerfiles.py.
 #![tactic(auto)]
 
-use reader::{Reading, Status};
+use reachability::model::Model;
+use reader::Refused;
 use std::fs::File;
 use std::io::Read;
 use std::rt::Files;
 use std::{env, io};
 use streams::{read_full, tell};
 
-fn write_reading(rt: &impl Print, name: &str, reading: Reading) -> io::Result<()> {
-    let status = reading.status;
-    match status {
-        Status::Read => {
-            let model = reading.model;
-            let n = model.n;
-            let steps = model.steps;
-            println!(rt; "{name}: model {n} {steps}")
-        }
-        Status::Refused(number, offset) => println!(rt; "{name}: refused {number} at {offset}"),
+fn write_reading(rt: &impl Print, name: &str, reading: Result<Model, Refused>) -> io::Result<()> {
+    match reading {
+        Ok(model) => println!(rt; "{name}: model {} {}", model.n, model.steps),
+        Err(refused) => println!(rt; "{name}: {refused}"),
     }
 }
 
 // What the reader answers to a file's bytes. At most 65,536 are read, more than any accepted file has.
-fn read_file(mut file: impl Read + Drop) -> Reading {
+fn read_file(mut file: impl Read + Drop) -> Result<Model, Refused> {
     let mut buffer = [0u8; 65536];
     let got = read_full(&mut file, &mut buffer);
     reader::read(&buffer[..got])

@@ -1,6 +1,6 @@
 -- Laws of `record_at`. In order: its four cases, each from what the file holds at the offset; back from the case to the file;
 -- a record that stands anywhere in a file; files that agree from the record on, or as far as it reaches; what the record step's
--- kind and number tell. Assumes nothing.
+-- number tells. Assumes nothing.
 use mathlib.Core.Path.{◌≡◌, refl, sym, ap, ap₂, subst, ◌∙◌}
 use mathlib.Core.List.{List, [], ◌∷◌, ◌++◌}
 use Prim.Native.Nat.{ℕ, zero, suc, ◌+◌, ◌-◌, ◌≤◌, ◌<◌}
@@ -13,8 +13,8 @@ use mir.Syntax.{w8}
 use mir.Val.{Fits}
 use denote.Ref.{Bor}
 use Rattle.records.specs.Kinds.{BodyLength, body_bytes, body_unknown, body_length}
-use Rattle.records.specs.Records.{Record, whole, short, unknown, nothing, record_of, record_at, record_number, record_kind, record_body, RecordStep}
-use Rattle.records.proofs.KnownKinds.{kind-above-zero, body_length-le}
+use Rattle.records.specs.Records.{Record, whole, short, unknown, nothing, record_of, record_at, record_number, Step, step_number, RecordStep}
+use Rattle.records.proofs.KnownKinds.{body_length-le}
 use Rattle.integers.proofs.Machine.{AllBytes}
 
 -- ---- the four cases
@@ -64,16 +64,6 @@ record_at-is file at = elim (dec_lt at (length file)) [ yes l ↦ inside l (body
       where
         enough : at + 1 + n ≤ length file → StandsAt file at (record_at file at)
         enough h = subst (StandsAt file at) (sym (record_at-whole file at l n e h)) (at-whole n e h)
-
--- Where nothing stands, no byte is left.
-pub nothing-of : (file : List ℕ) (at : ℕ) → record_at file at ≡ nothing → length file ≤ at
-nothing-of file at = by-case (record_at file at) (record_at-is file at)
-  where
-    by-case : (r : Record) → StandsAt file at r → r ≡ nothing → length file ≤ at
-    by-case r (at-nothing h) e = h
-    by-case r (at-unknown l u) e = let z : ◌≡◌ {A = ℕ} 0 1 = cc in absurd (omega arith)
-    by-case r (at-short n l known h) e = let z : ◌≡◌ {A = ℕ} 0 1 = cc in absurd (omega arith)
-    by-case r (at-whole n known h) e = let z : ◌≡◌ {A = ℕ} 0 1 = cc in absurd (omega arith)
 
 -- A whole record: its kind is the byte at the offset, its body the bytes after it, as many as the kind has.
 pub record Whole (file : List ℕ) (at kind : ℕ) (body : List ℕ) : Type 0 where
@@ -208,31 +198,7 @@ record_at-within m file rest at h reach =
     there : Reaches m other at
     there = record { kind-reached = reach.kind-reached; body-reached = λ n known. reach.body-reached n (sym (ap body_length first) ∙ known) }
 
--- ---- what the record step's kind and number tell
-
-whole-only : (r : Record) → record_number r ≡ 0 → r ≡ whole (record_kind r) (record_body r)
-whole-only (whole kind body) e = refl
-whole-only (short kind) e = absurd (omega arith)
-whole-only (unknown kind) e = absurd (omega arith)
-whole-only nothing e = absurd (omega arith)
-
-unknown-only : (r : Record) → record_number r ≡ 2 → r ≡ unknown (record_kind r)
-unknown-only (whole kind body) e = absurd (omega arith)
-unknown-only (short kind) e = absurd (omega arith)
-unknown-only (unknown kind) e = refl
-unknown-only nothing e = absurd (omega arith)
-
-short-only : (r : Record) → record_number r ≡ 1 → (record_kind r ≡ 0 → ⊥) → r ≡ short (record_kind r)
-short-only (whole kind body) e ne = absurd (omega arith)
-short-only (short kind) e ne = refl
-short-only (unknown kind) e ne = absurd (omega arith)
-short-only nothing e ne = absurd (ne refl)
-
-nothing-only : {file : List ℕ} {at : ℕ} (r : Record) → StandsAt file at r → record_number r ≡ 1 → record_kind r ≡ 0 → r ≡ nothing
-nothing-only r (at-nothing h) e z = refl
-nothing-only r (at-unknown l u) e z = absurd (omega arith)
-nothing-only {file} {at} r (at-short n l known h) e z = absurd (omega (arith, kind-above-zero (get_or file at 0) n known))
-nothing-only r (at-whole n known h) e z = absurd (omega arith)
+-- ---- what the record step's number tells
 
 number-le : (r : Record) → record_number r ≤ 2
 number-le (whole kind body) = omega arith
@@ -240,18 +206,5 @@ number-le (short kind) = omega arith
 number-le (unknown kind) = omega arith
 number-le nothing = omega arith
 
-module _ {file : Bor (List ℕ)} {at : ℕ} {part : Bor (List ℕ)} {kind number : ℕ} (s : RecordStep file at part kind number) where
-  pub record_step-whole : number ≡ 0 → record_at file.now at ≡ whole kind part.now
-  record_step-whole e = whole-only (record_at file.now at) (sym s.number_is ∙ e) ∙ ap₂ whole (sym s.kind-is) (sym s.body_is)
-
-  pub record_step-unknown : number ≡ 2 → record_at file.now at ≡ unknown kind
-  record_step-unknown e = unknown-only (record_at file.now at) (sym s.number_is ∙ e) ∙ ap unknown (sym s.kind-is)
-
-  pub record_step-nothing : number ≡ 1 → kind ≡ 0 → record_at file.now at ≡ nothing
-  record_step-nothing e z = nothing-only (record_at file.now at) (record_at-is file.now at) (sym s.number_is ∙ e) (sym s.kind-is ∙ z)
-
-  pub record_step-short : number ≡ 1 → (kind ≡ 0 → ⊥) → record_at file.now at ≡ short kind
-  record_step-short e ne = short-only (record_at file.now at) (sym s.number_is ∙ e) (λ z. ne (s.kind-is ∙ z)) ∙ ap short (sym s.kind-is)
-
-  pub record_step-number-le : number ≤ 2
-  record_step-number-le = omega (arith, s.number_is, number-le (record_at file.now at))
+pub record_step-number-le : {file : Bor (List ℕ)} {at : ℕ} {step : Step} → RecordStep file at step → step_number step ≤ 2
+record_step-number-le {file} {at} s = omega (arith, s.number_is, number-le (record_at file.now at))

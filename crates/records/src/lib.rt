@@ -11,39 +11,29 @@ pub mod places;
 
 ghost use Rattle.records.specs.Records.{RecordStep};
 
-// Routines 12. The record whose kind byte is at the offset `at`. It returns the body, which lies in the file, and leaves:
-//   number 0 and the kind, where a whole record is there;
-//   number 1 and the kind, where the body is cut;
-//   number 1 and kind 0, which no record has, where no byte is left;
-//   number 2 and the kind, where the kind is unknown.
-// Where the number is not 0 the part is empty, at the file's start.
-pub fn record_at<'a, 'b, 'c>(
-    file: &'a [u8],
-    at: usize,
-    kind: &'b mut u8,
-    number: &'c mut u8,
-) -> &'a [u8]
-    ensures { RecordStep file.entry at result kind.new number.new }
+use kinds::layout_of;
+
+// Why no whole record stands at an offset: no byte is left; the file's end cuts off the body of this kind; or the kind is unknown.
+#[derive(Clone, Copy, Debug, PartialEq, Eq)]
+pub enum NoRecord {
+    Nothing,
+    Short(u8),
+    Unknown(u8),
+}
+
+// Routines 12. The record whose kind byte is at the offset `at`: its kind, and its body, which lies in the file.
+pub fn record_at(file: &[u8], at: usize) -> Result<(u8, &[u8]), NoRecord>
+    ensures { RecordStep file.entry at result }
 {
-    *kind = 0;
-    *number = 1;
-    if file.len() <= at {
-        return &file[..0];
-    }
-    let first = file[at];
-    *kind = first;
-    // The most records are at least 1 in every row of the table, and 0 for an unknown kind.
-    let layout = kinds::layout_of(first);
-    let most = layout.most;
-    if most == 0 {
-        *number = 2;
-        return &file[..0];
-    }
-    let length = layout.length;
+    let Some(&kind) = file.get(at) else {
+        return Err(NoRecord::Nothing);
+    };
+    let Some(layout) = layout_of(kind) else {
+        return Err(NoRecord::Unknown(kind));
+    };
     let start = at + 1;
-    if file.len() - start < length {
-        return &file[..0];
+    if file.len() - start < layout.length {
+        return Err(NoRecord::Short(kind));
     }
-    *number = 0;
-    &file[start..start + length]
+    Ok((kind, &file[start..start + layout.length]))
 }

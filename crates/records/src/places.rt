@@ -1,5 +1,6 @@
 // The places of a file, in its order (File 5): how far its records have come. A place is a rank, and every place behind a part has a
 // higher rank than those of the part.
+// Kept: numbers and no enum, since places are ranks counted from 0 and `may_follow` takes any number (Routines 13).
 pub const START: u8 = 0;
 
 // Behind the head, until row n - 1 is in.

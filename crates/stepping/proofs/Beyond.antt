@@ -4,6 +4,7 @@
 use mathlib.Core.Path.{◌≡◌, refl, sym, ap, ap₂, subst, ◌∙◌}
 use mathlib.Core.Bool.{Bool, true, cond, ◌&&◌}
 use mathlib.Core.List.{List}
+use Rattle.std.specs.Prelude.{Option, Some, None}
 use Prim.Native.Nat.{ℕ, ◌+◌, ◌*◌, ◌-◌, ◌≤◌, ◌<◌}
 use native.Mathlib.Omega.{arith}
 use lib.IntN.{ℤ, pos, neg_ℤ, nat_abs, ◌*ℤ◌, zero-*ℤ}
@@ -17,8 +18,6 @@ use Rattle.arrays.proofs.Tests.{zero_outside-row, zero_outside-column, zero_outs
 use Rattle.stepping.specs.Limits.{matrix_unit, entry_limit, growth_limit, error_limit}
 use Rattle.stepping.specs.Recurrence.{next_r, next_e, error_sum, half_up, growth_sum}
 use Rattle.stepping.specs.Refusals.{matrix_ok, working_ok, step_ok, stepped_r, stepped_e, Steps}
-use Rattle.stepping.specs.declared.Stepped.{Stepped}
-use Rattle.stepping.specs.declared.Stepped.TheVariants.{Sum, Refused}
 use Rattle.stepping.proofs.Numbers.{steps}
 use Rattle.stepping.proofs.Recurrence.{growth_sum-cong, value-le-limit, error-le-limit}
 use Rattle.stepping.proofs.Working.{WorkingFacts, working-facts, working-ok, dimension-most}
@@ -105,10 +104,10 @@ module _ (n : ℕ) (r e : List ℤ) (facts : WorkingFacts n r e) where
 -- ---- a step of n coordinates may be taken with six
 
 -- Where a step of n coordinates is not refused, a step that is told six coordinates does the same.
-pub steps-six : (n : ℕ) (m r e : List ℤ) → step_ok n m r e ≡ true → {a : Stepped} {r' e' : List ℤ} → Steps 6 m r e a r' e' → Steps n m r e a r' e'
+pub steps-six : (n : ℕ) (m r e : List ℤ) → step_ok n m r e ≡ true → {a : Option ℕ} {r' e' : List ℤ} → Steps 6 m r e a r' e' → Steps n m r e a r' e'
 steps-six n m r e ok {a} {r'} {e'} st =
-    let same = ap₂ (λ (x y : List ℤ). Sum (growth_sum 6 (vector x) (magnitudes y))) in-r in_e ∙ ap Sum (growth_sum-stepped n n≤6 m entries.1 r e) ∙ sym (ap₂ (λ (x y : List ℤ). Sum (growth_sum n (vector x) (magnitudes y))) in-r in_e) in
-    steps n m r e true ok a r' e' (st.answer ∙ ap (λ (t : Bool). cond t (Sum (growth_sum 6 (vector r') (magnitudes e'))) Refused) six-ok ∙ same) in-r in_e
+    let same = ap₂ (λ (x y : List ℤ). Some (growth_sum 6 (vector x) (magnitudes y))) in-r in_e ∙ ap Some (growth_sum-stepped n n≤6 m entries.1 r e) ∙ sym (ap₂ (λ (x y : List ℤ). Some (growth_sum n (vector x) (magnitudes y))) in-r in_e) in
+    steps n m r e true ok a r' e' (st.answer ∙ ap (λ (t : Bool). cond t (Some (growth_sum 6 (vector r') (magnitudes e'))) None) six-ok ∙ same) in-r in_e
   where
     tests : (working_ok n r e ≡ true) × (matrix_ok n m ≡ true)
     tests = and-true (working_ok n r e) (matrix_ok n m) ok

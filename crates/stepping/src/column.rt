@@ -6,24 +6,22 @@ ghost use Rattle.stepping.specs.Recurrence.{error_sum};
 ghost use Rattle.stepping.specs.Inner.{Bounded, BoundedErrors, Advances, Advanced};
 
 use crate::MATRIX_UNIT;
+use std::array;
 
-// Recurrence 4 and 5. The unit of the matrix for sums of errors, one less, and half of it for N.
-const UNIT_U64: u64 = MATRIX_UNIT as u64;
-
-const UNIT_LESS_ONE: u64 = UNIT_U64 - 1;
+// Recurrence 5. The unit of the matrix for sums of errors, and half of it for N.
+const UNIT: u64 = MATRIX_UNIT as u64;
 
 const HALF_UNIT: i64 = (MATRIX_UNIT / 2) as i64;
 
 // Recurrence 3. N of column i.
+// Kept: facts of r, e and i, here and below, and no types of them, since C lends r and e as arrays (C interface 2).
 pub(crate) fn product_sum(matrix: &[i32; 36], r: &[i64; 6], i: usize) -> i64
     requires { (i < 6) × Bounded growth_limit matrix.now r.now }
     ensures { result ≡ transposed 6 (matrix_of matrix.now) (vector r.now) i }
 {
-    let mut sum: i64 = 0;
-    let mut p: usize = 0;
-    while p < 6 {
-        sum += (matrix[6 * p + i] as i64) * r[p];
-        p += 1;
+    let mut sum = 0;
+    for p in 0..6 {
+        sum += i64::from(matrix[6 * p + i]) * r[p];
     }
     sum
 }
@@ -33,11 +31,9 @@ pub(crate) fn error_sum(matrix: &[i32; 36], e: &[i64; 6], i: usize) -> u64
     requires { (i < 6) × BoundedErrors matrix.now e.now }
     ensures { result ≡ error_sum 6 (matrix_of matrix.now) (magnitudes e.now) i }
 {
-    let mut sum: u64 = 0;
-    let mut p: usize = 0;
-    while p < 6 {
-        sum += arrays::magnitude(matrix[6 * p + i] as i64) * (e[p] as u64);
-        p += 1;
+    let mut sum = 0;
+    for p in 0..6 {
+        sum += u64::from(matrix[6 * p + i].unsigned_abs()) * (e[p] as u64);
     }
     sum
 }
@@ -59,34 +55,25 @@ fn column_of(matrix: &[i32; 36], r: &[i64; 6], e: &[i64; 6], i: usize) -> Column
     let product = product_sum(matrix, r, i);
     let errors = error_sum(matrix, e, i);
     let nearest = (product + HALF_UNIT) >> 16;
-    let up = (errors + UNIT_LESS_ONE) / UNIT_U64 + arrays::fraction(product, MATRIX_UNIT);
-    let error = up as i64;
-    let halves = 2 * arrays::magnitude(nearest) + up;
+    // Kept: (b) `div_ceil` takes more instructions.
+    let up = (errors + (UNIT - 1)) / UNIT + arrays::fraction(product, MATRIX_UNIT);
     Column {
         r: nearest,
-        e: error,
-        halves,
+        e: up as i64,
+        halves: 2 * nearest.unsigned_abs() + up,
     }
 }
 
-// r and e one step on, in place, and their growth sum: the largest sum in half units, halved once. The six columns stand in a
-// straight line, so that r and e are stored once each and as a whole.
+// r and e one step on, in place, and their growth sum: the largest sum in half units, halved once. All six columns come first, since
+// each of them reads the r and e of before.
 pub(crate) fn advance(matrix: &[i32; 36], r: &mut [i64; 6], e: &mut [i64; 6]) -> u64
     requires { Bounded growth_limit matrix.now r.old × BoundedErrors matrix.now e.old }
     ensures { Advanced matrix.now r.old e.old r.new e.new result }
 {
-    let c0 = column_of(matrix, r, e, 0);
-    let c1 = column_of(matrix, r, e, 1);
-    let c2 = column_of(matrix, r, e, 2);
-    let c3 = column_of(matrix, r, e, 3);
-    let c4 = column_of(matrix, r, e, 4);
-    let c5 = column_of(matrix, r, e, 5);
-    let most1 = arrays::larger(c0.halves, c1.halves);
-    let most2 = arrays::larger(most1, c2.halves);
-    let most3 = arrays::larger(most2, c3.halves);
-    let most4 = arrays::larger(most3, c4.halves);
-    let most5 = arrays::larger(most4, c5.halves);
-    *r = [c0.r, c1.r, c2.r, c3.r, c4.r, c5.r];
-    *e = [c0.e, c1.e, c2.e, c3.e, c4.e, c5.e];
-    (most5 + 1) / 2
+    let columns: [Column; 6] = array::from_fn(|i| column_of(matrix, r, e, i));
+    *r = columns.map(|c| c.r);
+    *e = columns.map(|c| c.e);
+    let most = columns.iter().fold(0, |most, c| most.max(c.halves));
+    // Kept: (b) `most.div_ceil(2)` takes more instructions.
+    (most + 1) / 2
 }

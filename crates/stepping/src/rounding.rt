@@ -3,8 +3,6 @@ ghost use Rattle.stepping.specs.Recurrence.{Rounds};
 
 use crate::DIRECTION_UNIT;
 
-const UNIT_U64: u64 = DIRECTION_UNIT as u64;
-
 // A bound and its slack.
 #[derive(Clone, Copy)]
 pub struct Rounded {
@@ -17,9 +15,8 @@ pub fn bound_and_slack(raw: i64, raw_slack: u64) -> Rounded
     ensures { Rounds raw raw_slack result.bound result.slack }
 {
     let part = arrays::fraction(raw, DIRECTION_UNIT);
-    let rest = arrays::fraction((raw_slack % UNIT_U64) as i64, DIRECTION_UNIT);
-    let up = raw_slack / UNIT_U64 + rest;
-    let bound = (raw >> 20) + (part as i64);
-    let slack = (up + part) as i64;
-    Rounded { bound, slack }
+    Rounded {
+        bound: (raw >> 20) + part as i64,
+        slack: (raw_slack.div_ceil(u64::from(DIRECTION_UNIT)) + part) as i64,
+    }
 }

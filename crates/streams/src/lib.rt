@@ -14,10 +14,7 @@ fn read_some<R: Read>(input: &mut R, out: &mut [u8]) -> usize
     ensures count { result ≤ length out.new }
     ensures bytes { Consumes (R.remaining input.old) (R.remaining input.new) (take result out.new) }
 {
-    match input.read(out) {
-        Ok(n) => n,
-        Err(_) => 0,
-    }
+    input.read(out).unwrap_or(0)
 }
 
 // Listing 9. Reads until `out` is full, the input ends or a read fails, and answers how many bytes stand at the start of `out`: the next
@@ -27,6 +24,7 @@ pub fn read_full<R: Read>(input: &mut R, out: &mut [u8]) -> usize
     ensures bytes { Consumes (R.remaining input.old) (R.remaining input.new) (take result out.new) }
 {
     let mut done = 0;
+    // Kept: a `while`, since each read tells where the next begins.
     while done < out.len() {
         let n = read_some(input, &mut out[done..]);
         if n == 0 {
@@ -39,10 +37,8 @@ pub fn read_full<R: Read>(input: &mut R, out: &mut [u8]) -> usize
 
 // What an error says, without the system's number of it, which `io::Error` adds.
 fn reason(text: &str) -> &str {
-    match text.split_once(" (os error ") {
-        Some((reason, _)) => reason,
-        None => text,
-    }
+    text.split_once(" (os error ")
+        .map_or(text, |(reason, _)| reason)
 }
 
 // Listing 9. A line on standard error: what failed, a colon and why. Nothing is left to do where standard error takes nothing.

@@ -1,15 +1,17 @@
 -- Decimal digits from the last to the first: the digits still to come are those of the rest. Assumes nothing.
-use mathlib.Core.Path.{◌≡◌, refl, sym, ap, subst, ◌∙◌}
+use mathlib.Core.Path.{◌≡◌, refl, sym, ap, ◌∙◌}
 use mathlib.Core.Bool.{Bool, true, false, cond}
 use mathlib.Core.List.{List, [], ◌∷◌, ◌++◌, append_assoc, append-nil}
-use Prim.Native.Nat.{ℕ, zero, suc, ◌+◌, ◌/◌, ◌%◌, ◌^◌, ◌≤◌, ◌<◌}
-use native.Mathlib.Nat.{pow-suc, pow-zero}
+use Prim.Native.Nat.{ℕ, zero, suc, ◌+◌, ◌*◌, ◌/◌, ◌%◌, ◌^◌, ◌≤◌, ◌<◌}
+use native.Mathlib.Decide.{dec_lt}
+use native.Mathlib.Nat.{pow-suc, pow-zero, one-le-pow}
 use native.Mathlib.Omega.{arith}
 use borrow.Author.Tests.{lt-ltb, le-ltb}
 use lib.Dec.{ltb}
 use lib.ListN.{length, length-append}
 use lib.IntN.{ℤ, pos, negsuc, nat_abs}
 use lib.Signed.{lt_z}
+use Rattle.std.specs.Prelude.{Option, None, Some, IfNone, IfSome, unwrap_or}
 use Rattle.integers.proofs.SignedParts.{v, #, ◌⊕◌, le?}
 use Rattle.integers.proofs.Order.{lt-of-lt_z, le-of-lt_z-false}
 use Rattle.text.specs.Text.{word, digit, decimal_for, decimal, signed_decimal}
@@ -35,59 +37,55 @@ length-decimal n = length-decimal_for 20 n
 -- t has the last digits of n, and the rest's are still to come.
 pub record Digits (n rest : ℕ) (t : List ℕ) : Type 0 where
   pub places : ℕ
-  pub below : rest < 10 ^ suc places
-  pub whole : decimal n ≡ decimal_for (suc places) rest ++ t
+  pub whole : decimal n ≡ decimal_for places rest ++ t
 
-pub digits-none : (n : ℕ) → n < 18446744073709551616 → Digits n n []
+pub digits-none : (n : ℕ) → Digits n n []
 unfolding decimal
-digits-none n h = record { places = 19; below = omega (arith, h); whole = sym (append-nil (decimal_for 20 n)) }
+digits-none n = record { places = 20; whole = sym (append-nil (decimal_for 20 n)) }
 
--- one digit more
-pub digits_more : (n rest : ℕ) (t : List ℕ) → 10 ≤ rest → Digits n rest t → Digits n (rest / 10) (digit (rest % 10) ∷ t)
-digits_more n rest t h d = cases d.places d.below d.whole
+-- one digit more, which is the first one where the rest is below ten
+pub digits_more : (n rest : ℕ) (t : List ℕ) → length t < length (decimal n) → Digits n rest t → Digits n (rest / 10) (digit (rest % 10) ∷ t)
+digits_more n rest t more d = cases d.places d.whole
   where
-    cases : (places : ℕ) → rest < 10 ^ suc places → decimal n ≡ decimal_for (suc places) rest ++ t → Digits n (rest / 10) (digit (rest % 10) ∷ t)
-    cases zero below whole = absurd (omega (arith, below, pow-suc 10 0, pow-zero 10))
-    cases (suc places) below whole =
-        record {
-          places = places;
-          below = omega (arith, below, pow-suc 10 (suc places));
-          whole = whole ∙ ap (λ (x : List ℕ). x ++ t) (more-digits (suc places) rest h) ∙ append_assoc (decimal_for (suc places) (rest / 10)) (digit (rest % 10) ∷ []) t;
-        }
-
--- a pair of digits more
-pub digits-pair : (n rest : ℕ) (t : List ℕ) → 100 ≤ rest → Digits n rest t → Digits n (rest / 100) (digit (rest % 100 / 10) ∷ digit (rest % 100 % 10) ∷ t)
-digits-pair n rest t h d =
-    let two = digits_more n (rest / 10) (digit (rest % 10) ∷ t) (omega (arith, h)) (digits_more n rest t (omega (arith, h)) d) in
-    let left : rest / 10 / 10 ≡ rest / 100 = omega arith in
-    let tens : rest / 10 % 10 ≡ rest % 100 / 10 = omega arith in
-    let ones : rest % 10 ≡ rest % 100 % 10 = omega arith in
-    subst (λ (k : ℕ). Digits n k (digit (rest % 100 / 10) ∷ digit (rest % 100 % 10) ∷ t)) left
-    (subst (λ (x : ℕ). Digits n (rest / 10 / 10) (digit x ∷ digit (rest % 100 % 10) ∷ t)) tens (subst (λ (y : ℕ). Digits n (rest / 10 / 10) (digit (rest / 10 % 10) ∷ digit y ∷ t)) ones two))
-
--- the first digit is the last to come
-pub digits-all : (n rest : ℕ) (t : List ℕ) → rest < 10 → Digits n rest t → decimal n ≡ digit rest ∷ t
-digits-all n rest t h d = d.whole ∙ ap (λ (x : List ℕ). x ++ t) (last-digit d.places rest h)
-
-pub digits-all-two : (n rest : ℕ) (t : List ℕ) → 10 ≤ rest → rest < 100 → Digits n rest t → decimal n ≡ digit (rest / 10) ∷ digit (rest % 10) ∷ t
-digits-all-two n rest t h l d = digits-all n (rest / 10) (digit (rest % 10) ∷ t) (omega (arith, l)) (digits_more n rest t h d)
-
-pub digits-left : (n rest : ℕ) (t : List ℕ) → Digits n rest t → length t ≤ length (decimal n)
-digits-left n rest t d = omega (arith, ap length d.whole, length-append (decimal_for (suc d.places) rest) t)
-
--- with a rest of a hundred or more, three at least are still to come
-pub digits-three : (n rest : ℕ) (t : List ℕ) → 100 ≤ rest → Digits n rest t → length t + 3 ≤ length (decimal n)
-digits-three n rest t h d =
-    let pair = digits-pair n rest t h d in
-    let more = some-digit pair.places (rest / 100) in
-    omega (arith, ap length pair.whole, length-append (decimal_for (suc pair.places) (rest / 100)) (digit (rest % 100 / 10) ∷ digit (rest % 100 % 10) ∷ t), more)
-  where
-    some-digit : (places n : ℕ) → 1 ≤ length (decimal_for (suc places) n)
-    some-digit places n = cases (ltb n 10)
+    cases : (places : ℕ) → decimal n ≡ decimal_for places rest ++ t → Digits n (rest / 10) (digit (rest % 10) ∷ t)
+    cases zero whole = absurd (omega (arith, ap length whole))
+    cases (suc places) whole = elim (dec_lt rest 10) [ yes l ↦ first l | no g ↦ later (omega (arith, g)) ]
       where
-        cases : (t : Bool) → 1 ≤ length (cond t (digit n ∷ []) (decimal_for places (n / 10) ++ (digit (n % 10) ∷ [])))
-        cases true = omega arith
-        cases false = omega (arith, length-append (decimal_for places (n / 10)) (digit (n % 10) ∷ []))
+        first : rest < 10 → Digits n (rest / 10) (digit (rest % 10) ∷ t)
+        first l =
+            let same : rest ≡ rest % 10 = omega arith in
+            record { places = 0; whole = whole ∙ ap (λ (x : List ℕ). x ++ t) (last-digit places rest l) ∙ ap (λ (k : ℕ). digit k ∷ t) same }
+
+        later : 10 ≤ rest → Digits n (rest / 10) (digit (rest % 10) ∷ t)
+        later g =
+            record {
+              places = places;
+              whole = whole ∙ ap (λ (x : List ℕ). x ++ t) (more-digits places rest g) ∙ append_assoc (decimal_for places (rest / 10)) (digit (rest % 10) ∷ []) t;
+            }
+
+-- as many digits as there are, are all of them
+pub digits-all : (n rest : ℕ) (t : List ℕ) → length t ≡ length (decimal n) → Digits n rest t → decimal n ≡ t
+digits-all n rest t all d = cases (decimal_for d.places rest) d.whole
+  where
+    cases : (left : List ℕ) → decimal n ≡ left ++ t → decimal n ≡ t
+    cases [] whole = whole
+    cases (x ∷ left) whole = absurd (omega (arith, ap length whole, length-append left t))
+
+-- ---- how many there are
+
+-- by the largest power of ten that is no larger than the number
+length-decimal_by : (places k n : ℕ) → k < places → 10 ^ k ≤ n → n < 10 * 10 ^ k → length (decimal_for places n) ≡ k + 1
+length-decimal_by zero k n room low high = absurd (omega arith)
+length-decimal_by (suc places) zero n room low high = ap length (last-digit places n (omega (arith, high, pow-zero 10)))
+length-decimal_by (suc places) (suc k) n room low high =
+    let more = length-decimal_by places k (n / 10) (omega arith) (omega (arith, low, pow-suc 10 k)) (omega (arith, high, pow-suc 10 k)) in
+    omega (arith, more, ap length (more-digits places n (omega (arith, low, pow-suc 10 k, one-le-pow k 10 (omega arith)))), length-append (decimal_for places (n / 10)) (digit (n % 10) ∷ []))
+
+-- by the logarithm, which 0 has none of
+pub decimal-places : (n : ℕ) (log : Option ℕ) → IfNone log (n ≡ 0) → IfSome log (λ k. 10 ^ k ≤ n) → IfSome log (λ k. n < 10 * 10 ^ k) → IfSome log (λ k. k < 20) → unwrap_or log 0 + 1 ≡ length (decimal n)
+unfolding decimal
+decimal-places n None zeros low high few = sym (ap length (last-digit 19 n (omega (arith, zeros))))
+decimal-places n (Some k) zeros low high few = sym (length-decimal_by 20 k n few low high)
 
 -- ---- with a sign
 

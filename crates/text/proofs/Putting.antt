@@ -1,11 +1,10 @@
 -- Texts in a buffer: what one function put and what the next put behind it are one text; nothing is cut where the rooms add up.
 -- Assumes nothing.
-use mathlib.Core.Path.{◌≡◌, refl, sym, ap, ap₂, subst, ◌∙◌}
+use mathlib.Core.Path.{◌≡◌, sym, ap, ap₂, subst, ◌∙◌}
 use mathlib.Core.List.{List, [], ◌∷◌, ◌++◌, append_assoc}
 use Prim.Native.Nat.{ℕ, suc, ◌+◌, ◌≤◌, ◌<◌}
-use native.Mathlib.Nat.{le_of_lt, add-suc, suc-add, add-zero}
+use native.Mathlib.Nat.{le_of_lt, add-suc, suc-add}
 use native.Mathlib.Omega.{arith}
-use native.Mathlib.Numerals.{add-one}
 use lib.ListN.{length, get_or, set, take, drop, length-append, length-drop}
 use lib.Seq.{length-take-le, take-suc, set_at, take_at, drop-append-add, drop-drop, paste, paste-zero, take-length}
 use Rattle.text.specs.Put.{splice, Put, Puts}
@@ -39,16 +38,6 @@ splice-before b t i x h =
     ∙ set_at (take i b) y (t ++ rest) x i (length-take-le i b (le_of_lt h))
     ∙ sym (append_assoc (take i b) (x ∷ t) rest)
     ∙ ap (λ (k : ℕ). take i b ++ (x ∷ t) ++ drop k b) (suc-add i (length t) ∙ sym (add-suc i (length t)))
-
--- two bytes in front of it
-pub splice-pair : (b t : List ℕ) (i x y : ℕ) → i + 1 < length b → set (set (splice b (i + 2) t) (i + 1) y) i x ≡ splice b i (x ∷ y ∷ t)
-splice-pair b t i x y h =
-    ap₂ (λ (j k : ℕ). set (set (splice b k t) j y) i x) (add-one i) two
-    ∙ ap (λ (l : List ℕ). set l i x) (splice-before b t (suc i) y (subst (λ (k : ℕ). k < length b) (add-one i) h))
-    ∙ splice-before b (y ∷ t) i x (omega (arith, h))
-  where
-    two : i + 2 ≡ suc (suc i)
-    two = omega arith
 
 -- ---- what was put
 
@@ -99,20 +88,19 @@ module _ {m at : ℕ} {t b c : List ℕ} {r : ℕ} where
           ∙ drop-drop (length u) (at + length t) b
           ∙ ap (λ (k : ℕ). drop k b) ends
 
-pub put-none : (n at : ℕ) (b : List ℕ) → at ≤ length b → Put n at [] b b at
-put-none n at b h = record { end = sym (add-zero at); small = omega arith; room = h; text = sym (splice-none b at) }
-
 -- ---- where the room was tested
 
 module _ {room at : ℕ} {t b : List ℕ} where
   pub puts-fits : {c : List ℕ} {r : ℕ} → at + room ≤ length b → Put room at t b c r → Puts room at t b c r
   puts-fits h p = record { fits = λ l. p; full = λ l. absurd (omega (arith, h, l)) }
 
-  pub puts-full : length b < at + room → Puts room at t b b at
-  puts-full h = record { fits = λ l. absurd (omega (arith, h, l)); full = λ l. (refl, refl) }
-
   pub puts-is : {c : List ℕ} {r : ℕ} (u : List ℕ) → t ≡ u → Puts room at t b c r → Puts room at u b c r
   puts-is {c} {r} u e p = subst (λ (x : List ℕ). Puts room at x b c r) e p
+
+-- a text of known bytes and length, where there is room for it
+pub puts_whole : {at : ℕ} {w b c : List ℕ} {r : ℕ} (t : List ℕ) (k : ℕ) → w ≡ t → length t ≡ k → at + k ≤ length b → Puts (length w) at w b c r → Put k at t b c r
+puts_whole {w = w} t k same long room p =
+    put-most k (omega (arith, ap length same, long)) (put_is t same (p.fits (omega (arith, ap length same, long, room))))
 
 -- a text behind another, where there is room for both
 pub puts_then : {m n at : ℕ} {t u b c d : List ℕ} {r s : ℕ} → Put m at t b c r → Puts n r u c d s → at + (m + n) ≤ length b → Put (m + n) at (t ++ u) b d s

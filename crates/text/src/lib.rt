@@ -4,9 +4,13 @@
 // No public function has a `requires`.
 #![tactic(auto)]
 
+mod output;
+
 ghost use Rattle.std.specs.Prelude.{◌≡◌, ◌+◌, length};
 ghost use Rattle.text.specs.Text.{decimal, signed_decimal, line};
 ghost use Rattle.text.specs.Put.{Puts, ToldFull};
+
+pub use output::Output;
 
 // Routines 17. The room that a number asks for, a signed one, and a line beside its two words.
 pub const NUMBER_ROOM: usize = 20;
@@ -19,44 +23,32 @@ pub const LINE_ROOM: usize = 2 * NUMBER_ROOM + 1;
 fn full(size: usize, at: usize, room: usize) -> bool
     ensures { ToldFull size at room result }
 {
-    if size < at {
-        return true;
-    }
-    size - at < room
+    size.checked_sub(at).is_none_or(|left| left < room)
 }
 
 // Routines 17. The bytes of a word, where there is room for them.
+// Kept: a buffer and an index, here and below, since Routines 17 has them so; `Output` is both in one.
 pub fn put(out: &mut [u8], at: usize, word: &[u8]) -> usize
     ensures { Puts (length word.now) at word.now out.old out.new result }
 {
     if full(out.len(), at, word.len()) {
         return at;
     }
-    let mut i: usize = 0;
-    while i < word.len() {
-        out[at + i] = word[i];
-        i += 1;
+    // Kept: a loop and no `copy_from_slice`, which would make the archive of the C interface need memmove.
+    for (i, byte) in word.iter().enumerate() {
+        out[at + i] = *byte;
     }
-    at + i
+    at + word.len()
 }
 
-// How many decimal digits n has, counted by pairs.
+// How many decimal digits n has.
 fn places(n: u64) -> usize
     ensures { result ≡ length (decimal n) }
 {
-    let mut rest = n;
-    let mut k: usize = 1;
-    while 100 <= rest {
-        rest /= 100;
-        k += 2;
-    }
-    if 10 <= rest {
-        return k + 1;
-    }
-    k
+    n.checked_ilog10().unwrap_or(0) as usize + 1
 }
 
-// Routines 17. n in decimal, from its last pair of digits to its first, where there is room for twenty digits.
+// Routines 17. n in decimal, from its last digit to its first, where there is room for twenty digits.
 pub fn put_decimal(out: &mut [u8], at: usize, n: u64) -> usize
     ensures { Puts 20 at (decimal n) out.old out.new result }
 {
@@ -65,20 +57,10 @@ pub fn put_decimal(out: &mut [u8], at: usize, n: u64) -> usize
     }
     let end = at + places(n);
     let mut rest = n;
-    let mut i = end;
-    while 100 <= rest {
-        let pair = rest % 100;
-        rest /= 100;
-        i -= 2;
-        out[i + 1] = 48 + (pair % 10) as u8;
-        out[i] = 48 + (pair / 10) as u8;
+    for i in (at..end).rev() {
+        out[i] = b'0' + (rest % 10) as u8;
+        rest /= 10;
     }
-    if 10 <= rest {
-        out[at + 1] = 48 + (rest % 10) as u8;
-        out[at] = 48 + (rest / 10) as u8;
-        return end;
-    }
-    out[at] = 48 + rest as u8;
     end
 }
 
@@ -89,26 +71,21 @@ pub fn put_signed(out: &mut [u8], at: usize, x: i64) -> usize
     if full(out.len(), at, SIGNED_ROOM) {
         return at;
     }
-    if x < 0 {
-        let start = put(out, at, b"-");
-        return put_decimal(out, start, arrays::magnitude(x));
-    }
-    put_decimal(out, at, arrays::magnitude(x))
+    let start = if x < 0 { put(out, at, b"-") } else { at };
+    put_decimal(out, start, x.unsigned_abs())
 }
 
 // Routines 17. A line of two words with a number behind each, where there is room for twenty digits of each number.
 pub fn put_line(out: &mut [u8], at: usize, first: &[u8], a: u64, second: &[u8], b: u64) -> usize
     ensures { Puts (length first.now + 20 + length second.now + 20 + 1) at (line first.now a second.now b) out.old out.new result }
 {
-    if full(out.len(), first.len(), second.len()) {
+    let words = first.len() + second.len();
+    if full(out.len(), at, words.saturating_add(LINE_ROOM)) {
         return at;
     }
-    if full(out.len() - first.len() - second.len(), at, LINE_ROOM) {
-        return at;
-    }
-    let mut end = put(out, at, first);
-    end = put_decimal(out, end, a);
-    end = put(out, end, second);
-    end = put_decimal(out, end, b);
+    let end = put(out, at, first);
+    let end = put_decimal(out, end, a);
+    let end = put(out, end, second);
+    let end = put_decimal(out, end, b);
     put(out, end, b"\n")
 }

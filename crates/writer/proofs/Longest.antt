@@ -13,11 +13,11 @@ use Rattle.reachability.specs.declared.sets.Set.{Set}
 use Rattle.reachability.specs.declared.model.Model.{Model}
 use Rattle.reachability.specs.Limits.{accepted}
 use Rattle.reachability.specs.Motion.{motion_ok}
-use Rattle.reader.specs.declared.Status.{Status}
-use Rattle.reader.specs.declared.Status.TheVariants.{Read, Refused}
+use Rattle.reader.specs.declared.refusals.Refused.{Refused}
 use Rattle.reader.specs.Reading.{read_model}
 use Rattle.reader.proofs.ReadModels.{read_model-accepted}
-use Rattle.writer.specs.declared.Rewritten.TheVariants as R
+use Rattle.std.specs.Prelude.{Result, Ok, Err}
+use Rattle.writer.specs.declared.RewriteRefusal.TheVariants as R
 use Rattle.writer.specs.Writing.{is_zero_box, file_of}
 use Rattle.writer.specs.Answers.{rewritten_number, rewritten_as, rewrite_answer}
 use Rattle.writer.proofs.parts.Counts.{counts}
@@ -29,18 +29,15 @@ file_of-short m ok =
     omega (arith, length-file_of m, all.n, all.drift, all.initial, all.input, all.directions, all.guards)
 
 -- So a slice of 1,546 bytes is never too short.
-pub rewrite-fits : (file : List ℕ) (room : ℕ) → 1546 ≤ room → rewrite_answer file room ≡ R.Short → ⊥
-rewrite-fits file room h = by (read_model file).status refl
+pub rewrite-fits : (file : List ℕ) (room : ℕ) → 1546 ≤ room → rewrite_answer file room ≡ Err R.Short → ⊥
+rewrite-fits file room h = by (read_model file) refl
   where
-    size : ℕ
-    size = length (file_of (read_model file).model)
-
-    by : (s : Status) → (read_model file).status ≡ s → rewritten_as s size room ≡ R.Short → ⊥
-    by Read e short =
-        let enough = file_of-short (read_model file).model (read_model-accepted file e) in
-        let z : ◌≡◌ {A = ℕ} 0 22 = ap rewritten_number (sym (ap (λ (t : Bool). cond t (R.Length size) R.Short) (le-leb size room (omega (arith, enough)))) ∙ short) in
+    by : (r : Result Model Refused) → read_model file ≡ r → rewritten_as r room ≡ Err R.Short → ⊥
+    by (Ok m) e short =
+        let enough = file_of-short m (read_model-accepted file e) in
+        let z : ◌≡◌ {A = ℕ} 0 22 = ap rewritten_number (sym (ap (λ (t : Bool). cond t (Ok (length (file_of m))) (Err R.Short)) (le-leb (length (file_of m)) room (omega (arith, enough)))) ∙ short) in
         omega arith
-    by (Refused number offset) e short = let z : ◌≡◌ {A = ℕ} 0 1 = cc in omega arith
+    by (Err e) is short = let z : ◌≡◌ {A = ℕ} 0 1 = cc in omega arith
 
 -- sixteen directions, each of them the first coordinate
 ones : ℕ → List ℤ

@@ -22,8 +22,8 @@ use Rattle.stepping.specs.Refusals.{dimension_ok}
 use Rattle.limits.specs.Limits.{all_zero}
 use Rattle.reachability.specs.declared.model.Model.{Model}
 use Rattle.reachability.specs.Sets.{reach_limit}
-use Rattle.coefficients.specs.declared.EntryAnswer.{EntryAnswer}
-use Rattle.coefficients.specs.declared.EntryAnswer.TheVariants.{Entry}
+use Rattle.std.specs.Prelude.{Result, Ok}
+use Rattle.coefficients.specs.declared.EntryRefusal.{EntryRefusal}
 use Rattle.coefficients.specs.Entries.{entry_value, scaled_entry}
 use Rattle.coefficients.specs.Rows.{answer_at, entries_number, stored_six}
 use Rattle.coefficients.proofs.RowLaws.{entries_number-cong, entries_number-ind, stored_six-cong}
@@ -76,7 +76,7 @@ module _ (n steps : ℕ) (dimension : dimension_ok n ≡ true) (least : 1 ≤ st
 
 -- ---- the rows
 
-entry-of : (z : ℤ) → nat_abs z ≤ entry_limit → scaled_entry z ≡ Entry z
+entry-of : (z : ℤ) → nat_abs z ≤ entry_limit → scaled_entry z ≡ Ok z
 unfolding scaled_entry
 entry-of z h = simp (le-leb (nat_abs z) entry_limit h)
 
@@ -92,8 +92,8 @@ module _ (m : Model) (rows : List ℤ) (fits : Fits32 rows) (small : (p i : ℕ)
     abbrev row : List ℕ
     row = p ∷ six_bytes rows p
 
-    abbrev entries : ℕ → EntryAnswer
-    entries i = Entry (matrix rows p i)
+    abbrev entries : ℕ → Result ℤ EntryRefusal
+    entries i = Ok (matrix rows p i)
 
     answers : (i : ℕ) → i < 6 → row_answer (layout_of 0x02) row i ≡ entries i
     unfolding layout_of
@@ -108,7 +108,7 @@ module _ (m : Model) (rows : List ℤ) (fits : Fits32 rows) (small : (p i : ℕ)
     six-is i h =
         ap (λ (six : List ℤ). vector six i) (stored_six-cong m.n {f = row_answer (layout_of 0x02) row} {g = entries} answers)
         ∙ get_or-tabulate 6 (λ j. entry_value (answer_at m.n entries j)) i (pos 0) h
-        ∙ elim (dec_lt i m.n) [ yes l ↦ ap (λ (b : Bool). entry_value (cond b (entries i) (Entry (pos 0)))) (lt-ltb i m.n l) | no g ↦ ap (λ (b : Bool). entry_value (cond b (entries i) (Entry (pos 0)))) (le-ltb i m.n (omega (arith, g))) ∙ sym (beyond p i h (omega (arith, g))) ]
+        ∙ elim (dec_lt i m.n) [ yes l ↦ ap (λ (b : Bool). entry_value (cond b (entries i) (Ok (pos 0)))) (lt-ltb i m.n l) | no g ↦ ap (λ (b : Bool). entry_value (cond b (entries i) (Ok (pos 0)))) (le-ltb i m.n (omega (arith, g))) ∙ sym (beyond p i h (omega (arith, g))) ]
 
     row-taken : Taken (at rows_place p) 0x02 row (at (place_at (suc p)) (suc p))
     unfolding body_length layout_of may_follow kind_number stored with_row row_number

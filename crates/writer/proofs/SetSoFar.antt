@@ -10,6 +10,7 @@ use native.Mathlib.Omega.{arith}
 use borrow.Author.Tests.{le-leb, leb-true}
 use lib.Dec.{leb}
 use lib.IntN.{ℤ, pos, nat_abs}
+use Rattle.std.specs.Prelude.{Option}
 use Rattle.integers.specs.Sums.{max_ℕ}
 use Rattle.integers.proofs.Booleans.{and-true}
 use Rattle.integers.proofs.Sums.{sum_ℕ-le, all_below-intro, all_below-at, le-max_ℕ, max_ℕ-le}
@@ -78,7 +79,7 @@ module _ (n count : ℕ) (shape : Shape) (xs : List ℤ) (k : ℕ) (ok : set_ok 
       ap (corners_ordered n) (ap (λ (j : ℕ). kept_rows j xs) all ∙ rows_all count n xs parts.1)
       ∙ ap₂ ◌&&◌ (le-leb n 6 few) (subst (λ (t : Shape). ordered_ok n t (points xs) ≡ true) (sym e ∙ box) parts.3)
 
-  pub point-passes : n ≤ 6 → (point : Point) → (is_upper point ≡ true → (shape ≡ Box) × (suc k ≡ count)) → point_ok n point (so_far shape (suc k) xs) ≡ true
+  pub point-passes : n ≤ 6 → (point : Option Point) → (is_upper point ≡ true → (shape ≡ Box) × (suc k ≡ count)) → point_ok n point (so_far shape (suc k) xs) ≡ true
   unfolding so_far point_ok
   point-passes few point upper = ap₂ ◌&&◌ reach-passes (corners (is_upper point) refl)
     where

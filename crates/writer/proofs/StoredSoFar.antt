@@ -14,6 +14,8 @@ use mir.Syntax.{w64}
 use mir.Val.{SFits}
 use Rattle.integers.specs.Sums.{vector}
 use Rattle.integers.proofs.Machine.{AllBytes, length-tabulate, get_or-replicate-default}
+use Rattle.std.specs.Prelude.{Ok}
+use Rattle.reachability.specs.declared.model.Model.{Model}
 use Rattle.reachability.specs.declared.sets.Set.{Set}
 use Rattle.reachability.specs.Lengths.{Lengths, SetLengths}
 use Rattle.reachability.specs.Sets.{zero_box}
@@ -27,7 +29,6 @@ use Rattle.records.proofs.RecordAt.{whole-bytes}
 use Rattle.columns.specs.Columns.{six_at, entry_at}
 use Rattle.filling.specs.Models.{zeros, blank_set, blank_model}
 use Rattle.filling.proofs.PutRow.{length-put_row}
-use Rattle.reader.specs.declared.Status.TheVariants.{Read}
 use Rattle.reader.specs.declared.state.State.{State}
 use Rattle.reader.specs.Models.{start, with_head, with_row, with_drift, with_point, with_set_point, with_direction, with_guard}
 use Rattle.reader.specs.Refusals.{stored_in, stored}
@@ -125,7 +126,7 @@ module _ (file : List ℕ) (bytes : AllBytes file) where
   next at s kind body st g = stored-part s (layout_of kind) body (whole-bytes file at kind body g.stands bytes) st (part_of kind)
 
   -- Of every file that is read.
-  pub read_model-stored : (read_model file).status ≡ Read → Stored (read_model file).model
+  pub read_model-stored : {m : Model} → read_model file ≡ Ok m → Stored m
   unfolding read_model
   read_model-stored e =
       subst Stored (sym (read_from-model file 0 start e))

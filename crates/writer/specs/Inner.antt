@@ -1,10 +1,5 @@
 -- What the inner functions of the writer ask of each other. Definitions only; no public contract cites them. Assumes nothing.
-use Rattle.std.specs.Prelude.{List, ℕ, suc, ◌-◌, ◌^◌, ◌<◌, ℤ, pos, negsuc, get_or}
-
--- A signed number as 64 bits, in two's complement (File 2).
-abbrev pub bits_of : ℤ → ℕ
-bits_of (pos n) = n
-bits_of (negsuc n) = 2 ^ 64 - suc n
+use Rattle.std.specs.Prelude.{List, ℕ, ◌<◌, get_or}
 
 -- Each of the first so many numbers fits a byte.
 abbrev pub Small : ℕ → List ℕ → Type 0

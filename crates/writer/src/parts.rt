@@ -1,14 +1,16 @@
 // The parts of a model's file (Writing 1 and 2).
 ghost use Rattle.std.specs.Prelude.{◌≡◌, true, cond, ◌+◌, ◌*◌, ◌≤◌, length};
 ghost use Rattle.text.specs.Put.{Put};
+ghost use Rattle.text.specs.Output.{PutNext};
 ghost use Rattle.reachability.specs.Limits.{accepted};
 ghost use Rattle.writer.specs.Writing.{file_of, is_zero_box, row_records, vector_records, drift_count, point_records, input_count, guard_records};
 ghost use Rattle.writer.specs.Inner.{Small};
 
-use crate::encoding::{bits, put_number, put_six};
+use crate::encoding::put_six;
 use reachability::model::Model;
 use reachability::motion::rows_of;
 use reachability::sets::{Set, Shape};
+use text::Output;
 
 // File 3. The kinds of the records that are written. Those of a set's points are counted from the part's.
 const HEAD: u8 = 0x01;
@@ -28,82 +30,58 @@ const GUARD: u8 = 0x40;
 const END: u8 = 0xFF;
 
 // A scaled row for each of the first n rows.
-fn put_rows(out: &mut [u8], at: usize, n: usize, rows: &[i32; 36]) -> usize
-    requires { (n ≤ 6) × (at + 26 * n ≤ length out.old) }
-    ensures { Put (26 * n) at (row_records n rows.now) out.old out.new result }
+fn put_rows(out: &mut Output, n: usize, rows: &[i32; 36])
+    requires { (n ≤ 6) × (out.old.at + 26 * n ≤ length out.old.bytes.now) }
+    ensures { PutNext (26 * n) (row_records n rows.now) out.old out.new }
 {
-    let mut end = at;
-    let mut p: usize = 0;
-    while p < n {
-        out[end] = ROW;
-        out[end + 1] = p as u8;
-        end = put_six(out, end + 2, rows, p);
-        p += 1;
+    for p in 0..n {
+        out.put(&[ROW, p as u8]);
+        put_six(out, rows, p);
     }
-    end
 }
 
 // A record for each of the first `count` rows of six, the first of one kind and the others of another.
-fn put_vectors(out: &mut [u8], at: usize, first: u8, other: u8, count: usize, xs: &[i32]) -> usize
-    requires { (at + 25 * count ≤ length out.old) × (6 * count ≤ length xs.now) }
-    ensures { Put (25 * count) at (vector_records first other count xs.now) out.old out.new result }
+fn put_vectors(out: &mut Output, first: u8, other: u8, count: usize, xs: &[i32])
+    requires { (out.old.at + 25 * count ≤ length out.old.bytes.now) × (6 * count ≤ length xs.now) }
+    ensures { PutNext (25 * count) (vector_records first other count xs.now) out.old out.new }
 {
-    let mut end = at;
-    let mut k: usize = 0;
-    while k < count {
-        let kind: u8 = if k == 0 { first } else { other };
-        out[end] = kind;
-        end = put_six(out, end + 1, xs, k);
-        k += 1;
+    for k in 0..count {
+        let kind = if k == 0 { first } else { other };
+        out.put(&[kind]);
+        put_six(out, xs, k);
     }
-    end
 }
 
 // The first `count` points of a set. `part` is the kind of a lower corner.
-fn put_points(out: &mut [u8], at: usize, part: u8, set: Set, count: usize) -> usize
-    requires { (part ≤ 0x20) × (count ≤ 16) × (at + 25 * count ≤ length out.old) }
-    ensures { Put (25 * count) at (point_records part set count) out.old out.new result }
+fn put_points(out: &mut Output, part: u8, set: Set, count: usize)
+    requires { (part ≤ 0x20) × (count ≤ 16) × (out.old.at + 25 * count ≤ length out.old.bytes.now) }
+    ensures { PutNext (25 * count) (point_records part set count) out.old out.new }
 {
-    let points = set.points;
-    let shape = set.shape;
-    match shape {
-        Shape::Box => put_vectors(out, at, part, part + 1, count, &points),
-        Shape::Zonotope => put_vectors(out, at, part + 2, part + 3, count, &points),
-        Shape::Vertices => put_vectors(out, at, part + 4, part + 4, count, &points),
-    }
+    let (first, other) = match set.shape {
+        Shape::Box => (part, part + 1),
+        Shape::Zonotope => (part + 2, part + 3),
+        Shape::Vertices => (part + 4, part + 4),
+    };
+    put_vectors(out, first, other, count, &set.points);
 }
 
 // A guard for each of the first `count`.
-fn put_guards(
-    out: &mut [u8],
-    at: usize,
-    count: usize,
-    watched: &[usize; 16],
-    levels: &[i64; 16],
-) -> usize
-    requires { (count ≤ 16) × (at + 10 * count ≤ length out.old) × Small count watched.now }
-    ensures { Put (10 * count) at (guard_records count watched.now levels.now) out.old out.new result }
+fn put_guards(out: &mut Output, count: usize, watched: &[usize; 16], levels: &[i64; 16])
+    requires { (count ≤ 16) × (out.old.at + 10 * count ≤ length out.old.bytes.now) × Small count watched.now }
+    ensures { PutNext (10 * count) (guard_records count watched.now levels.now) out.old out.new }
 {
-    let mut end = at;
-    let mut g: usize = 0;
-    while g < count {
-        out[end] = GUARD;
-        out[end + 1] = watched[g] as u8;
-        end = put_number(out, end + 2, 8, bits(levels[g]));
-        g += 1;
+    for g in 0..count {
+        out.put(&[GUARD, watched[g] as u8]);
+        out.put(&levels[g].to_le_bytes());
     }
-    end
 }
 
 // Writing 2. The set is the stored box of zeros.
 fn is_zero_box(set: Set) -> bool
     ensures { result ≡ is_zero_box set }
 {
-    let points = set.points;
-    let zero = arrays::zero_outside(0, 0, &points);
-    let shape = set.shape;
-    match shape {
-        Shape::Box => set.count == 2 && zero,
+    match set.shape {
+        Shape::Box => set.count == 2 && arrays::zero_outside(0, 0, &set.points),
         Shape::Zonotope => false,
         Shape::Vertices => false,
     }
@@ -113,10 +91,7 @@ fn is_zero_box(set: Set) -> bool
 fn unless_left_out(absent: bool, count: usize) -> usize
     ensures { result ≡ cond absent 0 count }
 {
-    if absent {
-        return 0;
-    }
-    count
+    if absent { 0 } else { count }
 }
 
 fn input_count(set: Set) -> usize
@@ -132,12 +107,12 @@ fn drift_count(drift: &[i32; 6]) -> usize
 }
 
 // The length of the file of a model.
+// Kept: a fact and no type of accepted models, since a model that was read would have to be tested again.
 pub(crate) fn size_of(model: Model) -> usize
     requires { accepted model ≡ true }
     ensures { result ≡ length (file_of model) }
 {
-    let drift = model.drift;
-    let drifts = drift_count(&drift);
+    let drifts = drift_count(&model.drift);
     let inputs = input_count(model.input);
     let vectors = drifts + model.initial.count + inputs + model.questions.directions;
     4 + 26 * model.n + 25 * vectors + 10 * model.questions.guards + 1
@@ -148,26 +123,28 @@ pub(crate) fn put_model(out: &mut [u8], model: Model) -> usize
     requires { (accepted model ≡ true) × (length (file_of model) ≤ length out.old) }
     ensures { Put (length (file_of model)) 0 (file_of model) out.old out.new result }
 {
-    let n = model.n;
-    let steps = model.steps;
-    out[0] = HEAD;
-    out[1] = n as u8;
-    let mut end = put_number(out, 2, 2, steps as u64);
-    let rows = rows_of(model.motion);
-    end = put_rows(out, end, n, &rows);
-    let drift = model.drift;
-    end = put_vectors(out, end, DRIFT, DRIFT, drift_count(&drift), &drift);
-    let initial = model.initial;
-    end = put_points(out, end, INITIAL, initial, initial.count);
-    let input = model.input;
-    end = put_points(out, end, INPUT, input, input_count(input));
-    let directions = model.questions.directions;
-    let entries = model.questions.entries;
-    end = put_vectors(out, end, DIRECTION, DIRECTION, directions, &entries);
-    let guards = model.questions.guards;
-    let watched = model.questions.watched;
-    let levels = model.questions.levels;
-    end = put_guards(out, end, guards, &watched, &levels);
-    out[end] = END;
-    end + 1
+    let asked = model.questions;
+    let mut file = Output { bytes: out, at: 0 };
+    file.put(&[HEAD, model.n as u8]);
+    file.put(&(model.steps as u16).to_le_bytes());
+    put_rows(&mut file, model.n, &rows_of(model.motion));
+    put_vectors(
+        &mut file,
+        DRIFT,
+        DRIFT,
+        drift_count(&model.drift),
+        &model.drift,
+    );
+    put_points(&mut file, INITIAL, model.initial, model.initial.count);
+    put_points(&mut file, INPUT, model.input, input_count(model.input));
+    put_vectors(
+        &mut file,
+        DIRECTION,
+        DIRECTION,
+        asked.directions,
+        &asked.entries,
+    );
+    put_guards(&mut file, asked.guards, &asked.watched, &asked.levels);
+    file.put(&[END]);
+    file.at
 }

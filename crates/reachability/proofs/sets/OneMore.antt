@@ -3,6 +3,7 @@
 use mathlib.Core.Path.{◌≡◌, refl, sym, ap, ap₂, subst, ◌∙◌}
 use mathlib.Core.Bool.{Bool, true, false, cond, ◌&&◌}
 use mathlib.Core.List.{List}
+use Rattle.std.specs.Prelude.{Some, None}
 use Prim.Native.Nat.{ℕ, ◌≤◌, ◌<◌}
 use native.Mathlib.Nat.{le_trans}
 use native.Mathlib.Omega.{arith}
@@ -15,38 +16,28 @@ use Rattle.integers.proofs.Machine.{get_or-tabulate}
 use Rattle.integers.proofs.Sums.{dot-cong, all_below-at, all_below-intro}
 use Rattle.stepping.specs.Refusals.{dimension_ok}
 use Rattle.limits.specs.Limits.{direction_ok}
-use Rattle.reachability.specs.Sets.{points, support_of, set_ok, reach_ok, reach_limit, support_ok, support_answer, support_number, ReachAnswer}
+use Rattle.reachability.specs.Sets.{points, support_of, set_ok, reach_ok, reach_limit, support_ok, support_answer, reach_asked, ReachAnswer}
 use Rattle.reachability.specs.OneMore.{OneMore, new_point, reach_at, GrownBy, VertexMore, GeneratorMore, WithinBefore}
 use Rattle.reachability.specs.declared.sets.Shape.{Shape}
 use Rattle.reachability.specs.declared.sets.Shape.TheVariants.{Box, Zonotope, Vertices}
 use Rattle.reachability.specs.declared.sets.Set.{Set}
-use Rattle.reachability.specs.declared.sets.Supported.{Supported}
-use Rattle.reachability.specs.declared.sets.Supported.TheVariants.{Value, Refused}
+use Rattle.reachability.specs.SetsInner.{Pointwise}
 use Rattle.reachability.proofs.sets.Facts.{n-range, set-facts}
-use Rattle.reachability.proofs.sets.PointByPoint.{larger-pos, figure, with_one_more, figure-more, Pointwise, support-figure, reach-figure}
+use Rattle.reachability.proofs.sets.PointByPoint.{larger-pos, figure, with_one_more, figure-more, support-figure, reach-figure}
 
 -- ---- from an answer to what it says
 
-abbrev value_of : Supported → ℤ
-value_of (Value v) = v
-value_of Refused = pos 0
-
--- `support` answers a value: nothing is refused, and the value is the support
-answered : (b : Bool) (x v : ℤ) → cond b (Value x) Refused ≡ Value v → (b ≡ true) × (v ≡ x)
-answered true x v e = (refl, sym (ap value_of e))
-answered false x v e = let n = ap support_number e in absurd (omega (arith, n))
-
--- `reach` answers number 0
-unrefused : (b : Bool) → ◌≡◌ {A = ℕ} 0 (cond b 0 11) → b ≡ true
-unrefused true e = refl
-unrefused false e = absurd (omega (arith, e))
+-- something is answered: nothing is refused, and it is what the definition has
+answered : {A : Type 0} (b : Bool) (x v : A) → cond b (Some x) None ≡ Some v → (b ≡ true) × (v ≡ x)
+answered true x v e = (refl, cc)
+answered false x v e = cc
 
 module _ (n : ℕ) (s : Set) where
   some-points : dimension_ok n ≡ true → set_ok n s.shape s.count s.points ≡ true → (n ≤ 6) × (1 ≤ s.count)
   some-points d o = ((n-range n d).1, (set-facts n s.shape s.count s.points o).counted.some)
 
   -- a value that `support` answers
-  value-is : (r : List ℤ) (v : ℤ) → support_answer n s r ≡ Value v → (n ≤ 6) × (1 ≤ s.count) × (v ≡ support_of n s.shape s.count (points s.points) (vector r))
+  value-is : (r : List ℤ) (v : ℤ) → support_answer n s r ≡ Some v → (n ≤ 6) × (1 ≤ s.count) × (v ≡ support_of n s.shape s.count (points s.points) (vector r))
   value-is r v e =
       let told = answered (support_ok n s r) (support_of n s.shape s.count (points s.points) (vector r)) v e in
       let both = and-true (dimension_ok n) (set_ok n s.shape s.count s.points && direction_ok n r) told.0 in
@@ -54,13 +45,12 @@ module _ (n : ℕ) (s : Set) where
       let size = some-points both.0 set.0 in
       (size.0, size.1, told.1)
 
-  -- the reaches that `reach` answers with number 0
-  reach-is : (xs : List ℤ) → ReachAnswer n s 0 xs → (i : ℕ) → i < 6 → (1 ≤ s.count) × (vector xs i ≡ pos (reach_at s i))
+  -- the reaches that `reach` answers
+  reach-is : (xs : List ℤ) → ReachAnswer n s (Some xs) → (i : ℕ) → i < 6 → (1 ≤ s.count) × (vector xs i ≡ pos (reach_at s i))
   reach-is xs a i h =
-      let ok = unrefused (dimension_ok n && set_ok n s.shape s.count s.points) a.number_is in
-      let both = and-true (dimension_ok n) (set_ok n s.shape s.count s.points) ok in
-      let told = a.reaches-are ∙ ap (λ (b : Bool). cond b (tabulate 6 (λ j. pos (reach_at s j))) (tabulate 6 (λ j. pos 0))) ok in
-      ((some-points both.0 both.1).1, ap (λ (l : List ℤ). vector l i) told ∙ get_or-tabulate 6 (λ j. pos (reach_at s j)) i (pos 0) h)
+      let told = answered (reach_asked n s) (tabulate 6 (λ j. pos (reach_at s j))) xs (sym a.answer) in
+      let both = and-true (dimension_ok n) (set_ok n s.shape s.count s.points) told.0 in
+      ((some-points both.0 both.1).1, ap (λ (l : List ℤ). vector l i) told.1 ∙ get_or-tabulate 6 (λ j. pos (reach_at s j)) i (pos 0) h)
 
 -- ---- the figures of both sets
 
@@ -75,7 +65,7 @@ module _ (s t : Set) (m : OneMore s t) (w : Pointwise s.shape) where
       ∙ figure-more s.shape s.count some same
       ∙ ap (λ (z : ℤ). with_one_more s.shape z (g s.count)) (sym a)
 
-  support-grows : (n : ℕ) (r : List ℤ) (v u : ℤ) → support_answer n s r ≡ Value v → support_answer n t r ≡ Value u → u ≡ with_one_more s.shape v (dot n (vector r) (new_point s t))
+  support-grows : (n : ℕ) (r : List ℤ) (v u : ℤ) → support_answer n s r ≡ Some v → support_answer n t r ≡ Some u → u ≡ with_one_more s.shape v (dot n (vector r) (new_point s t))
   support-grows n r v u a b =
       let before = value-is n s r v a in
       grown before.1 (before.2 ∙ support-figure n s.shape s.count (points s.points) (vector r) w) ((value-is n t r u b).2 ∙ support-figure n t.shape t.count (points t.points) (vector r) of-t)
@@ -86,7 +76,7 @@ module _ (s t : Set) (m : OneMore s t) (w : Pointwise s.shape) where
       grown some (reach-figure s.shape s.count (points s.points) i w some) (reach-figure t.shape t.count (points t.points) i of-t (omega (arith, m.count-is)))
       (λ k l. ap (λ (z : ℤ). pos (nat_abs z)) (m.points-are k i l h))
 
-  reach-grows : (n : ℕ) (xs ys : List ℤ) → ReachAnswer n s 0 xs → ReachAnswer n t 0 ys → (i : ℕ) → i < 6 → vector ys i ≡ with_one_more s.shape (vector xs i) (pos (nat_abs (new_point s t i)))
+  reach-grows : (n : ℕ) (xs ys : List ℤ) → ReachAnswer n s (Some xs) → ReachAnswer n t (Some ys) → (i : ℕ) → i < 6 → vector ys i ≡ with_one_more s.shape (vector xs i) (pos (nat_abs (new_point s t i)))
   reach-grows n xs ys a b i h =
       let before = reach-is n s xs a i h in
       (reach-is n t ys b i h).1 ∙ reach-so-far-grows before.0 i h ∙ ap (λ (z : ℤ). with_one_more s.shape z (pos (nat_abs (new_point s t i)))) (sym before.1)

@@ -12,6 +12,7 @@ use lib.IntN.{ℤ, pos, nat_abs, ◌+ℤ◌, +ℤ_idr, +ℤ_assoc}
 use Rattle.integers.specs.Sums.{sum_ℕ, max_ℕ, dot}
 use Rattle.integers.proofs.Sums.{sum_ℕ-zero, sum_ℕ-suc, sum_ℕ-cong}
 use Rattle.reachability.specs.Sets.{larger, largest, support_of, reach_of}
+use Rattle.reachability.specs.SetsInner.{Pointwise}
 use Rattle.reachability.specs.OneMore.{plus_magnitude}
 use Rattle.reachability.specs.declared.sets.Shape.{Shape}
 use Rattle.reachability.specs.declared.sets.Shape.TheVariants.{Box, Zonotope, Vertices}
@@ -84,12 +85,6 @@ figure-more Vertices (suc k) {f} {g} h same =
     ∙ ap (λ (z : ℤ). larger z (g (suc k))) (largest-cong k (λ j l. same j (omega arith)) ∙ ap (λ (j : ℕ). largest j f) (sym (last k)))
 
 -- ---- supports and reaches
-
--- a shape whose figures are of this kind
-abbrev pub Pointwise : Shape → Type 0
-Pointwise Box = ⊥
-Pointwise Zonotope = Unit {0}
-Pointwise Vertices = Unit {0}
 
 pub support-figure : (n : ℕ) (shape : Shape) (k : ℕ) (p : ℕ → ℕ → ℤ) (r : ℕ → ℤ) → Pointwise shape → support_of n shape k p r ≡ figure shape k (λ j. dot n r (p j))
 support-figure n Box k p r w = absurd w

@@ -10,6 +10,7 @@ use native.Mathlib.Omega.{arith}
 use lib.Dec.{T}
 use lib.IntN.{ℤ, pos, nat_abs}
 use lib.Signed.{non_neg}
+use Rattle.std.specs.Prelude.{Option}
 use Rattle.integers.specs.Sums.{vector, magnitudes, matrix, dot_ℕ, tabulate}
 use Rattle.integers.proofs.Sums.{sum_ℕ-cong, sum_ℕ-beyond}
 use Rattle.integers.proofs.Machine.{get_or-tabulate, tabulate-cong}
@@ -17,7 +18,6 @@ use Rattle.arrays.specs.Tests.{zero_outside}
 use Rattle.stepping.specs.Limits.{growth_limit, error_limit}
 use Rattle.stepping.specs.Recurrence.{next_r, next_e, growth_sum}
 use Rattle.stepping.specs.Refusals.{dimension_ok, working_ok, step_ok, stepped_r, stepped_e, Steps}
-use Rattle.stepping.specs.declared.Stepped.{Stepped}
 use Rattle.stepping.proofs.Recurrence.{next_r-cong, next_e-cong, growth_sum-cong, value-le-limit, error-le-limit}
 use Rattle.stepping.proofs.Working.{working-ok}
 use Rattle.stepping.proofs.Beyond.{next_r-beyond, next_e-beyond}
@@ -64,7 +64,7 @@ module _ {n : ℕ} (n≤6 : n ≤ 6) {w : Working} {r e : List ℤ} (stored : St
         in-limit = subst (λ (s : ℕ). s ≤ growth_limit) (sym sum-stored) in-limit;
       })
 
-  pub stored_next : (m : List ℤ) → zero_outside n n m ≡ true → step_ok n m r e ≡ true → {a : Stepped} {r' e' : List ℤ} → Steps n m r e a r' e' → Stored n (next n (matrix m) w) r' e'
+  pub stored_next : (m : List ℤ) → zero_outside n n m ≡ true → step_ok n m r e ≡ true → {a : Option ℕ} {r' e' : List ℤ} → Steps n m r e a r' e' → Stored n (next n (matrix m) w) r' e'
   stored_next m around passes st =
       record {
         r-is = st.direction ∙ ap (λ (t : Bool). cond t (stepped_r n m r) r) passes ∙ tabulate-cong 6 (λ i h. r-same i);

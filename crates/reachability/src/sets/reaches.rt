@@ -4,9 +4,11 @@ ghost use Rattle.integers.specs.Sums.{tabulate};
 ghost use Rattle.reachability.specs.Sets.{reach_of, points as points_of};
 ghost use Rattle.reachability.specs.SetsInner.{Counted, ReachSmall};
 
-use crate::sets::Shape;
+use crate::sets::{Set, Shape};
+use std::array;
 
 // The reach in coordinate i.
+// Kept: no method, since `entering_within` (Routines 6) asks it of points that are no whole set yet.
 pub(crate) fn reach_at(shape: Shape, count: usize, points: &[i32; 96], i: usize) -> u64
     requires { Counted count × (i < 6) }
     ensures { result ≡ reach_of shape count (points_of points.now) i }
@@ -18,16 +20,12 @@ pub(crate) fn reach_at(shape: Shape, count: usize, points: &[i32; 96], i: usize)
     }
 }
 
-// The reach in each of the six coordinates, of a set whose reach is within its limit.
-pub(crate) fn reaches_of(shape: Shape, count: usize, points: &[i32; 96]) -> [i64; 6]
-    requires { Counted count × ReachSmall shape count points.now }
-    ensures { result ≡ tabulate 6 (λ i. pos (reach_of shape count (points_of points.now) i)) }
-{
-    let mut reaches = [0i64; 6];
-    let mut i: usize = 0;
-    while i < 6 {
-        reaches[i] = reach_at(shape, count, points, i) as i64;
-        i += 1;
+impl Set {
+    // The reach in each of the six coordinates, of a set whose reach is within its limit.
+    pub(crate) fn reaches(&self) -> [i64; 6]
+        requires { Counted self.now.count × ReachSmall self.now.shape self.now.count self.now.points }
+        ensures { result ≡ tabulate 6 (λ i. pos (reach_of self.now.shape self.now.count (points_of self.now.points) i)) }
+    {
+        array::from_fn(|i| reach_at(self.shape, self.count, &self.points, i) as i64)
     }
-    reaches
 }

@@ -1,15 +1,11 @@
--- Rows as they are held, and as the specification has them: the same entries, so the same number and the same state.
--- Assumes nothing.
-use mathlib.Core.Path.{◌≡◌, sym, ap, subst, ◌∙◌}
+-- Rows as they are held, and as the specification has them: the same entries. Assumes nothing.
+use mathlib.Core.Path.{◌≡◌, sym, ap, ◌∙◌}
 use mathlib.Core.Bool.{Bool, cond}
 use mathlib.Core.List.{List}
 use Prim.Native.Nat.{ℕ, ◌+◌, ◌*◌, ◌<◌}
 use borrow.Author.Tests.{eq-eqb, ne_eqb}
-use lib.Dec.{eqb}
 use lib.IntN.{pos}
 use Rattle.integers.proofs.Machine.{get_or-tabulate, AllBytes}
-use Rattle.arrays.specs.Tests.{first_of}
-use Rattle.coefficients.specs.declared.rows.RowEntries.{RowEntries}
 use Rattle.coefficients.specs.declared.Coefficient.TheVariants.{Fitted}
 use Rattle.coefficients.specs.Entries.{entry_of_bits, scaled_entry, entry_of}
 use Rattle.coefficients.specs.Rows.{entries_of, scaled_row, fitted_row}
@@ -17,12 +13,8 @@ use Rattle.coefficients.proofs.Fitting.{entry_of-bits}
 use Rattle.coefficients.proofs.RowLaws.{entries_of-cong, each-of-six}
 use Rattle.numbers.proofs.LittleEndian.{little_endian-lt}
 use Rattle.records.specs.declared.kinds.Layout.{Layout}
-use Rattle.columns.specs.Columns.{entry_at, fitted_width, bits_at, first_byte, six_at, fitted_at, held_row}
-use Rattle.reader.specs.declared.state.State.{State}
-use Rattle.reader.specs.declared.take.Taken.{Taken}
-use Rattle.reader.specs.Models.{row_answer, row_stored, with_row}
-use Rattle.reader.specs.Values.{unless, row_number}
-use Rattle.reader.specs.Inner.{Takes}
+use Rattle.columns.specs.Columns.{entry_at, fitted_width, bits_at, six_at, fitted_at, held_row}
+use Rattle.reader.specs.Models.{row_answer}
 
 module _ (n : ℕ) (l : Layout) (body : List ℕ) where
   -- with entries of 8 bytes
@@ -45,11 +37,3 @@ module _ (n : ℕ) (l : Layout) (body : List ℕ) where
 
   pub scaled-taken : (l.width ≡ fitted_width → ⊥) → entries_of n (scaled_row (six_at body l.first)) ≡ entries_of n (row_answer l body)
   scaled-taken ne = entries_of-cong n (scaled-answer ne)
-
--- the number and the state
-pub row-taken : (s : State) (l : Layout) (body : List ℕ) {row : ℕ} {entries : RowEntries} {r : Taken} → row ≡ first_byte body → entries ≡ entries_of s.model.n (row_answer l body)
-    → Takes (first_of (unless (eqb row s.rows) 5) entries.number) (row_stored s l entries.six) r → Takes (row_number s l body) (with_row s l body) r
-unfolding entries_of row_number with_row
-row-taken s l body {row} {entries} {r} e f t =
-    subst (λ (k : ℕ). Takes (first_of (unless (eqb k s.rows) 5) (entries_of s.model.n (row_answer l body)).number) (row_stored s l (entries_of s.model.n (row_answer l body)).six) r) e
-    (subst (λ (x : RowEntries). Takes (first_of (unless (eqb row s.rows) 5) x.number) (row_stored s l x.six) r) f t)

@@ -1,2 +1,0 @@
--- Laws of the first-step rules over lists.
-pub mod Laws
