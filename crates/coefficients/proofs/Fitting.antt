@@ -1,6 +1,6 @@
 -- A binary64 number beside its bits, those that `to_bits` gives: its magnitude within 2, and the entry that it becomes.
 -- Assumes nothing.
-use Rattle.std.proofs.Common.{Ok, Err, ◌≡◌, ℕ, zero, suc, ◌+◌, ◌*◌, ◌/◌, ◌^◌, ◌<◌, ◌≤◌, Bool, true, false, cond, not, ◌&&◌, ◌||◌, T, eqb, ltb, leb, ℤ, pos, nat_abs, sym, refl, ap, ◌∙◌, subst, ap₂, true≢false, lt_of_lt_of_le, mul-le-mul_right, div-lt_iff_lt-mul, mul-one, le_of_mul-le-mul_right, arith, lit≤, ltb-false, ltb-true, le-ltb, eqb-true, le-leb, leb-false, leb-true}
+use Rattle.std.proofs.Common.{Ok, Err, ◌≡◌, ℕ, zero, suc, ◌+◌, ◌*◌, ◌/◌, ◌^◌, ◌<◌, ◌≤◌, Bool, true, false, cond, not, ◌&&◌, ◌||◌, T, eqb, ltb, leb, ℤ, pos, nat_abs, sym, refl, ap, ◌∙◌, subst, ap₂, true≢false, lt_of_lt_of_le, mul-le-mul_right, div-lt_iff_lt-mul, mul-one, le_of_mul-le-mul_right, arith, lit≤, ltb-false, ltb-true, le-ltb, lt-ltb, eqb-true, le-leb, leb-false, leb-true}
 use mathlib.Core.Bool.{false≢true}
 use native.Mathlib.Decide.{dec_lt}
 use borrow.Author.Tests.{lt-leb, eqb-false}
@@ -126,6 +126,11 @@ low-positive m e = le-ltb (m * up e * 1) (0 * 1 * down e) (omega arith)
 
 refused : (x : Float) (b : ℕ) → le (absolute_of x) (fin false 1 (pos 1)) ≡ false → lt (absolute_of x) (fin false 0 (pos 0)) ≡ false → fitted_ok b ≡ false → Checked x b
 refused x b t l n = record { test = t ∙ sym n; low = l; entry = λ e. absurd (true≢false (sym e ∙ n)) }
+
+-- with the sign 1 a number is at most 2, -0 too
+below_two : (m : ℕ) (e : ℤ) → le (fin true m e) (fin false 1 (pos 1)) ≡ true
+unfolding le lt
+below_two m e = ap (λ (b : Bool). b || eq (fin true m e) (fin false 1 (pos 1))) (lt-ltb 0 (m * up e * 1 + 1 * 2 * down e) (omega (arith, down_pos e)))
 
 -- of -0 the sign is lost, and with it nothing
 sign-is : (s : Bool) (m : ℕ) (e : ℤ) → signed (lt (fin s m e) (fin false 0 (pos 0))) (nearest_even (matrix_unit * (m * up e)) (down e)) ≡ signed s (nearest_even (matrix_unit * (m * up e)) (down e))

@@ -11,6 +11,7 @@ use Rattle.std.specs.Option.{option_or}
 use Rattle.std.specs.Result.{result_err}
 use Rattle.stepping.specs.Limits.{entry_limit}
 use Rattle.coefficients.specs.declared.EntryRefusal.{EntryRefusal}
+use Rattle.coefficients.specs.declared.rows.RefusedRow.{RefusedRow}
 use Rattle.coefficients.specs.Entries.{fitted_ok, fitted_entry, entry_of_bits, scaled_entry, entry_refusal_number, entry_number, entry_value}
 use Rattle.coefficients.specs.Rows.{first_number, answer_at, entries_number, stored_six, first_refused, unless_refused, entries_of}
 use Rattle.coefficients.proofs.Fitting.{accepted-bits, refused-bits, fitted_entry-within}
@@ -109,11 +110,11 @@ module _ (n : ℕ) (row : ℕ → Result ℤ EntryRefusal) where
       cases None f = (first_number-is 6 (answer_at n row) ∙ ap number_of f, cc)
       cases (Some refusal) f = absurd cc
 
-  pub entries_of-err : {refusal : EntryRefusal} → entries_of n row ≡ Err refusal → entries_number n row ≡ entry_refusal_number refusal
+  pub entries_of-err : {refused : RefusedRow} → entries_of n row ≡ Err refused → entries_number n row ≡ entry_refusal_number refused.refusal
   unfolding entries_of
-  entries_of-err {refusal} e = cases (first_refused 6 (answer_at n row)) refl
+  entries_of-err {refused} e = cases (first_refused 6 (answer_at n row)) refl
     where
-      cases : (first : Option EntryRefusal) → first_refused 6 (answer_at n row) ≡ first → entries_number n row ≡ entry_refusal_number refusal
+      cases : (first : Option EntryRefusal) → first_refused 6 (answer_at n row) ≡ first → entries_number n row ≡ entry_refusal_number refused.refusal
       cases None f = absurd cc
       cases (Some r) f = first_number-is 6 (answer_at n row) ∙ ap number_of f ∙ ap entry_refusal_number cc
 

@@ -9,6 +9,7 @@ use Rattle.arrays.specs.Tests.{first_of}
 use Rattle.coefficients.specs.declared.Coefficient.{Coefficient}
 use Rattle.coefficients.specs.declared.Coefficient.TheVariants.{Scaled, Fitted}
 use Rattle.coefficients.specs.declared.EntryRefusal.{EntryRefusal}
+use Rattle.coefficients.specs.declared.rows.RefusedRow.{RefusedRow}
 use Rattle.coefficients.specs.Entries.{entry_number, entry_value, entry_of}
 
 -- The number of the first of so many entries that is refused, 0 where none is.
@@ -34,13 +35,13 @@ unfoldable pub first_refused : ℕ → (ℕ → Result ℤ EntryRefusal) → Opt
 first_refused zero row = None
 first_refused (suc k) row = option_or (first_refused k row) (result_err (row k))
 
--- A stored row, or the refusal in its place.
-abbrev pub unless_refused : Option EntryRefusal → List ℤ → Result (List ℤ) EntryRefusal
+-- A stored row, or beside the refusal of one of its entries.
+abbrev pub unless_refused : Option EntryRefusal → List ℤ → Result (List ℤ) RefusedRow
 unless_refused None six = Ok six
-unless_refused (Some refusal) six = Err refusal
+unless_refused (Some first) stored = Err (record { refusal = first; six = stored })
 
--- Routines 18: the stored row, or why the first of the first n entries that is refused is.
-unfoldable pub entries_of : ℕ → (ℕ → Result ℤ EntryRefusal) → Result (List ℤ) EntryRefusal
+-- Routines 18: the stored row, or beside why the first of the first n entries that is refused is.
+unfoldable pub entries_of : ℕ → (ℕ → Result ℤ EntryRefusal) → Result (List ℤ) RefusedRow
 entries_of n row = unless_refused (first_refused 6 (answer_at n row)) (stored_six n row)
 
 -- The answers to six entries of either kind, to six scaled ones, and to six fitted ones.

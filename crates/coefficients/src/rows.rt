@@ -12,26 +12,40 @@ pub struct FittedRow {
     pub values: [f64; 6],
 }
 
-// Routines 18. The first n entries of a row, one by one, and zeros beyond n, or why the first that is refused is.
-pub fn entries_of(n: usize, coefficients: [Coefficient; 6]) -> Result<[i32; 6], EntryRefusal>
+// Routines 18. A row that is refused: why the first entry that is refused is, and the six stored entries beside it, zero for one that
+// is refused and beyond n.
+#[derive(Clone, Copy, Debug, PartialEq, Eq)]
+pub struct RefusedRow {
+    pub refusal: EntryRefusal,
+    pub six: [i32; 6],
+}
+
+// Routines 18. The first n entries of a row, one by one, and zeros beyond n, or the row as it is refused.
+pub fn entries_of(n: usize, coefficients: [Coefficient; 6]) -> Result<[i32; 6], RefusedRow>
     ensures { result ≡ entries_of n (mixed_row coefficients) }
 {
+    let mut first = None;
     let mut six = [0; 6];
     for i in 0..n.min(6) {
-        six[i] = entry_of(coefficients[i])?;
+        let answer = entry_of(coefficients[i]);
+        first = first.or(answer.err());
+        six[i] = answer.unwrap_or(0);
     }
-    Ok(six)
+    match first {
+        None => Ok(six),
+        Some(refusal) => Err(RefusedRow { refusal, six }),
+    }
 }
 
 // Routines 18. The entries of a scaled row.
-pub fn scaled_entries(n: usize, six: [i32; 6]) -> Result<[i32; 6], EntryRefusal>
+pub fn scaled_entries(n: usize, six: [i32; 6]) -> Result<[i32; 6], RefusedRow>
     ensures { result ≡ entries_of n (scaled_row six) }
 {
     entries_of(n, six.map(Coefficient::Scaled))
 }
 
 // Routines 18. The entries of a fitted row.
-pub fn fitted_entries(n: usize, held: FittedRow) -> Result<[i32; 6], EntryRefusal>
+pub fn fitted_entries(n: usize, held: FittedRow) -> Result<[i32; 6], RefusedRow>
     ensures { result ≡ entries_of n (fitted_row held.values) }
 {
     entries_of(n, held.values.map(Coefficient::Fitted))

@@ -1,9 +1,10 @@
 -- Laws of `put_row`, six numbers stored as one row of rows of six. In order: the length and what stands
--- at each place, of the first k and of all; a row beyond the end. Assumes nothing.
-use mathlib.Core.Path.{◌≡◌, refl, ap, subst, ◌∙◌}
+-- at each place, of the first k and of all; a row beyond the end; as a loop stores them. Assumes nothing.
+use mathlib.Core.Path.{◌≡◌, refl, sym, ap, subst, ◌∙◌}
 use mathlib.Core.List.{List}
 use Prim.Native.Nat.{ℕ, zero, suc, ◌+◌, ◌*◌, ◌≤◌, ◌<◌}
 use native.Mathlib.Decide.{dec_lt}
+use native.Mathlib.Numerals.{add-one}
 use native.Mathlib.Omega.{arith}
 use lib.ListN.{length, set, length-set}
 use lib.Seq.{set_out, get_or-set_same, get_or-set_other}
@@ -52,3 +53,25 @@ module _ (row : ℕ) (six : List ℤ) where
   pub put_row-same : (xs : List ℤ) → 6 * row + 6 ≤ length xs → (i : ℕ) → i < 6 → vector (put_row xs row six) (6 * row + i) ≡ vector six i
   unfolding put_row
   put_row-same xs h i l = put_same 6 xs h i l
+
+-- ---- as a loop stores them
+
+-- The first i are stored.
+pub record RowSoFar (xs₀ : List ℤ) (row : ℕ) (six : List ℤ) (i : ℕ) (xs : List ℤ) : Type 0 where
+  pub within : i ≤ 6
+  pub stored : xs ≡ put_first i xs₀ row six
+
+module _ {xs₀ : List ℤ} {row : ℕ} {six : List ℤ} {i : ℕ} {xs : List ℤ} (s : RowSoFar xs₀ row six i xs) where
+  pub row_more : {x : ℤ} {ys : List ℤ} → i < 6 → x ≡ vector six i → ys ≡ set xs (6 * row + i) x → RowSoFar xs₀ row six (i + 1) ys
+  row_more h e f = record { within = omega arith; stored = f ∙ ap (set xs (6 * row + i)) e ∙ rw (s.stored, add-one) }
+
+  -- a place beyond the end
+  pub row-beyond : {ys : List ℤ} → i < 6 → length xs ≤ 6 * row + i → ys ≡ xs → RowSoFar xs₀ row six (i + 1) ys
+  row-beyond h k f = row_more h refl (f ∙ sym (set_out xs (6 * row + i) (vector six i) k))
+
+  pub row-length : length xs ≡ length xs₀
+  row-length = ap length s.stored ∙ length-put row six i xs₀
+
+  pub row_done : 6 ≤ i → xs ≡ put_row xs₀ row six
+  unfolding put_row
+  row_done h = let e : i ≡ 6 = omega arith in s.stored ∙ ap (λ (k : ℕ). put_first k xs₀ row six) e

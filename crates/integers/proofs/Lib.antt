@@ -4,6 +4,7 @@ pub mod Order
 pub mod Rounding
 pub mod Sums
 pub mod RunningSum
+pub mod EarlyReturn
 pub mod Machine
 pub mod FromFn
 pub mod Chains

@@ -5,7 +5,7 @@ use mathlib.Core.Bool.{Bool, true, false, not}
 use Prim.Native.Nat.{ℕ, zero, suc, ◌+◌, ◌*◌, ◌≤◌}
 use native.Mathlib.Nat.{le_refl, mul-le-mul, mul-le-mul_left, le_trans}
 use native.Mathlib.Omega.{arith}
-use borrow.Author.Tests.{ltb-true, leb-false}
+use borrow.Author.Tests.{ltb-true, ltb-false, lt-leb, le-leb, leb-false}
 use lib.Dec.{T}
 use lib.IntN.{ℤ, pos, negsuc, neg_ℤ, nat_abs, ◌+ℤ◌, ◌-ℤ◌, ◌*ℤ◌}
 use lib.Signed.{le_z, lt_z, lt_z_no}
@@ -61,6 +61,19 @@ lt-of-lt_z (pos a) (pos b) e = le! (# a ⊕ # 1) (# b) (omega (arith, ltb-true a
 lt-of-lt_z (pos a) (negsuc b) e = let z : ◌≡◌ {A = ℕ} 0 1 = cc in absurd (omega arith)
 lt-of-lt_z (negsuc a) (pos b) e = le! (v (negsuc a) ⊕ # 1) (# b) (omega arith)
 lt-of-lt_z (negsuc a) (negsuc b) e = le! (v (negsuc a) ⊕ # 1) (v (negsuc b)) (omega (arith, ltb-true b a e))
+
+-- the same as values of the other test
+pub le_z-of-lt_z : (a b : ℤ) → lt_z a b ≡ true → le_z b a ≡ false
+le_z-of-lt_z (pos a) (pos b) e = lt-leb b a (ltb-true a b e)
+le_z-of-lt_z (pos a) (negsuc b) e = let z : ◌≡◌ {A = ℕ} 0 1 = cc in absurd (omega arith)
+le_z-of-lt_z (negsuc a) (pos b) e = refl
+le_z-of-lt_z (negsuc a) (negsuc b) e = lt-leb a b (ltb-true b a e)
+
+pub le_z-of-lt_z-false : (a b : ℤ) → lt_z a b ≡ false → le_z b a ≡ true
+le_z-of-lt_z-false (pos a) (pos b) e = le-leb b a (ltb-false a b e)
+le_z-of-lt_z-false (pos a) (negsuc b) e = refl
+le_z-of-lt_z-false (negsuc a) (pos b) e = let z : ◌≡◌ {A = ℕ} 0 1 = cc in absurd (omega arith)
+le_z-of-lt_z-false (negsuc a) (negsuc b) e = le-leb a b (ltb-false b a e)
 
 pub ⩽-of-le_z : (a b : ℤ) → le_z a b ≡ true → a ⩽ b
 ⩽-of-le_z a b e = record { le = subst T (sym e) tt }

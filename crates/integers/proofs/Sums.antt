@@ -251,6 +251,11 @@ all_below-suc n f = refl
 pub all_below-next : (n : ℕ) (f : ℕ → Bool) {t u : Bool} → t ≡ all_below n f → u ≡ f n → t && u ≡ all_below (n + 1) f
 all_below-next n f h k = ap₂ ◌&&◌ h k ∙ sym (ap (λ (m : ℕ). all_below m f) (add-one n) ∙ all_below-suc n f)
 
+-- holds so far and here: holds one further
+pub all_below-more : (n : ℕ) (f : ℕ → Bool) → all_below n f ≡ true → f n ≡ true → all_below (n + 1) f ≡ true
+unfolding all_below
+all_below-more n f h k = subst (λ (m : ℕ). all_below m f ≡ true) (sym (add-one n)) (ap₂ ◌&&◌ h k)
+
 -- fails here: fails
 pub all_below-fails : (n : ℕ) (f : ℕ → Bool) (i : ℕ) → i < n → f i ≡ false → all_below n f ≡ false
 unfolding all_below

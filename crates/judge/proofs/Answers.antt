@@ -1,7 +1,7 @@
--- What a judge makes of a sweep. In order: the lengths of two lists; the verdict over the lists that a sweep left is the
--- model's; what a sweep answered and left settles what a judge answers and leaves. Assumes nothing.
+-- What a judge makes of a sweep. In order: the lengths of two lists; the number of its answer; the verdict over the lists that a
+-- sweep left is the model's; what a sweep answered and left settles what a judge answers and leaves. Assumes nothing.
 use mathlib.Core.Path.{◌≡◌, refl, sym, ap, ap₂, ◌∙◌}
-use mathlib.Core.Bool.{Bool, true, false, cond}
+use mathlib.Core.Bool.{Bool, true, false, cond, ◌&&◌}
 use mathlib.Core.List.{List}
 use Prim.Native.Nat.{ℕ, suc, ◌-◌, ◌≤◌, ◌<◌, suc-le-suc}
 use native.Mathlib.Omega.{arith}
@@ -12,7 +12,7 @@ use lib.IntN.{ℤ, pos}
 use Rattle.std.specs.Prelude.{Ok, Err, IfOk}
 use Rattle.integers.specs.Sums.{vector}
 use Rattle.integers.proofs.Machine.{length-tabulate}
-use Rattle.integers.proofs.Booleans.{and-skip}
+use Rattle.integers.proofs.Booleans.{and-false, and-skip}
 use Rattle.limits.specs.Limits.{steps_ok}
 use Rattle.reachability.specs.Limits.{accepted}
 use Rattle.reachability.specs.Recurrence.{growth_step, spare_figure, bound, slack}
@@ -27,11 +27,24 @@ use Rattle.reachability.proofs.VerdictLaws.{verdict-cong}
 use Rattle.reachability.proofs.AccuracyRule.{accuracy-rule, bounds-at, slacks-at, verdict-lists}
 use Rattle.judge.specs.Answers.{Judged, judged_number, verdict_step, judged_figure, judge_number, judge_figure, lists_ok, list_answer, unless_refused, swept_verdict, judge_answer, JudgeLeaves}
 
--- ---- two lists are K + 1 long for one K
+-- ---- two lists are K + 1 long for one K, or not
 
 module _ (lb ls : ℕ) where
+  no_steps : steps_ok (lb - 1) ≡ false → lists_ok lb ls ≡ false
+  no_steps f = ap (λ (t : Bool). eqb ls lb && t) f ∙ and-false (eqb ls lb)
+
   pub lists-ok : ls ≡ lb → 2 ≤ lb → lb ≤ 257 → lists_ok lb ls ≡ true
   lists-ok e l h = and-skip (steps_ok (lb - 1)) (eq-eqb ls lb e) ∙ and-skip (leb (lb - 1) 256) (le-leb 1 (lb - 1) (omega arith)) ∙ le-leb (lb - 1) 256 (omega arith)
+
+-- ---- numbers
+
+-- the number of the sweep's refusal, or of the answer where it refused nothing
+unless_refused-number : (w : Swept) (x : Judged) → judged_number (unless_refused w x) ≡ cond (eqb (swept_number w) 0) (judged_number x) (swept_number w)
+unless_refused-number (Ok h) x = refl
+unless_refused-number (Err Invalid) x = refl
+unless_refused-number (Err Missing) x = refl
+unless_refused-number (Err WrongLength) x = refl
+unless_refused-number (Err (Growth k)) x = refl
 
 -- ---- the verdict over the lists that a sweep left
 

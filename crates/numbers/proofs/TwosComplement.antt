@@ -7,7 +7,7 @@ use native.Mathlib.Nat.{le_refl}
 use native.Mathlib.Decide.{dec_lt}
 use native.Mathlib.Omega.{arith}
 use borrow.Author.Tests.{lt-ltb, le-ltb}
-use lib.IntN.{pos, negsuc}
+use lib.IntN.{ℤ, pos, negsuc, ◌-ℤ◌}
 use mir.Syntax.{Width, w8, w16, w32, w64, w128}
 use mir.Val.{SFits, bytes, bits, hbits, to_z}
 use mir.Facts.{to_z_pos, to_z-neg}
@@ -28,6 +28,14 @@ module _ (half n : ℕ) where
     pub twos_complement-high : twos_complement half n ≡ negsuc (half - 1 - (n - half))
     twos_complement-high =
         simp (le-ltb n half low) (eq! (# n ⊖ # (2 * half)) (v (negsuc (half - 1 - (n - half)))) (omega arith))
+
+    -- the same number as a program makes it: -1 less what is left
+    module _ (w : Width) (fits : half ≤ 2 ^ hbits w) where
+      pub twos_complement-difference : negsuc 0 -ℤ to_z w (half - 1 - (n - half)) ≡ twos_complement half n
+      twos_complement-difference =
+          ap (λ (z : ℤ). negsuc 0 -ℤ z) (to_z_pos w (omega (arith, left-small)))
+          ∙ eq! (v (negsuc 0) ⊖ # (half - 1 - (n - half))) (v (negsuc (half - 1 - (n - half)))) (omega arith)
+          ∙ sym twos_complement-high
 
   -- ---- the range
 

@@ -4,6 +4,7 @@
 use mathlib.Core.Path.{◌≡◌, refl, sym, ap, ap₂, ◌∙◌}
 use mathlib.Core.List.{List, [], ◌∷◌, ◌++◌}
 use Prim.Native.Nat.{ℕ, zero, suc, ◌+◌, ◌*◌, ◌-◌, ◌/◌, ◌%◌, ◌^◌, ◌<◌}
+use native.Mathlib.Nat.{mul_assoc}
 use native.Mathlib.Omega.{arith}
 use lib.IntN.{ℤ, pos, negsuc}
 use lib.ListN.{length, length-append}
@@ -40,6 +41,38 @@ pub shifted-suc : (k n : ℕ) → shifted (suc k) n ≡ shifted k n / 256
 unfolding shifted
 shifted-suc zero n = refl
 shifted-suc (suc k) n = shifted-suc k (n / 256)
+
+pub bytes_of-none : (n : ℕ) → bytes_of 0 n ≡ []
+unfolding bytes_of
+bytes_of-none n = refl
+
+-- one byte more, behind the others
+pub bytes_of-last : (k n : ℕ) → bytes_of k n ++ (shifted k n % 256 ∷ []) ≡ bytes_of (suc k) n
+unfolding bytes_of shifted
+bytes_of-last zero n = refl
+bytes_of-last (suc k) n = ap (λ (t : List ℕ). n % 256 ∷ t) (bytes_of-last k (n / 256))
+
+-- ---- what stands above the k lowest bytes
+
+pub bytes_of-above : (k n y : ℕ) → bytes_of k (n + 2 ^ (8 * k) * y) ≡ bytes_of k n
+unfolding bytes_of
+bytes_of-above zero n y = refl
+bytes_of-above (suc k) n y =
+    ap (λ (p : ℕ). bytes_of (suc k) (n + p)) wide
+    ∙ ap₂ (λ (b r : ℕ). b ∷ bytes_of k r) (lowest n (2 ^ (8 * k) * y)) (others n (2 ^ (8 * k) * y))
+    ∙ ap (λ (t : List ℕ). n % 256 ∷ t) (bytes_of-above k (n / 256) y)
+  where
+    more : 8 * suc k ≡ 8 + 8 * k
+    more = omega arith
+
+    wide : 2 ^ (8 * suc k) * y ≡ 256 * (2 ^ (8 * k) * y)
+    wide = ap (λ (i : ℕ). 2 ^ i * y) more ∙ ap (λ (p : ℕ). p * y) (pow-add 2 8 (8 * k)) ∙ mul_assoc 256 (2 ^ (8 * k)) y
+
+    lowest : (n q : ℕ) → (n + 256 * q) % 256 ≡ n % 256
+    lowest n q = omega arith
+
+    others : (n q : ℕ) → (n + 256 * q) / 256 ≡ n / 256 + q
+    others n q = omega arith
 
 -- ---- a number of k bytes
 

@@ -1,9 +1,10 @@
 -- Laws of `first_place`: it passes the test where it is below n, and none before it does; and a loop that looks for it. Assumes nothing.
 use mathlib.Core.Path.{◌≡◌, refl, sym, ap, ◌∙◌}
 use mathlib.Core.Bool.{Bool, true, false, cond}
-use Prim.Native.Nat.{ℕ, zero, suc, ◌≤◌, ◌<◌, zero-le, suc-le-suc}
+use Prim.Native.Nat.{ℕ, zero, suc, ◌+◌, ◌≤◌, ◌<◌, zero-le, suc-le-suc}
 use native.Mathlib.Nat.{lt_of_lt_of_le, le_of_suc-le-suc, not-suc-le-zero}
 use native.Mathlib.Omega.{arith}
+use borrow.Author.Count.{below_none, below_more}
 use Rattle.reachability.specs.Recurrence.{first_place}
 
 pub first_place-passes : (n : ℕ) (p : ℕ → Bool) → first_place n p < n → p (first_place n p) ≡ true
@@ -57,6 +58,12 @@ first_place-cong (suc n) p q h =
 pub record NoneBefore (n : ℕ) (p : ℕ → Bool) (k : ℕ) : Type 0 where
   pub within : k ≤ n
   pub none : (j : ℕ) → j < k → p j ≡ false
+
+pub none-before-start : (n : ℕ) (p : ℕ → Bool) → NoneBefore n p 0
+none-before-start n p = record { within = zero-le; none = below_none (λ j. p j ≡ false) }
+
+pub none-before-more : (n : ℕ) (p : ℕ → Bool) (k : ℕ) → NoneBefore n p k → k < n → p k ≡ false → NoneBefore n p (k + 1)
+none-before-more n p k so l f = record { within = omega (arith, l); none = below_more (λ j. p j ≡ false) k so.none f }
 
 pub first_found : (n : ℕ) (p : ℕ → Bool) (k : ℕ) → NoneBefore n p k → k < n → p k ≡ true → k ≡ first_place n p
 first_found n p k so l t = sym (first_place-is n p k l t so.none)

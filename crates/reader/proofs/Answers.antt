@@ -1,5 +1,6 @@
--- What a refused file is told: a number from 1 to 10 or 15 to 17, with an offset no farther than the file's length. Assumes nothing.
-use mathlib.Core.Path.{◌≡◌, refl, ap, ◌∙◌}
+-- What a refused file is told: a number from 1 to 10 or 15 to 17, with an offset no farther than the file's length. In order: the
+-- numbers of one record; the number and the offset where reading stops. Assumes nothing.
+use mathlib.Core.Path.{◌≡◌, refl, sym, ap, subst, ◌∙◌}
 use mathlib.Core.Bool.{Bool, true, false, cond}
 use mathlib.Core.Logic.{◌⊎◌, inl, inr}
 use mathlib.Core.List.{List}
@@ -8,21 +9,29 @@ use native.Mathlib.Omega.{arith}
 use borrow.Author.Tests.{eqb-true, eqb-false, ltb-true}
 use lib.Dec.{eqb, ltb}
 use lib.ListN.{length}
-use Rattle.std.specs.Prelude.{Err}
+use lib.IntN.{ℤ}
+use Rattle.std.specs.Prelude.{Option, Err}
 use Rattle.records.specs.Records.{record_at}
 use Rattle.records.proofs.RecordAt.{whole_of}
+use Rattle.records.specs.declared.kinds.Layout.{Layout}
+use Rattle.records.specs.declared.kinds.Point.{Point as SetPoint}
+use Rattle.records.specs.declared.kinds.Part.{Part}
+use Rattle.reachability.specs.declared.sets.Set.{Set}
 use Rattle.reader.specs.declared.refusals.FileRefusal.{FileRefusal}
 use Rattle.reader.specs.declared.refusals.FileRefusal.TheVariants.{Ends, UnknownKind, WrongPlace, Head, Row, Point, Direction, Guard, OneTooMany, BehindEnd, FittedRow, BeyondN, Drift}
 use Rattle.reader.specs.declared.refusals.Refused.{Refused}
+use Rattle.reader.specs.declared.state.State.{State}
 use Rattle.reader.specs.FileNumbers.{file_number}
 use Rattle.reader.specs.Models.{start}
+use Rattle.reader.specs.Values.{row_number, point_number_of, value_number, body_number}
 use Rattle.reader.specs.Refusals.{refusal}
 use Rattle.reader.specs.Reading.{Stop, stop_from, number_at, offset_at, refused, read_as, reading_at, read_from, read_model}
 use Rattle.arrays.proofs.FirstOf.{first_of-none}
-use Rattle.reader.proofs.FileNumbers.{file_number-some}
+use Rattle.reader.proofs.FileNumbers.{file_number-some, Numbered}
+use Rattle.reader.proofs.RecordNumbers.{row_number-numbered, point_number-numbered, value_number-numbered, body_number-numbered, number_at-numbered}
 use Rattle.reader.proofs.ReadingOn.{stop_for-ind}
 
--- ---- the number
+-- ---- the numbers of one record
 
 -- The numbers that the reader has for a file, 0 for none.
 abbrev pub FileNumber : ℕ → Type 0
@@ -43,7 +52,23 @@ number-known FittedRow = inr (omega arith, omega arith)
 number-known BeyondN = inr (omega arith, omega arith)
 number-known Drift = inr (omega arith, omega arith)
 
--- ---- the offset where reading stops
+known-of : {number : ℕ} → Numbered number → FileNumber number
+known-of (inl z) = inl (omega (arith, z))
+known-of (inr (e, is)) = subst FileNumber (sym is) (number-known e)
+
+row_number-known : (s : State) (l : Layout) (body : List ℕ) → FileNumber (row_number s l body)
+row_number-known s l body = known-of (row_number-numbered s l body)
+
+point_number-known : (input : Bool) (n : ℕ) (point : Option SetPoint) (set : Set) (drift : List ℤ) → FileNumber (point_number_of input n point set drift)
+point_number-known input n point set drift = known-of (point_number-numbered input n point set drift)
+
+value_number-known : (p : Part) (s : State) (l : Layout) (body : List ℕ) → FileNumber (value_number p s l body)
+value_number-known p s l body = known-of (value_number-numbered p s l body)
+
+body_number-known : (s : State) (kind : ℕ) (body : List ℕ) → FileNumber (body_number s kind body)
+body_number-known s kind body = known-of (body_number-numbered s kind body)
+
+-- ---- the number and the offset where reading stops
 
 pub record Told (file : List ℕ) (number offset : ℕ) : Type 0 where
   pub least : 1 ≤ number
@@ -51,6 +76,9 @@ pub record Told (file : List ℕ) (number offset : ℕ) : Type 0 where
   pub inside : offset ≤ length file
 
 module _ (file : List ℕ) (p : Stop) where
+  number_at-known : FileNumber (number_at file p)
+  number_at-known = known-of (number_at-numbered file p)
+
   offset_at-le : (number_at file p ≡ 0 → ⊥) → p.at ≤ length file → offset_at file p ≤ length file
   unfolding number_at offset_at
   offset_at-le ne h = split (eqb (refusal p.state (record_at file p.at)) 0) refl (ltb p.at (length file)) (ltb (p.at + 1) (length file)) refl

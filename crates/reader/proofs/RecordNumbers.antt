@@ -35,18 +35,18 @@ answer-numbered =
     (λ bits. entry_of_bits-ind (λ a. Numbered (entry_number a)) bits (λ h. inl refl) (inr (F.FittedRow, refl)))
     (λ entry. scaled_entry-ind (λ a. Numbered (entry_number a)) entry (λ h. inl refl) (inr (F.Row, refl)))
 
-row_number-numbered : (s : State) (l : Layout) (body : List ℕ) → Numbered (row_number s l body)
+pub row_number-numbered : (s : State) (l : Layout) (body : List ℕ) → Numbered (row_number s l body)
 unfolding row_number
 row_number-numbered s l body =
     first_of-ind Numbered
     (unless-numbered (eqb (first_byte body) s.rows) F.Row)
     (entries_number-ind Numbered s.model.n (row_answer l body) (inl refl) (answer-numbered l body))
 
-point_number-numbered : (input : Bool) (n : ℕ) (point : Option Point) (set : Set) (drift : List ℤ) → Numbered (point_number_of input n point set drift)
+pub point_number-numbered : (input : Bool) (n : ℕ) (point : Option Point) (set : Set) (drift : List ℤ) → Numbered (point_number_of input n point set drift)
 point_number-numbered input n point set drift =
     first_of-ind Numbered (unless-numbered (point_ok n point set) F.Point) (unless-numbered (entering_point_ok input set drift) F.Drift)
 
-value_number-numbered : (p : Part) (s : State) (l : Layout) (body : List ℕ) → Numbered (value_number p s l body)
+pub value_number-numbered : (p : Part) (s : State) (l : Layout) (body : List ℕ) → Numbered (value_number p s l body)
 value_number-numbered Head s l body = unless-numbered (head_ok body) F.Head
 value_number-numbered Row s l body = row_number-numbered s l body
 value_number-numbered Drift s l body = unless-numbered (drift_ok l body) F.Drift
@@ -56,7 +56,7 @@ value_number-numbered Direction s l body = unless-numbered (direction_ok l body)
 value_number-numbered Guard s l body = unless-numbered (guard_ok s body) F.Guard
 value_number-numbered End s l body = inl refl
 
-body_number-numbered : (s : State) (kind : ℕ) (body : List ℕ) → Numbered (body_number s kind body)
+pub body_number-numbered : (s : State) (kind : ℕ) (body : List ℕ) → Numbered (body_number s kind body)
 unfolding body_number
 body_number-numbered s kind body =
     first_of-ind Numbered (unless-numbered (unused_zero s.model.n (layout_of kind) body) F.BeyondN) (value_number-numbered (part_of kind) s (layout_of kind) body)

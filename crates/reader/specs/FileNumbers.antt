@@ -1,7 +1,10 @@
--- Forms 7: the number of each refusal of a file, and the refusal of each number. Definitions only. Assumes nothing.
-use Rattle.std.specs.Prelude.{ℕ, cond, eqb}
+-- Forms 7: the number of each refusal of a file, and the refusal of each number; Listing 7: the line of a refusal. Definitions only.
+-- Assumes nothing.
+use Rattle.std.specs.Prelude.{ℕ, cond, eqb, List, codes, ◌++◌}
+use Rattle.std.specs.Fmt.{decimal}
 use Rattle.coefficients.specs.declared.EntryRefusal.{EntryRefusal}
 use Rattle.reader.specs.declared.refusals.FileRefusal.{FileRefusal}
+use Rattle.reader.specs.declared.refusals.Refused.{Refused}
 use Rattle.reader.specs.declared.refusals.FileRefusal.TheVariants.{Ends, UnknownKind, WrongPlace, Head, Row, Point, Direction, Guard, OneTooMany, BehindEnd, FittedRow, BeyondN, Drift}
 
 abbrev pub file_number : FileRefusal → ℕ
@@ -39,3 +42,7 @@ refusal_of number =
 abbrev pub of_entry : EntryRefusal → FileRefusal
 of_entry EntryRefusal.Scaled = Row
 of_entry EntryRefusal.Fitted = FittedRow
+
+-- Listing 7: the line of a refusal, without its line feed.
+abbrev pub refused_text : Refused → List ℕ
+refused_text refused = codes "refused " ++ decimal (file_number refused.refusal) ++ codes " at " ++ decimal refused.offset

@@ -5,7 +5,7 @@ ghost use Rattle.reader.specs.Inner.{Admits};
 
 use crate::refusals::FileRefusal;
 use crate::state::State;
-use records::kinds::{Layout, Part, layout_of};
+use records::kinds::{Layout, Part, kind_layout};
 use records::order::may_follow;
 
 // How many the part has so far.
@@ -29,7 +29,7 @@ pub(crate) fn admit(state: &State, kind: u8) -> Result<Layout, FileRefusal>
     if !may_follow(state.place, kind) {
         return Err(FileRefusal::WrongPlace);
     }
-    let Some(layout) = layout_of(kind) else {
+    let Some(layout) = kind_layout(kind) else {
         return Err(FileRefusal::OneTooMany);
     };
     if layout.most <= count_of(layout.part, state) {

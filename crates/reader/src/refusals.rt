@@ -1,8 +1,9 @@
 // What a file is refused for, with the number and the offset that are told.
-ghost use Rattle.std.specs.Prelude.{◌≡◌};
-ghost use Rattle.reader.specs.FileNumbers.{file_number, of_entry};
+ghost use Rattle.std.specs.Prelude.{◌≡◌, Some};
+ghost use Rattle.reader.specs.FileNumbers.{file_number, of_entry, refused_text};
 
 use coefficients::EntryRefusal;
+use coefficients::rows::RefusedRow;
 use std::fmt;
 
 // Refusals 1 to 10 and 15 to 17, each under the heading of its clause. Their numbers are their values.
@@ -44,6 +45,15 @@ impl From<EntryRefusal> for FileRefusal {
     }
 }
 
+// The same of a row that is refused by an entry.
+impl From<RefusedRow> for FileRefusal {
+    ghost from_gives = { λ row refusal. refusal ≡ of_entry row.refusal };
+
+    fn from(row: RefusedRow) -> FileRefusal {
+        FileRefusal::from(row.refusal)
+    }
+}
+
 // Reading 2. Why a file is refused, and the offset that is told with it.
 #[derive(Clone, Copy, Debug, PartialEq, Eq)]
 pub struct Refused {
@@ -51,8 +61,10 @@ pub struct Refused {
     pub offset: usize,
 }
 
-// Number and offset in words, as the programs print them.
+// Listing 7. Number and offset in words, as the programs print them.
 impl fmt::Display for Refused {
+    ghost output = { λ refused. Some (refused_text refused) };
+
     fn fmt<W: fmt::Write>(&self, f: &mut fmt::Formatter<W>) -> fmt::Result {
         write!(f, "refused {} at {}", self.refusal.number(), self.offset)
     }

@@ -2,6 +2,7 @@
 // nothing.
 ghost use Rattle.std.specs.Prelude.{◌≡◌, false, ◌≤◌, ◌<◌};
 ghost use Rattle.coefficients.specs.Rows.{entries_of};
+ghost use Rattle.columns.specs.Columns.{first_byte};
 ghost use Rattle.filling.specs.Models.{set_of};
 ghost use Rattle.reader.specs.Models.{row_answer, with_head, with_row, with_drift, with_point, with_set_point, with_direction, with_guard};
 ghost use Rattle.reader.specs.Values.{head_ok, row_number, drift_ok, corners_ok, point_number_of, direction_ok, guard_ok, unless, point_number, value_number};
@@ -10,8 +11,7 @@ ghost use Rattle.reader.specs.Inner.{layout_number, Tested, Takes};
 
 use crate::refusals::FileRefusal;
 use crate::state::State;
-use coefficients::EntryRefusal;
-use coefficients::rows::{fitted_entries, scaled_entries};
+use coefficients::rows::{RefusedRow, fitted_entries, scaled_entries};
 use columns::{first_byte, fitted_row, six_at, unused_zero};
 use filling::{input_at, put_row, set_of, shape_of, with_set};
 use limits::{DIRECTION_LIMIT, LEAST_DIRECTION, MOST_STEPS};
@@ -46,14 +46,19 @@ fn take_head(state: &mut State, layout: Layout, body: &[u8]) -> Result<(), FileR
     Ok(())
 }
 
-// The entries of a row, scaled or fitted.
-fn row_entries(n: usize, layout: Layout, body: &[u8]) -> Result<[i32; 6], EntryRefusal>
-    ensures { result ≡ entries_of n (row_answer layout body.now) }
+// The number of a row, and its entries, scaled or fitted. A fitted row is held until all of these have passed (Forms 11).
+fn row_of(n: usize, layout: Layout, body: &[u8]) -> (usize, Result<[i32; 6], RefusedRow>)
+    ensures number { result.0 ≡ first_byte body.now }
+    ensures entries { result.1 ≡ entries_of n (row_answer layout body.now) }
 {
     if layout.width == FITTED_WIDTH {
-        fitted_entries(n, fitted_row(body, layout.first))
+        let held = fitted_row(body, layout.first);
+        (held.number, fitted_entries(n, held))
     } else {
-        scaled_entries(n, six_at(body, layout.first))
+        (
+            first_byte(body),
+            scaled_entries(n, six_at(body, layout.first)),
+        )
     }
 }
 
@@ -62,11 +67,11 @@ fn row_entries(n: usize, layout: Layout, body: &[u8]) -> Result<[i32; 6], EntryR
 fn take_row(state: &mut State, layout: Layout, body: &[u8]) -> Result<(), FileRefusal>
     ensures { Takes (row_number state.old layout body.now) (with_row state.old layout body.now) result state.new }
 {
-    let row = first_byte(body);
+    let (row, entries) = row_of(state.model.n, layout, body);
     if row != state.rows {
         return Err(FileRefusal::Row);
     }
-    let six = row_entries(state.model.n, layout, body)?;
+    let six = entries?;
     let mut matrix = rows_of(state.model.motion);
     put_row(&mut matrix, row, &six);
     state.model.motion = with_rows(state.model.motion, matrix);

@@ -1,6 +1,6 @@
 -- Laws of `record_at`. In order: its four cases, each from what the file holds at the offset; back from the case to the file;
 -- a record that stands anywhere in a file; files that agree from the record on, or as far as it reaches; what the record step's
--- number tells. Assumes nothing.
+-- kind and number tell. Assumes nothing.
 use mathlib.Core.Path.{◌≡◌, refl, sym, ap, ap₂, subst, ◌∙◌}
 use mathlib.Core.List.{List, [], ◌∷◌, ◌++◌}
 use Prim.Native.Nat.{ℕ, zero, suc, ◌+◌, ◌-◌, ◌≤◌, ◌<◌}
@@ -13,8 +13,8 @@ use mir.Syntax.{w8}
 use mir.Val.{Fits}
 use denote.Ref.{Bor}
 use Rattle.records.specs.Kinds.{BodyLength, body_bytes, body_unknown, body_length}
-use Rattle.records.specs.Records.{Record, whole, short, unknown, nothing, record_of, record_at, record_number, Step, step_number, RecordStep}
-use Rattle.records.proofs.KnownKinds.{body_length-le}
+use Rattle.records.specs.Records.{Record, whole, short, unknown, nothing, record_of, record_at, record_number, record_kind, record_body, Step, step_number, step_kind, step_body, RecordStep}
+use Rattle.records.proofs.KnownKinds.{kind-above-zero, body_length-le}
 use Rattle.integers.proofs.Machine.{AllBytes}
 
 -- ---- the four cases
@@ -198,7 +198,31 @@ record_at-within m file rest at h reach =
     there : Reaches m other at
     there = record { kind-reached = reach.kind-reached; body-reached = λ n known. reach.body-reached n (sym (ap body_length first) ∙ known) }
 
--- ---- what the record step's number tells
+-- ---- what the record step's kind and number tell
+
+whole-only : (r : Record) → record_number r ≡ 0 → r ≡ whole (record_kind r) (record_body r)
+whole-only (whole kind body) e = refl
+whole-only (short kind) e = absurd (omega arith)
+whole-only (unknown kind) e = absurd (omega arith)
+whole-only nothing e = absurd (omega arith)
+
+unknown-only : (r : Record) → record_number r ≡ 2 → r ≡ unknown (record_kind r)
+unknown-only (whole kind body) e = absurd (omega arith)
+unknown-only (short kind) e = absurd (omega arith)
+unknown-only (unknown kind) e = refl
+unknown-only nothing e = absurd (omega arith)
+
+short-only : (r : Record) → record_number r ≡ 1 → (record_kind r ≡ 0 → ⊥) → r ≡ short (record_kind r)
+short-only (whole kind body) e ne = absurd (omega arith)
+short-only (short kind) e ne = refl
+short-only (unknown kind) e ne = absurd (omega arith)
+short-only nothing e ne = absurd (ne refl)
+
+nothing-only : {file : List ℕ} {at : ℕ} (r : Record) → StandsAt file at r → record_number r ≡ 1 → record_kind r ≡ 0 → r ≡ nothing
+nothing-only r (at-nothing h) e z = refl
+nothing-only r (at-unknown l u) e z = absurd (omega arith)
+nothing-only {file} {at} r (at-short n l known h) e z = absurd (omega (arith, kind-above-zero (get_or file at 0) n known))
+nothing-only r (at-whole n known h) e z = absurd (omega arith)
 
 number-le : (r : Record) → record_number r ≤ 2
 number-le (whole kind body) = omega arith
@@ -206,5 +230,18 @@ number-le (short kind) = omega arith
 number-le (unknown kind) = omega arith
 number-le nothing = omega arith
 
-pub record_step-number-le : {file : Bor (List ℕ)} {at : ℕ} {step : Step} → RecordStep file at step → step_number step ≤ 2
-record_step-number-le {file} {at} s = omega (arith, s.number_is, number-le (record_at file.now at))
+module _ {file : Bor (List ℕ)} {at : ℕ} {step : Step} (s : RecordStep file at step) where
+  pub record_step-whole : step_number step ≡ 0 → record_at file.now at ≡ whole (step_kind step) (step_body step)
+  record_step-whole e = whole-only (record_at file.now at) (sym s.number_is ∙ e) ∙ ap₂ whole (sym s.kind-is) (sym s.body_is)
+
+  pub record_step-unknown : step_number step ≡ 2 → record_at file.now at ≡ unknown (step_kind step)
+  record_step-unknown e = unknown-only (record_at file.now at) (sym s.number_is ∙ e) ∙ ap unknown (sym s.kind-is)
+
+  pub record_step-nothing : step_number step ≡ 1 → step_kind step ≡ 0 → record_at file.now at ≡ nothing
+  record_step-nothing e z = nothing-only (record_at file.now at) (record_at-is file.now at) (sym s.number_is ∙ e) (sym s.kind-is ∙ z)
+
+  pub record_step-short : step_number step ≡ 1 → (step_kind step ≡ 0 → ⊥) → record_at file.now at ≡ short (step_kind step)
+  record_step-short e ne = short-only (record_at file.now at) (sym s.number_is ∙ e) (λ z. ne (s.kind-is ∙ z)) ∙ ap short (sym s.kind-is)
+
+  pub record_step-number-le : step_number step ≤ 2
+  record_step-number-le = omega (arith, s.number_is, number-le (record_at file.now at))

@@ -1,11 +1,11 @@
 // What a kind of record is: one constant table (File 3, Forms 5).
 ghost use Rattle.std.specs.Prelude.{◌≡◌, ◌==◌, find, option_map};
-ghost use Rattle.records.specs.Kinds.{kinds, kind_layout};
+ghost use Rattle.records.specs.Kinds.{kinds, kind_layout, layout_of};
 ghost use Rattle.records.specs.Inner.{Entry, layout_in, rows_in};
 
 use crate::kinds::Part::{Direction, Drift, End, Guard, Head, Initial, Input, Row};
 use crate::kinds::Point::{Centre, Generator, Lower, Upper, Vertex};
-use crate::places::{DIRECTIONS, DRIFT, END, GUARDS, INITIAL, INPUT, MATRIX, ROWS};
+use crate::places::{DIRECTIONS, DRIFT, END, GUARDS, INITIAL, INPUT, MATRIX, ROWS, START};
 
 // A part of a model, as the table of File 3 has them.
 #[derive(Clone, Copy, Debug, PartialEq, Eq)]
@@ -85,7 +85,7 @@ fn table() -> &'static [Entry; COUNT]
     &KINDS
 }
 
-// The first of these entries that is of the kind. Not inlined, so that `layout_of` keeps nothing below the stack pointer (the header).
+// The first of these entries that is of the kind. Not inlined, so that `kind_layout` keeps nothing below the stack pointer (the header).
 #[inline(never)]
 fn layout_in(entries: &[Entry], kind: u8) -> Option<Layout>
     ensures { result ≡ option_map layout_in (find (λ (e : Entry). e.0 == kind) entries.now) }
@@ -105,8 +105,26 @@ fn layout_in(entries: &[Entry], kind: u8) -> Option<Layout>
 }
 
 // Routines 13. What a kind is, by a search of the table; nothing of an unknown kind.
-pub fn layout_of(kind: u8) -> Option<Layout>
+pub fn kind_layout(kind: u8) -> Option<Layout>
     ensures { result ≡ kind_layout kind }
 {
     layout_in(table(), kind)
+}
+
+// What is answered of an unknown kind.
+const NO_LAYOUT: Layout = Layout {
+    part: End,
+    point: None,
+    length: 0,
+    first: 0,
+    width: 0,
+    most: 0,
+    place: START,
+};
+
+// Routines 13. The same with a layout for every kind: an unknown kind is answered as an end with 0 in every number.
+pub fn layout_of(kind: u8) -> Layout
+    ensures { result ≡ layout_of kind }
+{
+    kind_layout(kind).unwrap_or(NO_LAYOUT)
 }

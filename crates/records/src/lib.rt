@@ -11,7 +11,7 @@ pub mod places;
 
 ghost use Rattle.records.specs.Records.{RecordStep};
 
-use kinds::layout_of;
+use kinds::kind_layout;
 
 // Why no whole record stands at an offset: no byte is left; the file's end cuts off the body of this kind; or the kind is unknown.
 #[derive(Clone, Copy, Debug, PartialEq, Eq)]
@@ -28,7 +28,7 @@ pub fn record_at(file: &[u8], at: usize) -> Result<(u8, &[u8]), NoRecord>
     let Some(&kind) = file.get(at) else {
         return Err(NoRecord::Nothing);
     };
-    let Some(layout) = layout_of(kind) else {
+    let Some(layout) = kind_layout(kind) else {
         return Err(NoRecord::Unknown(kind));
     };
     let start = at + 1;

@@ -5,7 +5,7 @@ use Rattle.records.specs.declared.kinds.Layout.{Layout}
 use Rattle.records.specs.declared.NoRecord.TheVariants.{Nothing, Short, Unknown}
 use Rattle.records.specs.Kinds.{body_bytes, body_length, kind_layout}
 use Rattle.records.specs.Records.{Record, whole, short, unknown, record_at, record_number, record_kind, record_body, record_place, Step, step_record, step_number, step_kind, step_body, step_place, RecordStep}
-use Rattle.records.proofs.KnownKinds.{body_length-unknown, body_length-known}
+use Rattle.records.proofs.KnownKinds.{body_length-none, body_length-some}
 use Rattle.records.proofs.RecordAt.{record_at-nothing, record_at-unknown, record_at-short, record_at-whole}
 use Rattle.records.proofs.record_at.Goals as goal
 
@@ -27,11 +27,11 @@ module _ (file : Bor (List ℕ)) (at : ℕ) where
   module _ (inside : at < length file.now) {kind : ℕ} (first : kind ≡ get_or file.now at 0) where
     step-unknown : kind_layout kind ≡ None → RecordStep file at (Err (Unknown kind))
     step-unknown e =
-        step-of (record_at-unknown file.now at inside (sym (ap body_length first) ∙ body_length-unknown kind e) ∙ ap unknown (sym first)) (Err (Unknown kind)) refl refl refl refl refl
+        step-of (record_at-unknown file.now at inside (sym (ap body_length first) ∙ body_length-none kind e) ∙ ap unknown (sym first)) (Err (Unknown kind)) refl refl refl refl refl
 
     module _ {l : Layout} (is : kind_layout kind ≡ Some l) where
       known : body_length (get_or file.now at 0) ≡ body_bytes l.length
-      known = sym (ap body_length first) ∙ body_length-known kind is
+      known = sym (ap body_length first) ∙ body_length-some kind is
 
       step-short : length file.now - (at + 1) < l.length → RecordStep file at (Err (Short kind))
       step-short h = step-of (record_at-short file.now at inside l.length known (omega arith) ∙ ap short (sym first)) (Err (Short kind)) refl refl refl refl refl
@@ -48,8 +48,8 @@ pub returns-in_default : goal.returns-in_default
 returns-in_default c = search (rules, step-nothing)
 
 -- an unknown kind
-pub returns-in_default-layout_of : goal.returns-in_default-layout_of
-returns-in_default-layout_of c = search (rules, step-unknown)
+pub returns-in_default-kind_layout : goal.returns-in_default-kind_layout
+returns-in_default-kind_layout c = search (rules, step-unknown)
 
 -- the file's end cuts the body off
 pub returns-then-file-start : goal.returns-then-file-start
@@ -57,4 +57,4 @@ returns-then-file-start c = search (rules, step-short)
 
 -- a whole record
 pub returns : goal.returns
-returns c = step-whole _ _ (search rules) (search rules) {l = c.in-Some-layout_of.layout} (search rules) _ c.if-file-start.false refl refl
+returns c = step-whole _ _ (search rules) (search rules) {l = c.in-Some-kind_layout.layout} (search rules) _ c.if-file-start.false refl refl

@@ -12,11 +12,11 @@ pub returns-in_err-six : goal.returns-in_err-six
 unfolding row_number
 returns-in_err-six c =
     let p = err_from_is_err_and c.from_residual.result c.from_residual.ensures.1 in
-    let n = entries_of-err _ _ (sym c.row_entries.ensures ∙ c.in_err-six.was) ∙ sym (of_entry-number _) in
+    let n = entries_of-err _ _ (sym c.row_of-row.ensures.entries ∙ c.in_err-six.was) ∙ sym (of_entry-number _) in
     rw (p.1, p.2) (grind (arith, common_steps))
 
 pub returns : goal.returns
 unfolding row_number with_row
 returns c =
-    let n = entries_of-ok _ _ (sym c.row_entries.ensures ∙ c.in_ok-six.was) in
+    let n = entries_of-ok _ _ (sym c.row_of-row.ensures.entries ∙ c.in_ok-six.was) in
     grind (arith, common_steps)
