@@ -13,7 +13,7 @@ use Rattle.stepping.specs.Limits.{entry_limit}
 use Rattle.coefficients.specs.declared.EntryRefusal.{EntryRefusal}
 use Rattle.coefficients.specs.declared.rows.RefusedRow.{RefusedRow}
 use Rattle.coefficients.specs.Entries.{fitted_ok, fitted_entry, entry_of_bits, scaled_entry, entry_refusal_number, entry_number, entry_value}
-use Rattle.coefficients.specs.Rows.{first_number, answer_at, entries_number, stored_six, first_refused, unless_refused, entries_of}
+use Rattle.coefficients.specs.Rows.{first_number, answer_at, entries_number, stored_six, first_refused, unless_refused, entries_of, row_refused, row_six}
 use Rattle.coefficients.proofs.Fitting.{accepted-bits, refused-bits, fitted_entry-within}
 
 first_number-cong : (k : ℕ) {f g : ℕ → Result ℤ EntryRefusal} → ((i : ℕ) → i < k → f i ≡ g i) → first_number k f ≡ first_number k g
@@ -117,6 +117,23 @@ module _ (n : ℕ) (row : ℕ → Result ℤ EntryRefusal) where
       cases : (first : Option EntryRefusal) → first_refused 6 (answer_at n row) ≡ first → entries_number n row ≡ entry_refusal_number refused.refusal
       cases None f = absurd cc
       cases (Some r) f = first_number-is 6 (answer_at n row) ∙ ap number_of f ∙ ap entry_refusal_number cc
+
+module _ (n : ℕ) (row : ℕ → Result ℤ EntryRefusal) where
+  pub entries_of-number : row_refused (entries_of n row) ≡ entries_number n row
+  unfolding entries_of
+  entries_of-number = sym (first_number-is 6 (answer_at n row) ∙ same (first_refused 6 (answer_at n row)))
+    where
+      same : (first : Option EntryRefusal) → number_of first ≡ row_refused (unless_refused first (stored_six n row))
+      same None = refl
+      same (Some refusal) = refl
+
+  pub entries_of-six : row_six (entries_of n row) ≡ stored_six n row
+  unfolding entries_of
+  entries_of-six = same (first_refused 6 (answer_at n row))
+    where
+      same : (first : Option EntryRefusal) → row_six (unless_refused first (stored_six n row)) ≡ stored_six n row
+      same None = refl
+      same (Some refusal) = refl
 
 -- ---- the two kinds of entry: an entry within its limit, or the number
 

@@ -10,7 +10,7 @@ use Rattle.coefficients.specs.declared.Coefficient.{Coefficient}
 use Rattle.coefficients.specs.declared.Coefficient.TheVariants.{Scaled, Fitted}
 use Rattle.coefficients.specs.declared.EntryRefusal.{EntryRefusal}
 use Rattle.coefficients.specs.declared.rows.RefusedRow.{RefusedRow}
-use Rattle.coefficients.specs.Entries.{entry_number, entry_value, entry_of}
+use Rattle.coefficients.specs.Entries.{entry_refusal_number, entry_number, entry_value, entry_of}
 
 -- The number of the first of so many entries that is refused, 0 where none is.
 unfoldable pub first_number : ℕ → (ℕ → Result ℤ EntryRefusal) → ℕ
@@ -43,6 +43,15 @@ unless_refused (Some first) stored = Err (record { refusal = first; six = stored
 -- Routines 18: the stored row, or beside why the first of the first n entries that is refused is.
 unfoldable pub entries_of : ℕ → (ℕ → Result ℤ EntryRefusal) → Result (List ℤ) RefusedRow
 entries_of n row = unless_refused (first_refused 6 (answer_at n row)) (stored_six n row)
+
+-- Forms 7: the number of an answer, 0 where the row is stored, and its six stored entries.
+abbrev pub row_refused : Result (List ℤ) RefusedRow → ℕ
+row_refused (Ok six) = 0
+row_refused (Err row) = entry_refusal_number row.refusal
+
+abbrev pub row_six : Result (List ℤ) RefusedRow → List ℤ
+row_six (Ok six) = six
+row_six (Err row) = row.six
 
 -- The answers to six entries of either kind, to six scaled ones, and to six fitted ones.
 abbrev pub mixed_row : List Coefficient → ℕ → Result ℤ EntryRefusal

@@ -1,10 +1,10 @@
 // Taking a whole record: the test of its values, Refusals 4 to 8 and 15 to 17, and the state behind it. Behind a refusal the state says
 // nothing.
-ghost use Rattle.std.specs.Prelude.{◌≡◌, false, ◌≤◌, ◌<◌};
-ghost use Rattle.coefficients.specs.Rows.{entries_of};
-ghost use Rattle.columns.specs.Columns.{first_byte};
+ghost use Rattle.std.specs.Prelude.{◌≡◌, false, ◌≤◌, ◌<◌, eqb};
+ghost use Rattle.arrays.specs.Tests.{first_of};
+ghost use Rattle.coefficients.specs.Rows.{row_refused, row_six};
 ghost use Rattle.filling.specs.Models.{set_of};
-ghost use Rattle.reader.specs.Models.{row_answer, with_head, with_row, with_drift, with_point, with_set_point, with_direction, with_guard};
+ghost use Rattle.reader.specs.Models.{row_stored, with_head, with_row, with_drift, with_point, with_set_point, with_direction, with_guard};
 ghost use Rattle.reader.specs.Values.{head_ok, row_number, drift_ok, corners_ok, point_number_of, direction_ok, guard_ok, unless, point_number, value_number};
 ghost use Rattle.reader.specs.Refusals.{one_too_many, stored_in};
 ghost use Rattle.reader.specs.Inner.{layout_number, Tested, Takes};
@@ -46,28 +46,16 @@ fn take_head(state: &mut State, layout: Layout, body: &[u8]) -> Result<(), FileR
     Ok(())
 }
 
-// The number of a row, and its entries, scaled or fitted. A fitted row is held until all of these have passed (Forms 11).
-fn row_of(n: usize, layout: Layout, body: &[u8]) -> (usize, Result<[i32; 6], RefusedRow>)
-    ensures number { result.0 ≡ first_byte body.now }
-    ensures entries { result.1 ≡ entries_of n (row_answer layout body.now) }
+// One row more, where its number is that of the next row and no entry is refused. Its number stands above its entries.
+fn store_row(
+    state: &mut State,
+    layout: Layout,
+    row: usize,
+    entries: Result<[i32; 6], RefusedRow>,
+) -> Result<(), FileRefusal>
+    requires { row < 256 }
+    ensures { Takes (first_of (unless (eqb row state.old.rows) 5) (row_refused entries)) (row_stored state.old layout (row_six entries)) result state.new }
 {
-    if layout.width == FITTED_WIDTH {
-        let held = fitted_row(body, layout.first);
-        (held.number, fitted_entries(n, held))
-    } else {
-        (
-            first_byte(body),
-            scaled_entries(n, six_at(body, layout.first)),
-        )
-    }
-}
-
-// One row more. Its number stands above its entries.
-#[tactic(auto, unfolding(crate::specs::Values::row_number))]
-fn take_row(state: &mut State, layout: Layout, body: &[u8]) -> Result<(), FileRefusal>
-    ensures { Takes (row_number state.old layout body.now) (with_row state.old layout body.now) result state.new }
-{
-    let (row, entries) = row_of(state.model.n, layout, body);
     if row != state.rows {
         return Err(FileRefusal::Row);
     }
@@ -82,6 +70,20 @@ fn take_row(state: &mut State, layout: Layout, body: &[u8]) -> Result<(), FileRe
         layout.place
     };
     Ok(())
+}
+
+// A row, scaled or fitted. A fitted one is held until its number and its entries have passed (Forms 11).
+fn take_row(state: &mut State, layout: Layout, body: &[u8]) -> Result<(), FileRefusal>
+    ensures { Takes (row_number state.old layout body.now) (with_row state.old layout body.now) result state.new }
+{
+    let n = state.model.n;
+    if layout.width == FITTED_WIDTH {
+        let held = fitted_row(body, layout.first);
+        store_row(state, layout, held.number, fitted_entries(n, held))
+    } else {
+        let entries = scaled_entries(n, six_at(body, layout.first));
+        store_row(state, layout, first_byte(body), entries)
+    }
 }
 
 // The drift.

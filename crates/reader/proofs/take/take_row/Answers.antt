@@ -1,22 +1,28 @@
--- `reader::take::take_row` meets its contract: the row's number first, then that of its entries. Assumes nothing.
-use Rattle.std.proofs.Common.{sym, ◌∙◌, arith}
-use Rattle.std.proofs.lemmas.Grind.{common_steps}
-use Rattle.std.proofs.lemmas.Result.{err_from_is_err_and}
-use Rattle.coefficients.proofs.RowLaws.{entries_of-ok, entries_of-err}
-use Rattle.reader.specs.Values.{row_number}
-use Rattle.reader.specs.Models.{with_row}
-use Rattle.reader.proofs.FileNumbers.{of_entry-number}
+-- `reader::take::take_row` meets its contract: the row as it is held has the number and the entries of its body. Assumes nothing.
+use Rattle.std.proofs.Common.{ap, ◌∙◌}
+use mathlib.Core.List.{List}
+use lib.IntN.{ℤ}
+use Rattle.coefficients.specs.declared.rows.FittedRow.{FittedRow}
+use Rattle.coefficients.specs.Rows.{entries_of, scaled_row, fitted_row}
+use Rattle.reader.proofs.take.RowTaken.{fitted-taken, scaled-taken, row-taken}
 use Rattle.reader.proofs.take.take_row.Goals as goal
 
-pub returns-in_err-six : goal.returns-in_err-six
-unfolding row_number
-returns-in_err-six c =
-    let p = err_from_is_err_and c.from_residual.result c.from_residual.ensures.1 in
-    let n = entries_of-err _ _ (sym c.row_of-row.ensures.entries ∙ c.in_err-six.was) ∙ sym (of_entry-number _) in
-    rw (p.1, p.2) (grind (arith, common_steps))
+pub returns-then-layout-eq-FITTED_WIDTH : goal.returns-then-layout-eq-FITTED_WIDTH
+returns-then-layout-eq-FITTED_WIDTH c =
+    let n = c.args.state.now.model.n in
+    row-taken c.args.state.now c.args.layout c.args.body.now _ _
+    (ap (λ (x : FittedRow). x.number) c.fitted_row-held.ensures)
+    (c.fitted_entries.ensures
+    ∙ ap (λ (x : FittedRow). entries_of n (fitted_row x.values)) c.fitted_row-held.ensures
+    ∙ fitted-taken n c.args.layout c.args.body.now c.type_inv.body c.if-layout-eq-FITTED_WIDTH.true)
+    c.store_row.ensures
 
-pub returns : goal.returns
-unfolding row_number with_row
-returns c =
-    let n = entries_of-ok _ _ (sym c.row_of-row.ensures.entries ∙ c.in_ok-six.was) in
-    grind (arith, common_steps)
+pub returns-else-layout-eq-FITTED_WIDTH : goal.returns-else-layout-eq-FITTED_WIDTH
+returns-else-layout-eq-FITTED_WIDTH c =
+    let n = c.args.state.now.model.n in
+    row-taken c.args.state.now c.args.layout c.args.body.now _ _
+    c.first_byte.ensures
+    (c.scaled_entries-entries.ensures
+    ∙ ap (λ (six : List ℤ). entries_of n (scaled_row six)) c.six_at.ensures
+    ∙ scaled-taken n c.args.layout c.args.body.now c.if-layout-eq-FITTED_WIDTH.false)
+    c.store_row-else-layout-eq-FITTED_WIDTH.ensures
