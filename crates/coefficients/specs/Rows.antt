@@ -35,12 +35,12 @@ unfoldable pub first_refused : ℕ → (ℕ → Result ℤ EntryRefusal) → Opt
 first_refused zero row = None
 first_refused (suc k) row = option_or (first_refused k row) (result_err (row k))
 
--- A stored row, or beside the refusal of one of its entries.
+-- A stored row; where an entry is refused, with the refusal beside it.
 abbrev pub unless_refused : Option EntryRefusal → List ℤ → Result (List ℤ) RefusedRow
 unless_refused None six = Ok six
 unless_refused (Some first) stored = Err (record { refusal = first; six = stored })
 
--- Routines 18: the stored row, or beside why the first of the first n entries that is refused is.
+-- Routines 18: the stored row; where some of the first n entries are refused, with why the first of these is.
 unfoldable pub entries_of : ℕ → (ℕ → Result ℤ EntryRefusal) → Result (List ℤ) RefusedRow
 entries_of n row = unless_refused (first_refused 6 (answer_at n row)) (stored_six n row)
 

@@ -12,8 +12,8 @@ pub struct FittedRow {
     pub values: [f64; 6],
 }
 
-// Routines 18. A row that is refused: why the first entry that is refused is, and the six stored entries beside it, zero for one that
-// is refused and beyond n.
+// Routines 18. A row that is refused: why its first refused entry is refused, and the six stored entries, zero for a refused one and
+// beyond n.
 #[derive(Clone, Copy, Debug, PartialEq, Eq)]
 pub struct RefusedRow {
     pub refusal: EntryRefusal,
