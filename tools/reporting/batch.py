@@ -9,6 +9,7 @@ import signal
 import sys
 from concurrent.futures import ProcessPoolExecutor, as_completed
 from concurrent.futures.process import BrokenProcessPool
+from contextlib import suppress
 from typing import Iterator, NoReturn, Sequence
 
 import commands
@@ -51,6 +52,11 @@ def result_of(given: Input, plain: bool) -> Result:
     return commands.attempted("report", given, lambda one: report_of(one, plain))
 
 
+def ended(given: Input) -> Failed:
+    """The result of a model whose process was ended before it had one."""
+    return not_run("report", given.name, "its process was ended")
+
+
 def stop(progress: Progress) -> NoReturn:
     """End at once, with all processes: to wait for a pool may take for ever."""
     for child in multiprocessing.active_children():
@@ -70,14 +76,19 @@ def results_at_once(
     before = signal.signal(signal.SIGINT, lambda *_: stop(progress))
     with ProcessPoolExecutor(jobs, multiprocessing.get_context("fork")) as pool:
         signal.pthread_sigmask(signal.SIG_BLOCK, {signal.SIGINT})
-        places = {pool.submit(result_of, one, plain): place for place, one in enumerate(given)}
+        places = {}
+        with suppress(BrokenProcessPool):  # the first may end before the last is handed out
+            for place, one in enumerate(given):
+                places[pool.submit(result_of, one, plain)] = place
         signal.pthread_sigmask(signal.SIG_UNBLOCK, {signal.SIGINT})
         for done in as_completed(places):
             place = places[done]
             try:
                 yield place, done.result()
             except BrokenProcessPool:
-                yield place, not_run("report", given[place].name, "its process was ended")
+                yield place, ended(given[place])
+        for place in range(len(places), len(given)):
+            yield place, ended(given[place])
     signal.signal(signal.SIGINT, before)
 
 

@@ -775,6 +775,23 @@ class Batch(unittest.TestCase):
         self.assertEqual([one.status for one in told], [NOT_RUN] * 2)
         self.assertEqual(told[1].message, "report: b: its process was ended")
 
+    def test_a_process_that_ends_before_all_are_handed_out_is_told(self):
+        handed_out = batch.ProcessPoolExecutor.submit
+
+        def submit(pool, what, given, plain):
+            if given.name == "b":
+                raise batch.BrokenProcessPool
+            return handed_out(pool, what, given, plain)
+
+        self.addCleanup(setattr, batch.ProcessPoolExecutor, "submit", handed_out)
+        self.addCleanup(setattr, batch, "report_of", batch.report_of)
+        batch.ProcessPoolExecutor.submit = submit
+        batch.report_of = lambda given, _: Failed(given.name, "", "ready", NOT_RUN)
+        given = [Input(name, b"\x01") for name in "abc"]
+        told = [one.message for one in batch.results_of(given, False, 2)]
+        self.assertEqual(told, ["ready"] + [
+            f"report: {name}: its process was ended" for name in "bc"])
+
     def test_a_fault_is_told_and_stops_no_other(self):
         given = Input("a", b"\x01")
         self.addCleanup(setattr, batch, "report_of", batch.report_of)

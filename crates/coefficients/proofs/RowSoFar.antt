@@ -1,5 +1,5 @@
 -- A row as it is gone through, entry by entry: before entry i, why the first that is refused is, and what is stored of those before it.
--- In order: at the start; an entry more; all of the first n. Assumes nothing.
+-- In order: at the start; an entry more; all of the first n; a refused one. Assumes nothing.
 use Rattle.std.proofs.Common.{◌-◌, ap₂, add-one, ◌≡◌, ℕ, zero, suc, ◌+◌, ◌<◌, ◌≤◌, min, Bool, cond, ltb, List, ℤ, pos, Option, Some, None, Result, Ok, Err, get_or, set, replicate, sym, refl, ap, ◌∙◌, subst, arith, le-ltb, lt-ltb}
 use native.Mathlib.Decide.{dec_lt}
 use Rattle.std.specs.Option.{option_or}
@@ -42,6 +42,14 @@ module _ (n : ℕ) (row : ℕ → Result ℤ EntryRefusal) where
   answer-beyond : (i : ℕ) → n ≤ i → answers i ≡ Ok (pos 0)
   answer-beyond i h = ap (λ (b : Bool). cond b (row i) (Ok (pos 0))) (le-ltb i n h)
 
+  -- the first that is refused so far stays the first, where no entry that follows changes it
+  keeps : (d m i : ℕ) {o : Option EntryRefusal} → m ≡ d + i → ((j : ℕ) → i ≤ j → option_or o (result_err (answers j)) ≡ o) → first_refused i answers ≡ o → first_refused m answers ≡ o
+  unfolding first_refused
+  keeps zero m i {o} e same is = let at : i ≡ m = omega arith in subst (λ (j : ℕ). first_refused j answers ≡ o) at is
+  keeps (suc d) zero i e same is = absurd (omega arith)
+  keeps (suc d) (suc m) i e same is =
+      ap (λ (first : Option EntryRefusal). option_or first (result_err (answers m))) (keeps d m i (omega arith) same is) ∙ same m (omega arith)
+
   module _ {i : ℕ} {first : Option EntryRefusal} {six : List ℤ} (so_far : RowSoFar i first six) where
     pub row-more : i < n → i < 6 → RowSoFar (i + 1) (option_or first (result_err (row i))) (set six i (entry_value (row i)))
     unfolding first_refused
@@ -56,15 +64,9 @@ module _ (n : ℕ) (row : ℕ → Result ℤ EntryRefusal) where
 
     -- none of those beyond n is refused
     stays : (d m : ℕ) → m ≡ d + i → n ≤ i → first ≡ first_refused m answers
-    unfolding first_refused
-    stays zero m e h = let at : i ≡ m = omega arith in subst (λ (j : ℕ). first ≡ first_refused j answers) at so_far.first-is
-    stays (suc d) zero e h = absurd (omega arith)
-    stays (suc d) (suc m) e h =
-        stays d m (omega arith) h
-        ∙ none-more (first_refused m answers)
-        ∙ sym (ap (λ (a : Result ℤ EntryRefusal). option_or (first_refused m answers) (result_err a)) (answer-beyond m (omega arith)))
+    stays d m e h = sym (keeps d m i e (λ j l. ap (λ (a : Result ℤ EntryRefusal). option_or first (result_err a)) (answer-beyond j (omega (arith, h))) ∙ none-more first) (sym so_far.first-is))
       where
-        none-more : (o : Option EntryRefusal) → o ≡ option_or o None
+        none-more : (o : Option EntryRefusal) → option_or o None ≡ o
         none-more None = refl
         none-more (Some r) = refl
 
@@ -91,3 +93,11 @@ module _ (n : ℕ) (row : ℕ → Result ℤ EntryRefusal) where
 
         all-stored : six ≡ stored_six n row
         all-stored = so_far.six-is ∙ filled-some stored i six_zeros (omega arith) ∙ tabulate-cong 6 {f = λ k. cond (ltb k i) (stored k) (get_or six_zeros k (pos 0))} {g = stored} place
+
+  module _ {i : ℕ} {six : List ℤ} (so_far : RowSoFar i None six) where
+    pub row-refused : {refusal : EntryRefusal} → i < n → i < 6 → row i ≡ Err refusal → Err (record { refusal = refusal; six = stored_six n row }) ≡ entries_of n row
+    unfolding entries_of first_refused
+    row-refused {refusal} h k r = sym (ap (λ (first : Option EntryRefusal). unless_refused first (stored_six n row)) (keeps (5 - i) 6 (suc i) (omega arith) (λ j l. refl) this))
+      where
+        this : first_refused (suc i) answers ≡ Some refusal
+        this = ap₂ (λ (o : Option EntryRefusal) (a : Result ℤ EntryRefusal). option_or o (result_err a)) (sym so_far.first-is) (answer-within i h ∙ r)
