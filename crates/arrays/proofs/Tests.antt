@@ -25,7 +25,7 @@ beyond-end xs k h = get_or-eq_default xs (pos 0) h
 
 -- ---- ranges
 
-between-small : (limit : ℕ) (x : ℤ) → between (neg_ℤ (pos limit)) (pos limit) x ≡ true → nat_abs x ≤ limit
+pub between-small : (limit : ℕ) (x : ℤ) → between (neg_ℤ (pos limit)) (pos limit) x ≡ true → nat_abs x ≤ limit
 between-small limit x t =
     let both = and-true (le_z (neg_ℤ (pos limit)) x) (le_z x (pos limit)) t in
     let low = le? (neg (# limit)) (v x) (⩽-of-le_z (neg_ℤ (pos limit)) x both.0) in
@@ -89,7 +89,7 @@ zero_outside-of rows columns xs z = all_below-intro (length xs) (λ k. zero_unle
 pub record Small (limit : ℕ) (xs : List ℤ) : Type 0 where
   pub at : (p i : ℕ) → i < 6 → nat_abs (matrix xs p i) ≤ limit
 
-between-of : (limit : ℕ) (x : ℤ) → nat_abs x ≤ limit → between (neg_ℤ (pos limit)) (pos limit) x ≡ true
+pub between-of : (limit : ℕ) (x : ℤ) → nat_abs x ≤ limit → between (neg_ℤ (pos limit)) (pos limit) x ≡ true
 between-of limit x h =
     let both = abs? (v x) limit h in
     ap₂ ◌&&◌ (le_z-of-⩽ (le! (neg (# limit)) (v x) (omega (arith, both.0, both.1)))) (le_z-of-⩽ (le! (v x) (# limit) (omega (arith, both.0, both.1))))

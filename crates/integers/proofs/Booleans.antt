@@ -14,6 +14,14 @@ pub and-false : (a : Bool) → a && false ≡ false
 and-false true = refl
 and-false false = refl
 
+pub and-true-right : (a : Bool) → a && true ≡ a
+and-true-right true = refl
+and-true-right false = refl
+
+pub and-assoc : (a b c : Bool) → (a && b) && c ≡ a && (b && c)
+and-assoc true b c = refl
+and-assoc false b c = refl
+
 -- a test that holds leaves the other; one that fails, nothing
 pub and-skip : {a : Bool} (b : Bool) → a ≡ true → a && b ≡ b
 and-skip b t = ap (λ (x : Bool). x && b) t

@@ -12,14 +12,11 @@ use lib.ListN.{length, get_or, drop}
 use Rattle.std.specs.List.{fold, list_all, range_with_len, enumerate_from}
 use Rattle.std.proofs.lemmas.List.FromFn.{length-range_with_len, get_or-range_with_len, length-enumerate_from, get_or-enumerate_from}
 use Rattle.integers.specs.Sums.{all_below, max_ℕ}
+use Rattle.integers.proofs.Booleans.{and-assoc}
 use Rattle.integers.proofs.Sums.{all_below-cong}
 
 zero_plus : (k : ℕ) → 0 + k ≡ k
 zero_plus k = omega arith
-
-and-assoc : (a b c : Bool) → (a && b) && c ≡ a && (b && c)
-and-assoc true b c = refl
-and-assoc false b c = refl
 
 -- the first place taken out
 all_below-first : (n : ℕ) (f : ℕ → Bool) → all_below (suc n) f ≡ f 0 && all_below n (λ i. f (suc i))
