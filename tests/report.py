@@ -872,6 +872,16 @@ class Many(Folder):
         done = self.report("--plain", EXAMPLES)
         self.assertEqual((done.returncode, done.stderr), (3, b""))
 
+    def wait_until_asleep(self, started: subprocess.Popen[bytes]) -> None:
+        """Until all is loaded, however long that takes, and it waits for its input or for a process."""
+        seen = 0
+        for _ in range(3000):
+            name, _, rest = Path(f"/proc/{started.pid}/stat").read_text().partition("(")[2].rpartition(") ")
+            seen = seen + 1 if name.startswith("python") and rest.startswith("S") else 0
+            if seen == 3 or started.poll() is not None:
+                return
+            time.sleep(0.01)
+
     def interrupt(self, words: Sequence[str | Path], group: bool, seconds: float) -> None:
         """Send SIGINT to it alone, or to all of its processes, as a terminal does."""
         with tempfile.TemporaryDirectory() as temporary:
@@ -879,6 +889,7 @@ class Many(Folder):
                 [REPORT, *words], stdin=subprocess.PIPE, stdout=subprocess.PIPE, stderr=subprocess.PIPE,
                 start_new_session=True, env={**os.environ, "TMPDIR": temporary},
             )
+            self.wait_until_asleep(started)
             time.sleep(seconds)
             self.assertIsNone(started.poll(), "it has ended before")
             (os.killpg if group else os.kill)(started.pid, signal.SIGINT)
@@ -895,12 +906,12 @@ class Many(Folder):
 
     def test_an_interrupt_ends_it_while_it_reads(self) -> None:
         for group in (False, True):
-            self.interrupt(["-"], group, 0.5)
+            self.interrupt(["-"], group, 0)
 
     def test_an_interrupt_ends_it_while_it_works(self) -> None:
         # Where several processes work, it may come at many moments.
         rng = random.Random(2)
-        tried = [(jobs, rng.random() < 0.5, rng.uniform(0.5, 0.9)) for jobs in ("1", *["4"] * 7)]
+        tried = [(jobs, rng.random() < 0.5, rng.uniform(0, 0.5)) for jobs in ("1", *["4"] * 7)]
 
         def one(jobs: str, group: bool, seconds: float) -> None:
             self.interrupt(["--jobs", jobs, *[EXAMPLES] * 60], group, seconds)

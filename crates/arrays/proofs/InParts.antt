@@ -1,9 +1,8 @@
--- The test of rows of six in two parts: of the first rows, the columns outside are zero; of the rest, all. In order: two tests of a
--- number; a test of places in two parts; rows of six in two parts. Assumes nothing.
-use mathlib.Core.Path.{◌≡◌, refl, sym, ap, ap₂, ◌∙◌}
-use mathlib.Core.Bool.{Bool, true, false, ◌&&◌, ◌||◌}
+-- The test of rows of six in two parts: of the first rows, the columns outside are zero; of the rest, all. Assumes nothing.
+use mathlib.Core.Path.{◌≡◌, sym, ap, ap₂, ◌∙◌}
+use mathlib.Core.Bool.{Bool, ◌&&◌, ◌||◌}
 use mathlib.Core.List.{List, ◌++◌}
-use Prim.Native.Nat.{ℕ, zero, suc, ◌+◌, ◌*◌, ◌/◌, ◌%◌, ◌≤◌, ◌<◌}
+use Prim.Native.Nat.{ℕ, ◌+◌, ◌*◌, ◌/◌, ◌%◌, ◌≤◌, ◌<◌}
 use native.Mathlib.Omega.{arith}
 use borrow.Author.Tests.{lt-ltb, le-ltb, eq-eqb, eqb-true}
 use lib.Dec.{ltb, eqb}
@@ -11,40 +10,34 @@ use lib.ListN.{length, get_or-append}
 use lib.IntN.{ℤ, pos, nat_abs}
 use Rattle.std.proofs.lemmas.List.{length-append, get_or-append-add}
 use Rattle.integers.specs.Sums.{vector, all_below}
-use Rattle.integers.proofs.Booleans.{and-true-right, and-assoc}
-use Rattle.integers.proofs.Sums.{all_below-cong}
+use Rattle.integers.proofs.Booleans.{same-test}
+use Rattle.integers.proofs.Sums.{all_below-cong, all_below-parts}
 use Rattle.arrays.specs.Tests.{between, all_between, zero_unless, zero_outside}
 use Rattle.arrays.proofs.Tests.{between-small, between-of}
 
-same : (a b : Bool) → (a ≡ true → b ≡ true) → (b ≡ true → a ≡ true) → a ≡ b
-same true b f g = sym (f refl)
-same false true f g = g refl
-same false false f g = refl
+-- Place k of rows of six lies in the first `columns` columns, or x is zero.
+abbrev pub zero_past : ℕ → ℕ × ℤ → Bool
+zero_past columns p = ltb (p.0 % 6) columns || eqb (nat_abs p.1) 0
+
+-- Each element past the first `columns` columns is zero.
+abbrev pub columns_zero : ℕ → List ℤ → Bool
+columns_zero columns xs = all_below (length xs) (λ k. zero_past columns (k, vector xs k))
 
 between-zeros : (x : ℤ) → between (pos 0) (pos 0) x ≡ eqb (nat_abs x) 0
 between-zeros x =
-    same (between (pos 0) (pos 0) x) (eqb (nat_abs x) 0) (λ t. eq-eqb (nat_abs x) 0 (omega (arith, between-small 0 x t))) (λ t. between-of 0 x (omega (arith, eqb-true (nat_abs x) 0 t)))
-
-all_below-parts : (m d : ℕ) (f : ℕ → Bool) → all_below (m + d) f ≡ all_below m f && all_below d (λ j. f (m + j))
-unfolding all_below
-all_below-parts m zero f = let all : m + 0 ≡ m = omega arith in ap (λ (n : ℕ). all_below n f) all ∙ sym (and-true-right (all_below m f))
-all_below-parts m (suc d) f =
-    let one_more : m + suc d ≡ suc (m + d) = omega arith in
-    ap (λ (n : ℕ). all_below n f) one_more
-    ∙ ap (λ (t : Bool). t && f (m + d)) (all_below-parts m d f)
-    ∙ and-assoc (all_below m f) (all_below d (λ j. f (m + j))) (f (m + d))
+    same-test (between (pos 0) (pos 0) x) (eqb (nat_abs x) 0) (λ t. eq-eqb (nat_abs x) 0 (omega (arith, between-small 0 x t))) (λ t. between-of 0 x (omega (arith, eqb-true (nat_abs x) 0 t)))
 
 module _ (rows columns : ℕ) (first rest : List ℤ) (few : length first ≤ 6 * rows) (all : 0 < length rest → 6 * rows ≤ length first) where
   abbrev test : ℕ → Bool
   test k = zero_unless rows columns k (vector (first ++ rest) k)
 
-  pub zero_outside-parts : zero_outside rows columns (first ++ rest) ≡ all_below (length first) (λ k. ltb (k % 6) columns || eqb (nat_abs (vector first k)) 0) && all_between (pos 0) (pos 0) rest
+  pub zero_outside-parts : zero_outside rows columns (first ++ rest) ≡ columns_zero columns first && all_between (pos 0) (pos 0) rest
   zero_outside-parts =
       ap (λ (n : ℕ). all_below n test) (length-append first rest)
       ∙ all_below-parts (length first) (length rest) test
-      ∙ ap₂ ◌&&◌ (all_below-cong (length first) test (λ k. ltb (k % 6) columns || eqb (nat_abs (vector first k)) 0) of_first) (all_below-cong (length rest) (λ j. test (length first + j)) (λ j. between (pos 0) (pos 0) (vector rest j)) of_rest)
+      ∙ ap₂ ◌&&◌ (all_below-cong (length first) test (λ k. zero_past columns (k, vector first k)) of_first) (all_below-cong (length rest) (λ j. test (length first + j)) (λ j. between (pos 0) (pos 0) (vector rest j)) of_rest)
     where
-      of_first : (k : ℕ) → k < length first → test k ≡ (ltb (k % 6) columns || eqb (nat_abs (vector first k)) 0)
+      of_first : (k : ℕ) → k < length first → test k ≡ zero_past columns (k, vector first k)
       of_first k h = ap₂ (λ (t : Bool) (x : ℤ). (t && ltb (k % 6) columns) || eqb (nat_abs x) 0) (lt-ltb (k / 6) rows (omega (arith, few))) (get_or-append first rest (pos 0) k h)
 
       of_rest : (j : ℕ) → j < length rest → test (length first + j) ≡ between (pos 0) (pos 0) (vector rest j)

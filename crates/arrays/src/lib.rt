@@ -3,7 +3,7 @@
 // No public function has a `requires`.
 #![tactic(auto)]
 
-ghost use Rattle.std.specs.Prelude.{◌≡◌, ◌≤◌, ◌<◌, ◌||◌, ◌%◌, ltb, eqb, nat_abs};
+ghost use Rattle.std.specs.Prelude.{◌≡◌, ◌≤◌, ◌<◌, nat_abs};
 ghost use Rattle.integers.specs.Whole.{fraction as fraction_of};
 ghost use Rattle.integers.specs.Sums.{matrix};
 ghost use Rattle.arrays.specs.Tests.{between, all_between, zero_outside};
@@ -38,25 +38,19 @@ pub fn all_between(low: i32, high: i32, xs: &[i32]) -> bool
     ok
 }
 
-// x is zero where place k of rows of six is past the first columns.
-fn zero_past_columns(columns: usize, k: usize, x: i32) -> bool
-    ensures { result ≡ (ltb (k % 6) columns || eqb (nat_abs x) 0) }
-{
-    x == 0 || k % 6 < columns
-}
-
 // Routines 16, for Limits 9. Of rows of six, each element outside the first `rows` rows and the first `columns` columns is zero. The
 // rows outside are tested by themselves, so that their test compiles to vector compares.
+// Kept: `&` and not `&&`, since with it there is one answer to prove.
 pub fn zero_outside(rows: usize, columns: usize, xs: &[i32]) -> bool
     ensures { result ≡ zero_outside rows columns xs.now }
 {
     let inside = rows.saturating_mul(6).min(xs.len());
-    let rest_zero = all_between(0, 0, &xs[inside..]);
     let columns_zero = xs[..inside]
         .iter()
         .enumerate()
-        .all(|(k, x)| zero_past_columns(columns, k, *x));
-    columns_zero & rest_zero
+        .all(|(k, x)| *x == 0 || k % 6 < columns);
+    let rows_zero = all_between(0, 0, &xs[inside..]);
+    columns_zero & rows_zero
 }
 
 // Routines 16. Row number k of sixteen rows of six; zeros where there is no such row.

@@ -2,7 +2,7 @@
 -- and what `iter().fold(..)` answers that takes the larger. Assumes nothing.
 use Prim.Native.Nat.{ℕ, zero, suc, ◌+◌, max}
 use mathlib.Core.Path.{◌≡◌, refl, sym, ap, ◌∙◌}
-use mathlib.Core.Bool.{Bool, true, false, ◌&&◌, ◌||◌}
+use mathlib.Core.Bool.{Bool, ◌&&◌, ◌||◌}
 use mathlib.Core.List.{List, [], ◌∷◌}
 use native.Mathlib.Omega.{arith}
 use native.Mathlib.Decide.{dec_lt}
@@ -12,7 +12,7 @@ use lib.ListN.{length, get_or, drop}
 use Rattle.std.specs.List.{fold, list_all, range_with_len, enumerate_from}
 use Rattle.std.proofs.lemmas.List.FromFn.{length-range_with_len, get_or-range_with_len, length-enumerate_from, get_or-enumerate_from}
 use Rattle.integers.specs.Sums.{all_below, max_ℕ}
-use Rattle.integers.proofs.Booleans.{and-assoc}
+use Rattle.integers.proofs.Booleans.{and-assoc, and-true-right}
 use Rattle.integers.proofs.Sums.{all_below-cong}
 
 zero_plus : (k : ℕ) → 0 + k ≡ k
@@ -21,11 +21,7 @@ zero_plus k = omega arith
 -- the first place taken out
 all_below-first : (n : ℕ) (f : ℕ → Bool) → all_below (suc n) f ≡ f 0 && all_below n (λ i. f (suc i))
 unfolding all_below
-all_below-first zero f = only (f 0)
-  where
-    only : (a : Bool) → true && a ≡ a && true
-    only true = refl
-    only false = refl
+all_below-first zero f = sym (and-true-right (f 0))
 all_below-first (suc n) f = ap (λ (t : Bool). t && f (suc n)) (all_below-first n f) ∙ and-assoc (f 0) (all_below n (λ i. f (suc i))) (f (suc n))
 
 pub list_all-places : {X : Type 0} (p : X → Bool) (xs : List X) (d : X) → list_all p xs ≡ all_below (length xs) (λ k. p (get_or xs k d))

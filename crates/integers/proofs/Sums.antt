@@ -12,7 +12,7 @@ use native.Mathlib.Omega.{arith}
 use lib.IntN.{ℤ, pos, nat_abs, ◌+ℤ◌, ◌*ℤ◌, +ℤ_idl, +ℤ_idr, *ℤ-zero, zero-*ℤ}
 use Rattle.integers.specs.Whole.{◌⩽◌, NearHalves}
 use Rattle.integers.specs.Sums.{sum, sum_ℕ, max_ℕ, all_below, dot, times, transposed}
-use Rattle.integers.proofs.Booleans.{and-true, and-false, and-stop}
+use Rattle.integers.proofs.Booleans.{and-true, and-false, and-stop, and-true-right, and-assoc}
 use Rattle.integers.proofs.SignedParts.{v, #, ◌⊕◌, ◌⊗◌, eq! }
 use Rattle.integers.proofs.Order.{⩽-refl, ⩽-add, halves-add, halves-of-eq, halves-times, add_ℤ-swap, mul_ℤ-add, mul_ℤ-left-comm}
 
@@ -293,6 +293,16 @@ pub all_below-cong : (n : ℕ) (f g : ℕ → Bool) → ((i : ℕ) → i < n →
 unfolding all_below
 all_below-cong zero f g e = refl
 all_below-cong (suc n) f g e = ap₂ ◌&&◌ (all_below-cong n f g (λ i l. e i (wider l))) (e n (here n))
+
+-- of the first m places and of d more
+pub all_below-parts : (m d : ℕ) (f : ℕ → Bool) → all_below (m + d) f ≡ all_below m f && all_below d (λ j. f (m + j))
+unfolding all_below
+all_below-parts m zero f = let all : m + 0 ≡ m = omega arith in ap (λ (n : ℕ). all_below n f) all ∙ sym (and-true-right (all_below m f))
+all_below-parts m (suc d) f =
+    let one_more : m + suc d ≡ suc (m + d) = omega arith in
+    ap (λ (n : ℕ). all_below n f) one_more
+    ∙ ap (λ (t : Bool). t && f (m + d)) (all_below-parts m d f)
+    ∙ and-assoc (all_below m f) (all_below d (λ j. f (m + j))) (f (m + d))
 
 -- ---- matrices
 

@@ -32,7 +32,7 @@ fn row_zero(p: usize, from: usize, matrix: &[i32; 36]) -> bool
 }
 
 // The entries outside the n by n matrix are zero. It looks at those alone: `arrays::zero_outside` says the same, by a division
-// for each of the 36 entries.
+// for each entry of the first n rows.
 pub(crate) fn zero_around(n: usize, matrix: &[i32; 36]) -> bool
     ensures { result ≡ zero_around n matrix.now }
 {

@@ -1,14 +1,9 @@
 -- The answer of `records::order::may_follow`: kinds are bytes, so that equal numbers are of one place and one kind. Assumes nothing.
 use Rattle.std.proofs.Common.{◌≡◌, ◌+◌, ◌*◌, ◌<◌, ℕ, zero, suc, Bool, true, false, ◌&&◌, ◌||◌, List, [], ◌∷◌, length, get_or, eqb, ltb, Any, refl, sym, ap, ap₂, ◌∙◌, arith}
 use borrow.Author.Tests.{eq-eqb, eqb-true, ltb-true}
-use Rattle.integers.proofs.Booleans.{and-true, or-true}
+use Rattle.integers.proofs.Booleans.{and-true, or-true, same-test}
 use Rattle.records.specs.Order.{order, listed, may_follow}
 use Rattle.records.proofs.order.may_follow.Goals as goal
-
-same : (a b : Bool) → (a ≡ true → b ≡ true) → (b ≡ true → a ≡ true) → a ≡ b
-same true b f g = sym (f refl)
-same false true f g = g refl
-same false false f g = refl
 
 abbrev bytes : List (ℕ × ℕ) → Bool
 bytes [] = true
@@ -47,6 +42,6 @@ returns c =
     let place = c.args.place in
     let kind = c.args.kind in
     let byte = c.ranges.kind.fits in
-    same c.is_listed.result (listed place kind order)
+    same-test c.is_listed.result (listed place kind order)
     (λ r. let a = c.is_listed.ensures.0 r in ap (listed place kind) (sym c.table.ensures) ∙ listed-of place kind byte c.table.result.now (ap bytes c.table.ensures) a.0 a.1 a.2 a.3 a.4)
     (λ l. c.is_listed.ensures.1 (listed-some place kind byte c.table.result.now (ap (listed place kind) c.table.ensures ∙ l)))
