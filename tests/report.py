@@ -53,6 +53,27 @@ from layout import (  # noqa: E402
 from listings import CLEAR, GROWTH, HIT, UNKNOWN, Growth, Verdict  # noqa: E402
 
 
+def process(stat: Path) -> tuple[str, str, int]:
+    """The name, the state and the parent of the process of this file in /proc; it may be gone."""
+    try:
+        name, _, rest = stat.read_text().partition("(")[2].rpartition(") ")
+    except OSError:
+        return "", "", 0
+    return name, rest[0], int(rest.split()[1])
+
+
+def is_asleep(number: int) -> bool:
+    """Whether this process has become Python, and waits for its input."""
+    name, state, _ = process(Path(f"/proc/{number}/stat"))
+    return name.startswith("python") and state == "S"
+
+
+def has_workers(number: int) -> bool:
+    """Whether this process runs the program, or has others that do."""
+    all_ = [process(stat) for stat in Path("/proc").glob("[0-9]*/stat")]
+    return any(parent == number and name.startswith(("python", "envelope")) for name, _, parent in all_)
+
+
 def setUpModule() -> None:
     # What a shell starts in the background ignores this, and hands that on.
     signal.signal(signal.SIGINT, lambda *_: sys.exit(2))
@@ -872,24 +893,18 @@ class Many(Folder):
         done = self.report("--plain", EXAMPLES)
         self.assertEqual((done.returncode, done.stderr), (3, b""))
 
-    def wait_until_asleep(self, started: subprocess.Popen[bytes]) -> None:
-        """Until all is loaded, however long that takes, and it waits for its input or for a process."""
-        seen = 0
-        for _ in range(3000):
-            name, _, rest = Path(f"/proc/{started.pid}/stat").read_text().partition("(")[2].rpartition(") ")
-            seen = seen + 1 if name.startswith("python") and rest.startswith("S") else 0
-            if seen == 3 or started.poll() is not None:
-                return
-            time.sleep(0.01)
-
-    def interrupt(self, words: Sequence[str | Path], group: bool, seconds: float) -> None:
-        """Send SIGINT to it alone, or to all of its processes, as a terminal does."""
+    def interrupt(
+        self, words: Sequence[str | Path], at_work: Callable[[int], bool], group: bool, seconds: float
+    ) -> None:
+        """Send SIGINT to it alone, or to all of its processes, as a terminal does, so long after it is at work."""
         with tempfile.TemporaryDirectory() as temporary:
             started = subprocess.Popen(
                 [REPORT, *words], stdin=subprocess.PIPE, stdout=subprocess.PIPE, stderr=subprocess.PIPE,
                 start_new_session=True, env={**os.environ, "TMPDIR": temporary},
             )
-            self.wait_until_asleep(started)
+            end = time.monotonic() + TIME_LIMIT
+            while started.poll() is None and not at_work(started.pid) and time.monotonic() < end:
+                time.sleep(0.003)
             time.sleep(seconds)
             self.assertIsNone(started.poll(), "it has ended before")
             (os.killpg if group else os.kill)(started.pid, signal.SIGINT)
@@ -906,7 +921,7 @@ class Many(Folder):
 
     def test_an_interrupt_ends_it_while_it_reads(self) -> None:
         for group in (False, True):
-            self.interrupt(["-"], group, 0)
+            self.interrupt(["-"], is_asleep, group, 0.1)
 
     def test_an_interrupt_ends_it_while_it_works(self) -> None:
         # Where several processes work, it may come at many moments.
@@ -914,7 +929,7 @@ class Many(Folder):
         tried = [(jobs, rng.random() < 0.5, rng.uniform(0, 0.5)) for jobs in ("1", *["4"] * 7)]
 
         def one(jobs: str, group: bool, seconds: float) -> None:
-            self.interrupt(["--jobs", jobs, *[EXAMPLES] * 60], group, seconds)
+            self.interrupt(["--jobs", jobs, *[EXAMPLES] * 60], has_workers, group, seconds)
 
         with ThreadPoolExecutor(2) as pool:
             list(pool.map(one, *zip(*tried)))

@@ -77,7 +77,7 @@ def results_at_once(
     with ProcessPoolExecutor(jobs, multiprocessing.get_context("fork")) as pool:
         signal.pthread_sigmask(signal.SIG_BLOCK, {signal.SIGINT})
         places = {}
-        with suppress(BrokenProcessPool):  # the first may end before the last is handed out
+        with suppress(BrokenProcessPool):  # one may end before the last model is handed out
             for place, one in enumerate(given):
                 places[pool.submit(result_of, one, plain)] = place
         signal.pthread_sigmask(signal.SIG_UNBLOCK, {signal.SIGINT})

@@ -31,8 +31,8 @@ fn row_zero(p: usize, from: usize, matrix: &[i32; 36]) -> bool
     (0..6).all(|i| i < from || matrix[6 * p + i] == 0)
 }
 
-// The entries outside the n by n matrix are zero. It looks at those alone: `arrays::zero_outside` says the same, by a division
-// for each entry of the first n rows.
+// The entries outside the n by n matrix are zero. It looks at those alone: `arrays::zero_outside` says the same, by a test
+// of every entry.
 pub(crate) fn zero_around(n: usize, matrix: &[i32; 36]) -> bool
     ensures { result ≡ zero_around n matrix.now }
 {
