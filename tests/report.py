@@ -53,25 +53,33 @@ from layout import (  # noqa: E402
 from listings import CLEAR, GROWTH, HIT, UNKNOWN, Growth, Verdict  # noqa: E402
 
 
-def process(stat: Path) -> tuple[str, str, int]:
-    """The name, the state and the parent of the process of this file in /proc; it may be gone."""
+def executable(number: int | str) -> str:
+    """The name of what this process runs, which for a script is its shell; empty if it is gone."""
     try:
-        name, _, rest = stat.read_text().partition("(")[2].rpartition(") ")
+        return os.path.basename(os.readlink(f"/proc/{number}/exe"))
     except OSError:
-        return "", "", 0
-    return name, rest[0], int(rest.split()[1])
+        return ""
 
 
-def is_asleep(number: int) -> bool:
-    """Whether this process has become Python, and waits for its input."""
-    name, state, _ = process(Path(f"/proc/{number}/stat"))
-    return name.startswith("python") and state == "S"
+def state_and_parent(number: int | str) -> tuple[str, int]:
+    try:
+        state, parent = Path(f"/proc/{number}/stat").read_text().rpartition(") ")[2].split()[:2]
+    except OSError:
+        return "", 0
+    return state, int(parent)
 
 
-def has_workers(number: int) -> bool:
-    """Whether this process runs the program, or has others that do."""
-    all_ = [process(stat) for stat in Path("/proc").glob("[0-9]*/stat")]
-    return any(parent == number and name.startswith(("python", "envelope")) for name, _, parent in all_)
+def reads(number: int) -> bool:
+    """Whether this process has become Python and waits for its input."""
+    return executable(number).startswith("python") and state_and_parent(number)[0] == "S"
+
+
+def works(number: int) -> bool:
+    """Whether this process has others that run the program, or Python."""
+    return any(
+        state_and_parent(one)[1] == number and executable(one).startswith(("python", "envelope"))
+        for one in os.listdir("/proc") if one.isdigit()
+    )
 
 
 def setUpModule() -> None:
@@ -896,14 +904,18 @@ class Many(Folder):
     def interrupt(
         self, words: Sequence[str | Path], at_work: Callable[[int], bool], group: bool, seconds: float
     ) -> None:
-        """Send SIGINT to it alone, or to all of its processes, as a terminal does, so long after it is at work."""
+        """Send SIGINT to it alone, or to all of its processes, as a terminal does, once it is at work."""
         with tempfile.TemporaryDirectory() as temporary:
             started = subprocess.Popen(
                 [REPORT, *words], stdin=subprocess.PIPE, stdout=subprocess.PIPE, stderr=subprocess.PIPE,
                 start_new_session=True, env={**os.environ, "TMPDIR": temporary},
             )
             end = time.monotonic() + TIME_LIMIT
-            while started.poll() is None and not at_work(started.pid) and time.monotonic() < end:
+            while started.poll() is None and not at_work(started.pid):
+                if time.monotonic() > end:
+                    os.killpg(started.pid, signal.SIGKILL)
+                    started.communicate()
+                    self.fail("it has not begun to work")
                 time.sleep(0.003)
             time.sleep(seconds)
             self.assertIsNone(started.poll(), "it has ended before")
@@ -921,7 +933,7 @@ class Many(Folder):
 
     def test_an_interrupt_ends_it_while_it_reads(self) -> None:
         for group in (False, True):
-            self.interrupt(["-"], is_asleep, group, 0.1)
+            self.interrupt(["-"], reads, group, 0.1)
 
     def test_an_interrupt_ends_it_while_it_works(self) -> None:
         # Where several processes work, it may come at many moments.
@@ -929,7 +941,7 @@ class Many(Folder):
         tried = [(jobs, rng.random() < 0.5, rng.uniform(0, 0.5)) for jobs in ("1", *["4"] * 7)]
 
         def one(jobs: str, group: bool, seconds: float) -> None:
-            self.interrupt(["--jobs", jobs, *[EXAMPLES] * 60], has_workers, group, seconds)
+            self.interrupt(["--jobs", jobs, *[EXAMPLES] * 60], works, group, seconds)
 
         with ThreadPoolExecutor(2) as pool:
             list(pool.map(one, *zip(*tried)))
